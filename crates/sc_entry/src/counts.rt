@@ -1,0 +1,54 @@
+ghost use Rattle.std.specs.Prelude.{◌≡◌, OnOk, OnErr};
+ghost use Rattle.std.specs.FinMap as map;
+ghost use Rattle.sc_entry.specs.Tally.{count_of, counted};
+
+use crate::memory::NoMemory;
+use crate::text::Text;
+use std::alloc::Global;
+use std::collections::BTreeMap;
+use std::marker::Model;
+
+/// A count by text. Contracts see it as a finite map.
+#[derive(Drop)]
+pub struct Counts {
+    by_text: BTreeMap<Text, u64>,
+}
+
+impl Model for Counts {
+    ghost use Rattle.sc_entry.specs.Tally.{Tally, tally_code, tally_of};
+
+    ghost Value = { Tally };
+
+    ghost coded = { tally_code };
+
+    ghost view = { λ c. tally_of c.by_text.entries };
+}
+
+impl Counts {
+    /// Nothing is counted.
+    pub fn new(alloc: Global) -> Counts
+        ensures { result ≡ map.empty }
+    {
+        Counts {
+            by_text: BTreeMap::new(alloc),
+        }
+    }
+
+    /// A text's count, 0 where it was never counted.
+    pub fn get(&self, text: &Text) -> u64
+        ensures { result ≡ count_of self.now text.now }
+    {
+        self.by_text.get(text).copied().unwrap_or(0)
+    }
+
+    /// Counts a text `n` times more; the count stops at the end of `u64`.
+    pub fn add(&mut self, text: &Text, n: u64) -> Result<(), NoMemory>
+        ensures ok { OnOk result (self.new ≡ counted self.old text.now n) }
+        ensures err { OnErr result (self.new ≡ self.old) }
+    {
+        let more = self.get(text).saturating_add(n);
+        let text = text.clone()?;
+        self.by_text.insert(text, more)?;
+        Ok(())
+    }
+}
