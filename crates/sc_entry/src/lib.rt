@@ -6,6 +6,7 @@ mod byte_text;
 mod counts;
 mod items;
 mod memory;
+mod object;
 mod orders;
 mod text;
 
@@ -13,4 +14,5 @@ pub use byte_text::ByteText;
 pub use counts::Counts;
 pub use items::Items;
 pub use memory::NoMemory;
+pub use object::{FileObjectSource, Object};
 pub use text::Text;
