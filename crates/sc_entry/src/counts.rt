@@ -4,12 +4,12 @@ ghost use Rattle.sc_entry.specs.Tally.{count_of, counted};
 
 use crate::memory::NoMemory;
 use crate::text::Text;
-use std::alloc::Global;
+use std::alloc::{AllocError, Global};
 use std::collections::BTreeMap;
 use std::marker::Model;
 
 /// A count by text. Contracts see it as a finite map.
-#[derive(Drop)]
+#[derive(Debug, Drop)]
 pub struct Counts {
     by_text: BTreeMap<Text, u64>,
 }
@@ -50,5 +50,15 @@ impl Counts {
         let text = text.clone()?;
         self.by_text.insert(text, more)?;
         Ok(())
+    }
+}
+
+impl Clone for Counts {
+    ghost is_clone = { λ counts copy. copy ≡ counts };
+
+    fn clone(&self) -> Result<Counts, AllocError> {
+        Ok(Counts {
+            by_text: self.by_text.clone()?,
+        })
     }
 }

@@ -1,5 +1,8 @@
+ghost use Rattle.std.specs.Prelude.{◌≡◌, IfOk};
+
 use crate::span::Span;
 use sc_entry::{Counts, Items, Text};
+use std::alloc::AllocError;
 
 /// Counts by a language's kind, and by language and compiler.
 #[derive(Drop)]
@@ -78,4 +81,77 @@ pub enum DistInfo {
         num_cpus: u64,
         in_progress: u64,
     },
+}
+
+impl Clone for PerLanguageCount {
+    ghost is_clone = { λ original copy. copy ≡ original };
+
+    fn clone(&self) -> Result<PerLanguageCount, AllocError> {
+        Ok(PerLanguageCount {
+            counts: self.counts.clone()?,
+            adv_counts: self.adv_counts.clone()?,
+        })
+    }
+}
+
+impl Clone for LevelStats {
+    ghost is_clone = { λ original copy. copy ≡ original };
+
+    fn clone(&self) -> Result<LevelStats, AllocError> {
+        Ok(LevelStats {
+            name: self.name.clone()?,
+            location: self.location.clone()?,
+            hits: self.hits,
+            misses: self.misses,
+            writes: self.writes,
+            write_failures: self.write_failures,
+            backfills_from: self.backfills_from,
+            backfills_to: self.backfills_to,
+            hit_duration: self.hit_duration.clone()?,
+            write_duration: self.write_duration.clone()?,
+        })
+    }
+}
+
+fn copy_of_levels(
+    levels: &Option<Items<LevelStats>>,
+) -> Result<Option<Items<LevelStats>>, AllocError>
+    ensures { IfOk result (λ copy. copy ≡ levels.now) }
+{
+    match levels {
+        Some(levels) => Ok(Some(levels.clone()?)),
+        None => Ok(None),
+    }
+}
+
+impl Clone for ServerStats {
+    ghost is_clone = { λ original copy. copy ≡ original };
+
+    fn clone(&self) -> Result<ServerStats, AllocError> {
+        Ok(ServerStats {
+            compile_requests: self.compile_requests,
+            requests_unsupported_compiler: self.requests_unsupported_compiler,
+            requests_not_compile: self.requests_not_compile,
+            requests_not_cacheable: self.requests_not_cacheable,
+            requests_executed: self.requests_executed,
+            cache_errors: self.cache_errors.clone()?,
+            cache_hits: self.cache_hits.clone()?,
+            cache_misses: self.cache_misses.clone()?,
+            cache_timeouts: self.cache_timeouts,
+            cache_read_errors: self.cache_read_errors,
+            non_cacheable_compilations: self.non_cacheable_compilations,
+            forced_recaches: self.forced_recaches,
+            cache_write_errors: self.cache_write_errors,
+            cache_writes: self.cache_writes,
+            cache_write_duration: self.cache_write_duration.clone()?,
+            cache_read_hit_duration: self.cache_read_hit_duration.clone()?,
+            compilations: self.compilations,
+            compiler_write_duration: self.compiler_write_duration.clone()?,
+            compile_fails: self.compile_fails,
+            not_cached: self.not_cached.clone()?,
+            dist_compiles: self.dist_compiles.clone()?,
+            dist_errors: self.dist_errors,
+            multi_level: copy_of_levels(&self.multi_level)?,
+        })
+    }
 }

@@ -1,0 +1,241 @@
+-- Worked rows, event by event, computed.
+use Rattle.std.proofs.Common.{◌≡◌, ℕ, zero, suc, Bool, true, false, List, [], ◌∷◌, length, Option, Some, None, refl, arith, pos, codes}
+use Rattle.sc_model.specs.Follows.{Lawful, Over, ToDist, ToEnd, ToFinish, ToKey, ToPlace, ToTake, due}
+use Rattle.sc_model.specs.Job.{At, Own, retcode, signal}
+use Rattle.sc_model.specs.Plan.{backfilled, background, goes_on, plan}
+use Rattle.sc_model.specs.Rows.{total}
+use Rattle.sc_model.specs.Script.{IsOpen, Script, no_task}
+use Rattle.sc_model.specs.World.{first_missing, placed_of}
+use Rattle.sc_model.specs.declared.event.Answer.{Answer}
+use Rattle.sc_model.specs.declared.event.Answer.TheVariants.{Hit, Miss, Refused}
+use Rattle.sc_model.specs.declared.event.DistAnswer.TheVariants.{Done as DistDone, Http as DistHttp, Other as DistOther}
+use Rattle.sc_model.specs.declared.event.DistType.{DistType}
+use Rattle.sc_model.specs.declared.event.DistType.TheVariants.{Error as DistError, NoDist, Ok as DistOk}
+use Rattle.sc_model.specs.declared.event.Event.{Event}
+use Rattle.sc_entry.specs.declared.object.FileObjectSource.{FileObjectSource}
+use Rattle.sc_model.specs.declared.event.KeyStep.TheVariants.{Key}
+use Rattle.sc_model.specs.declared.event.MissType.{MissType}
+use Rattle.sc_model.specs.declared.event.MissType.TheVariants.{CacheReadError, ForcedRecache, Normal, TimedOut}
+use Rattle.sc_model.specs.declared.event.Mode.TheVariants.{Whole}
+use Rattle.sc_entry.specs.declared.object.Object.{Object}
+use Rattle.sc_model.specs.declared.event.Objects.TheVariants.{Collected}
+use Rattle.sc_model.specs.declared.event.Owner.TheVariants.{Request as OfRequest}
+use Rattle.sc_model.specs.declared.event.Parsed.TheVariants.{Started}
+use Rattle.sc_model.specs.declared.event.Placing.TheVariants.{Done as PlaceDone, Missing}
+use Rattle.sc_model.specs.declared.event.RunAnswer.TheVariants.{Output as RanOutput}
+use Rattle.sc_model.specs.declared.event.Status.{Status}
+use Rattle.sc_model.specs.declared.event.Status.TheVariants.{Code}
+use Rattle.sc_model.specs.declared.event.Task.{Task}
+use Rattle.sc_model.specs.declared.event.Told.TheVariants.{Compile as TellsCompile}
+use Rattle.sc_model.specs.declared.event.Verdict.TheVariants.{CacheHit, CacheMiss, CompileFailed, Http as HttpError, NotCached}
+use Rattle.sc_model.specs.declared.event.What.{What}
+use Rattle.sc_model.specs.declared.event.What.TheVariants.{Asked, Began, Dist, Keyed, Outcome, Placed, Ran, Sent, TokenTaken, WriteEnded, Wrote}
+use Rattle.sc_model.specs.declared.event.Written.TheVariants.{Done as WriteDone}
+use Rattle.sc_model.specs.declared.level.Cause.TheVariants.{BadEntry, Io}
+use Rattle.sc_model.specs.declared.level.LevelFacts.{LevelFacts}
+use Rattle.sc_model.specs.declared.level.LevelKind.TheVariants.{Remote}
+use Rattle.sc_model.specs.declared.level.LevelPolicy.TheVariants.{Background, Off, Required}
+use Rattle.sc_model.specs.declared.level.Policy.TheVariants.{Levels, Single}
+use Rattle.sc_model.specs.declared.level.Put.TheVariants.{Done as PutDone}
+use Rattle.sc_model.specs.declared.message.CacheMode.TheVariants.{ReadOnly as ModeReadOnly, ReadWrite as ModeReadWrite}
+use Rattle.sc_model.specs.declared.message.ColorMode.TheVariants.{Auto as ColorAuto}
+use Rattle.sc_model.specs.declared.message.CompileResponse.TheVariants.{CompileStarted}
+use Rattle.sc_model.specs.declared.message.Request.{Request}
+use Rattle.sc_model.specs.declared.message.Request.TheVariants.{Compile}
+use Rattle.sc_model.specs.declared.message.Response.{Response}
+use Rattle.sc_model.specs.declared.message.Response.TheVariants.{Compile as Answered, CompileFinished as Finished}
+use Rattle.sc_model.specs.declared.message.Variable.{Variable}
+use Rattle.sc_model.specs.declared.phase.Refusal.TheVariants.{At as RefusedAt}
+use Rattle.sc_stats.specs.Sums.{no_level_stats, no_stats}
+
+-- a single remote store, a compiler that reads all, replies of 40 bytes; entries: 1 holds obj and stdout, 2 stdout alone, 0 is none
+
+abbrev name_obj : List ℕ
+name_obj = codes "obj"
+
+abbrev obj : Object
+obj = record { name = name_obj; mode = None; bytes = 65 ∷ 66 ∷ [] }
+
+abbrev out : Object
+out = record { name = codes "stdout"; mode = None; bytes = 104 ∷ 105 ∷ [] }
+
+abbrev read_entry : List ℕ → Option (List Object)
+read_entry (suc zero ∷ []) = Some (obj ∷ out ∷ [])
+read_entry (suc (suc zero) ∷ []) = Some (out ∷ [])
+read_entry _ = None
+
+abbrev variable : List ℕ → Variable
+variable n = record { name = n; value = [] }
+
+abbrev compile : List Variable → Request
+compile vs = Compile (record { exe = codes "/cc"; cwd = codes "/"; args = []; env_vars = vs })
+
+abbrev remote : LevelFacts
+remote = record { kind = Remote; wrapped = false; configured = ModeReadWrite; mode = ModeReadWrite; capacity = 0; root = [] }
+
+abbrev script : Request → Script
+script r = record {
+    inputs = [] ∷ [];
+    reader = record { requests = λ b. r ∷ []; rest = λ b. []; ends = λ b c. IsOpen };
+    codec = record { payload = λ g. []; entry = λ os. 1 ∷ []; objects = read_entry };
+    compilers = record { may_read = λ c p. true; may_key = λ c k st. true; color = λ c. ColorAuto; pretty = λ c. codes "/o"; is_note = λ c l. false; is_valid = λ b. true; kind_text = λ t. codes "C/C++"; full_text = λ t. codes "c [gcc]" };
+    scheduler = record { url = None; retry_text = λ n. [] };
+    store = record { location = []; type_name = []; basedirs = []; basedir_texts = []; flag = false; max_size = None };
+    levels = remote ∷ []; policy = Single; tokens = 1; limit = 100; first = no_stats; first_levels = no_level_stats ∷ [];
+}
+
+abbrev task : Task
+task = no_task
+
+abbrev key : List ℕ
+key = codes "key1"
+
+abbrev outputs : List FileObjectSource
+outputs = (record { key = name_obj; path = codes "/o"; optional = false }) ∷ []
+
+abbrev keyed : Bool → Bool → Bool → What
+keyed first client locally = Keyed first client (Key (record { key = key; outputs = outputs; locally_preprocessed = locally; cacheable = true }))
+
+abbrev ran : Status → What
+ran st = Ran (RanOutput (record { output = record { status = st; stdout = 104 ∷ 105 ∷ []; stderr = [] }; objects = Collected (obj ∷ []) }))
+
+abbrev reply : Request → Response
+reply r = Finished (record { retcode = Some (pos 0); signal = None; stdout = 104 ∷ 105 ∷ []; stderr = []; color_mode = ColorAuto })
+
+-- the first events of each compile, the newest first
+abbrev begun : Request → Bool → Bool → List Own
+begun r client locally = At 0 (keyed true client locally) ∷ At 0 (Sent (Answered CompileStarted)) ∷ At 0 (Began r (TellsCompile (Started task))) ∷ []
+
+abbrev asked : Request → ℕ → Answer → List Own
+asked r m a = At m (Asked 0 key Whole a []) ∷ begun r false true
+
+-- a miss that is run and stored
+abbrev stored_after : Request → MissType → DistType → ℕ → List Own → List Own
+stored_after r miss dist m own =
+    At m (Sent (reply r)) ∷ At m (WriteEnded PutDone []) ∷ At m (Wrote 0 key (1 ∷ []) Whole true WriteDone) ∷ At m (Outcome (CacheMiss miss dist 0) task) ∷ At m (ran (Code 0)) ∷ At m TokenTaken ∷ own
+
+-- row 1: ten events, and then nothing more
+row_1 : due (script (compile [])) (compile []) (stored_after (compile []) Normal NoDist 0 (asked (compile []) 0 Miss)) ≡ Over
+row_1 = refl
+
+row_1_count : length (stored_after (compile []) Normal NoDist 0 (asked (compile []) 0 Miss)) ≡ 10
+row_1_count = refl
+
+row_1_lawful : Lawful (script (compile [])) (compile []) (stored_after (compile []) Normal NoDist 0 (asked (compile []) 0 Miss))
+row_1_lawful =
+    ((refl, omega arith), ((refl, refl), ((refl, refl, refl, refl, refl), ((refl, refl), (tt, (tt, ((refl, refl, refl, refl), ((refl, tt), ((refl, omega arith), ((refl, refl), tt))))))))))
+
+trace_of : List Own → List Event
+trace_of [] = []
+trace_of (At m x ∷ own) = (record { moment = m; owner = OfRequest 0 0; what = x }) ∷ trace_of own
+
+
+-- row 2's second compile: seven events
+abbrev hit_row : ℕ → List ℕ → List Own → List Own
+hit_row m b own = At m (Sent (reply (compile []))) ∷ At m (Outcome (CacheHit m) task) ∷ At m (Placed PlaceDone) ∷ own
+
+row_2 : Lawful (script (compile [])) (compile []) (hit_row 0 (1 ∷ []) (asked (compile []) 0 (Hit (1 ∷ []) true)))
+row_2 = ((refl, omega arith), ((refl, refl), (tt, ((refl, refl, refl, refl), ((refl, tt), ((refl, omega arith), ((refl, refl), tt)))))))
+
+row_2_count : length (hit_row 0 (1 ∷ []) (asked (compile []) 0 (Hit (1 ∷ []) true))) ≡ 7
+row_2_count = refl
+
+-- row 4: status 1, eight events, and nothing is stored
+abbrev failed_row : List Own
+failed_row =
+    At 0 (Outcome (CompileFailed NoDist 0) task) ∷ At 0 (Ran (RanOutput (record { output = record { status = Code 1; stdout = []; stderr = codes "bad" }; objects = Collected [] }))) ∷ At 0 TokenTaken ∷ asked (compile []) 0 Miss
+
+row_4 : due (script (compile [])) (compile []) failed_row ≡ ToFinish [] (record { retcode = Some (pos 1); signal = None; stdout = []; stderr = codes "bad"; color_mode = ColorAuto })
+row_4 = refl
+
+row_4_count : length failed_row ≡ 7
+row_4_count = refl
+
+-- row 5: both variables, no lookup, no write
+abbrev uncached : Request
+uncached = compile (variable (codes "SCCACHE_NO_CACHE") ∷ variable (codes "SCCACHE_RECACHE") ∷ [])
+
+row_5 : due (script uncached) uncached (begun uncached false true) ≡ ToTake
+row_5 = refl
+
+row_5_end : due (script uncached) uncached (At 0 (ran (Code 0)) ∷ At 0 TokenTaken ∷ begun uncached false true) ≡ ToEnd (NotCached NoDist 0) task
+row_5_end = refl
+
+-- row 17: bytes that spell no entry are a read error; a hit that lacks obj is one too
+row_17 : due (script (compile [])) (compile []) (At 0 (ran (Code 0)) ∷ At 0 TokenTaken ∷ asked (compile []) 0 (Refused BadEntry)) ≡ ToEnd (CacheMiss CacheReadError NoDist 0) task
+row_17 = refl
+
+row_17_missing : due (script (compile [])) (compile []) (At 0 (ran (Code 0)) ∷ At 0 TokenTaken ∷ At 0 (Placed (Missing name_obj)) ∷ asked (compile []) 0 (Hit (2 ∷ []) false)) ≡ ToEnd (CacheMiss CacheReadError NoDist 0) task
+row_17_missing = refl
+
+row_17_names : first_missing (read_entry (2 ∷ [])) (placed_of true outputs) ≡ Some name_obj
+row_17_names = refl
+
+row_17_count : length (stored_after (compile []) CacheReadError NoDist 0 (At 0 (Placed (Missing name_obj)) ∷ asked (compile []) 0 (Hit (2 ∷ []) false))) ≡ 11
+row_17_count = refl
+
+-- row 33: a client and --dep: Keyed again, then distributed
+abbrev distributed : List Own
+distributed = At 0 (keyed false true false) ∷ At 0 (Asked 0 key Whole Miss []) ∷ begun (compile []) true false
+
+row_33_again : due (script (compile [])) (compile []) (At 0 (Asked 0 key Whole Miss []) ∷ begun (compile []) true false) ≡ ToKey false
+row_33_again = refl
+
+row_33_dist : due (script (compile [])) (compile []) distributed ≡ ToDist
+row_33_dist = refl
+
+row_33_done : due (script (compile [])) (compile []) (At 0 (Dist (DistDone (codes "srv") (record { output = record { status = Code 0; stdout = 104 ∷ 105 ∷ []; stderr = [] }; objects = Collected (obj ∷ []) }))) ∷ distributed) ≡ ToEnd (CacheMiss ForcedRecache (DistOk (codes "srv")) 0) task
+row_33_done = refl
+
+row_33_other : due (script (compile [])) (compile []) (At 0 (ran (Code 0)) ∷ At 0 TokenTaken ∷ At 0 (Dist (DistOther (codes "lost"))) ∷ distributed) ≡ ToEnd (CacheMiss ForcedRecache DistError 0) task
+row_33_other = refl
+
+row_33_count : length (stored_after (compile []) ForcedRecache DistError 0 (At 0 (Dist (DistOther (codes "lost"))) ∷ distributed)) ≡ 12
+row_33_count = refl
+
+-- row 34: locally preprocessed, with a client: no second key step
+row_34 : due (script (compile [])) (compile []) (At 0 (Outcome HttpError task) ∷ At 0 (Dist (DistHttp (codes "gone"))) ∷ At 0 (Asked 0 key Whole Miss []) ∷ begun (compile []) true true)
+    ≡ ToFinish [] (record { retcode = Some (pos 1); signal = None; stdout = []; stderr = codes "[\"/o\"] http error status: gone"; color_mode = ColorAuto })
+row_34 = refl
+
+-- row 35: later than 60 s, and just in time
+row_35_late : due (script (compile [])) (compile []) (At 60000000001 (ran (Code 0)) ∷ At 60000000001 TokenTaken ∷ asked (compile []) 60000000001 (Hit (1 ∷ []) true)) ≡ ToEnd (CacheMiss TimedOut NoDist 0) task
+row_35_late = refl
+
+row_35_time : due (script (compile [])) (compile []) (asked (compile []) 60000000000 (Hit (1 ∷ []) true)) ≡ ToPlace
+row_35_time = refl
+
+-- rows 14, 15 and 45: which levels are written, and which writes are handed on
+abbrev three : List LevelFacts
+three = remote ∷ remote ∷ remote ∷ []
+
+row_14 : plan (Levels (Required ∷ Required ∷ Required ∷ [])) three ≡ 0 ∷ 1 ∷ 2 ∷ []
+row_14 = refl
+
+row_14_backfills : backfilled (Levels (Required ∷ Required ∷ Required ∷ [])) three 2 ≡ 0 ∷ 1 ∷ []
+row_14_backfills = refl
+
+row_15 : goes_on (RefusedAt 0 Io) (background (Levels (Required ∷ Background ∷ [])) (remote ∷ remote ∷ [])) ≡ []
+row_15 = refl
+
+row_15_read_only : plan (Levels (Required ∷ Required ∷ [])) (record remote { mode = ModeReadOnly } ∷ remote ∷ []) ≡ 1 ∷ []
+row_15_read_only = refl
+
+row_45 : plan (Levels (Required ∷ Off ∷ Background ∷ [])) three ≡ 0 ∷ []
+row_45 = refl
+
+row_45_handed : background (Levels (Required ∷ Off ∷ Background ∷ [])) three ≡ 2 ∷ []
+row_45_handed = refl
+
+-- the scalar counters of row 1
+row_1_total : (total (script (compile [])) (trace_of (stored_after (compile []) Normal NoDist 0 (asked (compile []) 0 Miss)))).cache_writes ≡ 1
+unfolding trace_of
+row_1_total = refl
+
+row_1_total_compilations : (total (script (compile [])) (trace_of (stored_after (compile []) Normal NoDist 0 (asked (compile []) 0 Miss)))).compilations ≡ 1
+unfolding trace_of
+row_1_total_compilations = refl
+
+row_1_total_errors : (total (script (compile [])) (trace_of (stored_after (compile []) Normal NoDist 0 (asked (compile []) 0 Miss)))).cache_write_errors ≡ 0
+unfolding trace_of
+row_1_total_errors = refl

@@ -1,0 +1,200 @@
+-- The headline holds of every run of the machine.
+use Rattle.std.proofs.Common.{◌≡◌, ℕ, ◌+◌, List, [], ◌∷◌, ◌++◌, length, refl, sym, ap, ◌∙◌, subst, arith, get_or}
+use Rattle.sc_model.proofs.Backs.{BackTie, IsWrite, back_new, pending_writes}
+use Rattle.sc_model.proofs.Claims.{get_map, lawful_finishes, lawful_notes, next_fits}
+use Rattle.sc_model.proofs.Conns.{ConnTie, conn_new, conn_prefix, current_is}
+use Rattle.sc_model.proofs.Machines.{Tie, tie_step}
+use Rattle.sc_model.proofs.Origins.{HandsRightful, HoldsRightful, entries_step, rightful_step, writes_step}
+use Rattle.sc_model.proofs.Requests.{Keeps}
+use Rattle.sc_model.proofs.Steps.{start_is}
+use Rattle.sc_model.specs.Follows.{Fits, Lawful, kind_at}
+use Rattle.sc_model.specs.Headline.{Begins_in_order, BytesWithin, Each, Finishes, Headline, IsFinished, IsInOrder, IsRightful, IsStoredFirst, RunsWithin, StoresBefore}
+use Rattle.sc_model.specs.Job.{Own}
+use Rattle.sc_model.specs.Machine.{Conn, Does, DoesBack, DoesPass, DoesRead, DoesServe, DoesStep, IsIdle, Machine, Runs, conn, due_at, end_at, need_at, new_conn, result_of_run}
+use Rattle.sc_model.specs.Next.{Leads, NextStep, at_moment, ticked}
+use Rattle.sc_model.specs.Plan.{background}
+use Rattle.sc_model.specs.Script.{IsOpen, ReadsOn, Script, input}
+use Rattle.sc_entry.specs.Tally.{counted}
+use Rattle.sc_model.specs.Trace.{about, all, if_too_long, no_request, own_of, owned, request, request_of, reservations, reserved_at, taken, too_long, written}
+use Rattle.sc_model.specs.World.{IsWithinBytes, Moves, MovesPlaced, Need, World, first_missing, need_of, placed_of}
+use Rattle.sc_model.specs.declared.event.Event.{Event}
+use Rattle.sc_model.specs.declared.event.Owner.{Owner}
+use Rattle.sc_model.specs.declared.event.Owner.TheVariants.{Nobody, Request as OfRequest, Write as OfWrite}
+use Rattle.sc_model.specs.declared.event.Placing.{Placing}
+use Rattle.sc_model.specs.declared.event.Placing.TheVariants.{Done as PlaceDone, Fault as PlaceFault, Missing}
+use Rattle.sc_model.specs.declared.event.Step.{Step}
+use Rattle.sc_model.specs.declared.event.Step.TheVariants.{Back, Pass, Read, Serve}
+use Rattle.sc_model.specs.declared.event.What.{What}
+use Rattle.sc_model.specs.declared.event.What.TheVariants.{Closed, Idle, Keyed, Passed, Placed, Ran, Sent, Taken}
+use Rattle.sc_model.specs.declared.message.Request.{Request}
+use Rattle.sc_model.specs.declared.message.Response.TheVariants.{ArtifactNotification as Note, CompileFinished as Finished}
+use Rattle.sc_model.specs.declared.phase.Job.{Job}
+use Rattle.sc_model.specs.declared.phase.Phase.{Phase}
+use Rattle.sc_model.specs.declared.phase.Phase.TheVariants.{AtPlace, AtRun, AtWrite, PrePut}
+use Rattle.sc_stats.specs.Sums.{no_level_stats, sat}
+
+module _ (s : Script) where
+  module _ (t : List Event) (lawful : (c n : ℕ) → Lawful s (request (all s c) n) (owned n (about c t))) (p : Step) where
+    order_step : (o : Owner) (x : What) → NextStep s t p o x → Begins_in_order s t o x
+    order_step (OfRequest c n) (Sent g) h = let f = next_fits s t p c n (Sent g) h in f.0.before
+    order_step (OfRequest c n) _ h = tt
+    order_step _ x h = tt
+
+    finish_step : (o : Owner) (x : What) → NextStep s t p o x → Finishes s t o x
+    finish_step (OfRequest c n) (Sent (Finished f)) h =
+        let q = next_fits s t p c n (Sent (Finished f)) h in
+        let a = lawful_finishes s (request (all s c) n) (owned n (about c t)) f q.1 (lawful c n) in (a.0, a.1)
+    finish_step (OfRequest c n) (Sent _) h = tt
+    finish_step (OfRequest c n) _ h = tt
+    finish_step _ x h = tt
+
+    stored_step : (o : Owner) (x : What) → NextStep s t p o x → StoresBefore s t o x
+    stored_step (OfRequest c n) (Sent (Finished f)) h =
+        let q = next_fits s t p c n (Sent (Finished f)) h in
+        let a = lawful_finishes s (request (all s c) n) (owned n (about c t)) f q.1 (lawful c n) in a.2
+    stored_step (OfRequest c n) (Sent (Note line)) h =
+        let q = next_fits s t p c n (Sent (Note line)) h in lawful_notes s (request (all s c) n) (owned n (about c t)) line q.1 (lawful c n)
+    stored_step (OfRequest c n) (Sent _) h = tt
+    stored_step (OfRequest c n) _ h = tt
+    stored_step _ x h = tt
+
+  -- the key and the hit that the phase keeps are the job's
+  moves_same : (r : Request) (own : List Own) (p : Phase) (x : What) (z : ℕ → ℕ) (w w2 : World) → Keeps s r own p → Fits s r (due_at s r p) x → Moves s (need_at s r p) z x w w2 → Moves s (need_of s r own) z x w w2
+  moves_same r own (AtRun work) (Ran a) z w w2 kp f m =
+      (m.0, m.1, m.2, subst (λ v. w2 ≡ record w { runs = w.runs ++ (v.found.key, a) ∷ []; shop_faults = m.0 }) (sym kp.has.job_is) m.3)
+  moves_same r own (AtPlace job b d) (Placed p) z w w2 kp f m =
+      let n2 : Need → Type 0 = λ v. MovesPlaced s v p w w2 in
+      placed p m
+    where
+      placed : (p : Placing) → MovesPlaced s (need_at s r (AtPlace job b d)) p w w2 → MovesPlaced s (need_of s r own) p w w2
+      placed (Missing name) h = (ap (λ v. first_missing (s.codec.objects v) (need_of s r own).outputs) kp.1 ∙ ap (λ (v : Job). first_missing (s.codec.objects b) (placed_of v.found.locally_preprocessed v.found.outputs)) kp.0.job_is ∙ h.0, h.1)
+      placed PlaceDone h =
+          (ap (λ v. first_missing (s.codec.objects v) (need_of s r own).outputs) kp.1 ∙ ap (λ (v : Job). first_missing (s.codec.objects b) (placed_of v.found.locally_preprocessed v.found.outputs)) kp.0.job_is ∙ h.0,
+           h.1 ∙ ap (λ (v : Job). record w { placings = w.placings ++ (record { outputs = placed_of v.found.locally_preprocessed v.found.outputs; bytes = b }) ∷ [] }) (sym kp.0.job_is)
+               ∙ ap (λ (v : List ℕ). record w { placings = w.placings ++ (record { outputs = (need_of s r own).outputs; bytes = v }) ∷ [] }) (sym kp.1))
+      placed (PlaceFault chain) h = (ap (λ v. first_missing (s.codec.objects v) (need_of s r own).outputs) kp.1 ∙ ap (λ (v : Job). first_missing (s.codec.objects b) (placed_of v.found.locally_preprocessed v.found.outputs)) kp.0.job_is ∙ h.0, h.1)
+  moves_same r own (AtWrite b (l ∷ ls) g ending) (Ran a) z w w2 kp f m = absurd (start_is s r (kind_at s.levels l) l b (Ran a) f)
+  moves_same r own (AtWrite b [] g ending) (Ran a) z w w2 kp f m = absurd f
+  moves_same r own (PrePut b (l ∷ ls) g) (Ran a) z w w2 kp f m = absurd f
+  moves_same r own (PrePut b [] g) (Ran a) z w w2 kp f m = absurd f
+  moves_same r own (AtWrite b (l ∷ ls) g ending) (Placed p) z w w2 kp f m = absurd (start_is s r (kind_at s.levels l) l b (Placed p) f)
+  moves_same r own (AtWrite b [] g ending) (Placed p) z w w2 kp f m = absurd f
+  moves_same r own (PrePut b (l ∷ ls) g) (Placed p) z w w2 kp f m = absurd f
+  moves_same r own (PrePut b [] g) (Placed p) z w w2 kp f m = absurd f
+  moves_same r own _ (Ran a) z w w2 kp f m = absurd f
+  moves_same r own _ (Placed p) z w w2 kp f m = absurd f
+  moves_same r own p _ z w w2 kp f m = m
+
+  moves_write : (n n2 : Need) (x : What) (z : ℕ → ℕ) (w w2 : World) → IsWrite x → Moves s n z x w w2 → Moves s n2 z x w w2
+  moves_write n n2 (Ran a) z w w2 iw m = absurd iw
+  moves_write n n2 (Placed p) z w w2 iw m = absurd iw
+  moves_write n n2 (Keyed first client step) z w w2 iw m = absurd iw
+  moves_write n n2 _ z w w2 iw m = m
+
+  -- the parts' world moves as the trace tells
+  module _ (t : List Event) (m : Machine) (h : Tie s t m) where
+    serve_moves : (c z : ℕ) (o : Owner) (x : What) (m2 : Machine) → DoesServe s m c z o x m2 → Moves s (need_of s (request_of s o) (own_of o t)) (λ l. reserved_at l (reservations t)) x (at_moment m.world (ticked m.world.moment x)) m2.world
+    serve_moves c z Nobody Idle m2 g = ap (λ v. v.world) g.1
+    serve_moves c z (OfRequest d j) x m2 g =
+        let k = conn m c in
+        let tie = h.conns c in
+        let w0 = at_moment m.world (ticked m.world.moment x) in
+        let cur = current_is s (input s c) (about c t) k tie g.3 in
+        let f = subst (λ v. Fits s v (due_at s v k.phase) x) cur g.4 in
+        let a = moves_same (request (all s c) k.at) (owned k.at (about c t)) k.phase x (λ l. reserved_at l m.reserved) w0 g.7.0 tie.holds.ties.keeps f (subst (λ v. Moves s (need_at s v k.phase) (λ l. reserved_at l m.reserved) x w0 g.7.0) cur g.7.1) in
+        let b : Moves s (need_of s (request (all s c) k.at) (owned k.at (about c t))) (λ l. reserved_at l (reservations t)) x w0 g.7.0 = subst (λ v. Moves s (need_of s (request (all s c) k.at) (owned k.at (about c t))) (λ l. reserved_at l v) x w0 g.7.0) h.reserved a in
+        let q : Moves s (need_of s (request (all s d) j) (owned j (about d t))) (λ l. reserved_at l (reservations t)) x w0 g.7.0 =
+            subst (λ v. Moves s (need_of s (request (all s v) j) (owned j (about v t))) (λ l. reserved_at l (reservations t)) x w0 g.7.0) (sym g.0) (subst (λ v. Moves s (need_of s (request (all s c) v) (owned v (about c t))) (λ l. reserved_at l (reservations t)) x w0 g.7.0) (sym g.2) b) in
+        subst (λ v. Moves s (need_of s (request (all s d) j) (owned j (about d t))) (λ l. reserved_at l (reservations t)) x w0 v.world) (sym g.7.2) q
+    serve_moves c z _ x m2 g = absurd g
+
+    read_moves : (c n : ℕ) (o : Owner) (x : What) (m2 : Machine) → DoesRead s m c n o x m2 → Moves s (need_of s (request_of s o) (own_of o t)) (λ l. reserved_at l (reservations t)) x (at_moment m.world (ticked m.world.moment x)) m2.world
+    read_moves c n Nobody Idle m2 g = ap (λ v. v.world) g.1
+    read_moves c n Nobody (Taken d bytes) m2 g = ap (λ v. v.world) g.5
+    read_moves c n Nobody (Closed d) m2 g = ap (λ v. v.world) g.5
+    read_moves c n _ x m2 g = absurd g
+
+    back_moves : (i z : ℕ) (o : Owner) (x : What) (m2 : Machine) → DoesBack s m i z o x m2 → Moves s (need_of s (request_of s o) (own_of o t)) (λ l. reserved_at l (reservations t)) x (at_moment m.world (ticked m.world.moment x)) m2.world
+    back_moves i z Nobody Idle m2 g = ap (λ v. v.world) g.1
+    back_moves i z (OfWrite n) x m2 g =
+        let w0 = at_moment m.world (ticked m.world.moment x) in
+        let a = moves_write (need_of s no_request []) (need_of s no_request (written n t)) x (λ l. reserved_at l m.reserved) w0 g.4.0 (pending_writes s g.0 x g.3) g.4.1 in
+        let b : Moves s (need_of s no_request (written n t)) (λ l. reserved_at l (reservations t)) x w0 g.4.0 = subst (λ v. Moves s (need_of s no_request (written n t)) (λ l. reserved_at l v) x w0 g.4.0) h.reserved a in
+        subst (λ v. Moves s (need_of s no_request (written n t)) (λ l. reserved_at l (reservations t)) x w0 v.world) (sym g.4.2) b
+    back_moves i z _ x m2 g = absurd g
+
+    pass_moves : (n : ℕ) (o : Owner) (x : What) (m2 : Machine) → DoesPass m n o x m2 → Moves s (need_of s (request_of s o) (own_of o t)) (λ l. reserved_at l (reservations t)) x (at_moment m.world (ticked m.world.moment x)) m2.world
+    pass_moves n Nobody (Passed k) m2 g = ap (λ v. v.world) g.1 ∙ ap (λ v. at_moment m.world (sat m.world.moment v)) (sym g.0)
+    pass_moves n _ x m2 g = absurd g
+
+    step_moves : (p : Step) (z : ℕ) (o : Owner) (x : What) (m2 : Machine) → DoesStep s m p z o x m2 → Moves s (need_of s (request_of s o) (own_of o t)) (λ l. reserved_at l (reservations t)) x (at_moment m.world (ticked m.world.moment x)) m2.world
+    step_moves (Read c n) z o x m2 g = read_moves c n o x m2 g
+    step_moves (Serve c) z o x m2 g = serve_moves c z o x m2 g
+    step_moves (Back i) z o x m2 g = back_moves i z o x m2 g
+    step_moves (Pass n) z o x m2 g = pass_moves n o x m2 g
+
+  -- what holds after each event
+  pub record Good (start : World) (ps : List Step) (t : List Event) (m : Machine) : Type 0 where
+    pub tie : Tie s t m
+    pub leads : Leads s start ps t m.world
+    pub ordered : Each (IsInOrder s) t
+    pub finished : Each (IsFinished s) t
+    pub stored : Each (IsStoredFirst s) t
+    pub within : Each (RunsWithin s) t
+    pub bytes : BytesWithin s start ps t m.world
+    pub rightful : Each (IsRightful s start) t
+    pub holds : HoldsRightful s start t m.world
+    pub hands : HandsRightful s start t
+
+  good_step : ReadsOn s.reader → (start : World) (ps : List Step) (t : List Event) (m : Machine) (p : Step) (e : Event) (m2 : Machine) → Good start ps t m → Does s m p e m2 → Good start (p ∷ ps) (e ∷ t) m2
+  good_step on start ps t m p e m2 g d =
+      let a = tie_step s t m g.tie on p e.moment e.owner e.what m2 d.1 in
+      let lawful : (c n : ℕ) → Lawful s (request (all s c) n) (owned n (about c t)) = λ c n. (g.tie.conns c).holds.lawful n in
+      let b : IsWithinBytes s (reservations (e ∷ t)) m2.world = subst (λ v. IsWithinBytes s v m2.world) a.1.reserved d.2 in
+      let n = need_of s (request_of s e.owner) (own_of e.owner t) in
+      let z : ℕ → ℕ = λ l. reserved_at l (reservations t) in
+      let w0 = at_moment m.world (ticked m.world.moment e.what) in
+      let mv = step_moves t m g.tie p e.moment e.owner e.what m2 d.1 in
+      record {
+          rightful = (rightful_step s start t lawful g.hands p n z w0 m2.world e.moment g.holds e.what mv, g.rightful);
+          holds = entries_step s start t lawful g.hands p n z w0 m2.world e.moment g.holds e.owner e.what a.0 mv;
+          hands = writes_step s start t lawful g.hands p n z w0 m2.world e.moment g.holds e.owner e.what a.0 mv;
+          tie = a.1; leads = (m.world, g.leads, a.0, (d.0, step_moves t m g.tie p e.moment e.owner e.what m2 d.1, b));
+          ordered = (order_step t lawful p e.owner e.what a.0, g.ordered);
+          finished = (finish_step t lawful p e.owner e.what a.0, g.finished);
+          stored = (stored_step t lawful p e.owner e.what a.0, g.stored);
+          within = (omega (arith, a.1.tokens), g.within);
+          bytes = (b, (m.world, g.leads, g.bytes));
+      }
+
+  idle_tie : (m : Machine) → IsIdle s m → Tie s [] m
+  idle_tie m i = record {
+      conns = λ c. subst (λ v. ConnTie s (input s c) [] v) (sym (i.conns c)) (conn_new s i.reads_on (input s c)); same_count = i.same_count;
+      tokens = omega (arith, i.free); stats = i.stats; opens = λ c n q. (cc); reserved = i.reserved;
+      back = subst (λ v. BackTie s [] v m.handed) (sym i.background) (subst (λ v. BackTie s [] [] v) (sym i.handed) (back_new s));
+      levels = record { same_length = ap length i.level_stats ∙ i.level_count; is = λ p l. ap (λ v. get_or v l no_level_stats) i.level_stats };
+  }
+
+  good_run : (m0 : Machine) (ps : List Step) (t : List Event) (m : Machine) → IsIdle s m0 → Runs s m0 ps t m → Good m0.world ps t m
+  good_run m0 [] [] m i e = subst (λ v. Good m0.world [] [] v) (sym e) (record { tie = idle_tie m0 i; leads = refl; ordered = tt; finished = tt; stored = tt; within = tt; bytes = tt; rightful = tt; holds = λ l k b st e. e; hands = λ i k b y. y })
+  good_run m0 (p ∷ ps) (e ∷ t) m i r = good_step i.reads_on m0.world ps t r.0 p e m (good_run m0 ps t r.0 i r.1) r.2
+  good_run m0 [] (e ∷ t) m i r = absurd r
+  good_run m0 (p ∷ ps) [] m i r = absurd r
+
+  pub headline : (m0 : Machine) (ps : List Step) (t : List Event) (m : Machine) → IsIdle s m0 → Runs s m0 ps t m → Headline s m0.world ps t m.world (result_of_run s m)
+  headline m0 ps t m i r =
+      let g = good_run m0 ps t m i r in
+      let on = i.reads_on in
+      record {
+          leads = g.leads;
+          taken_bytes = λ c. ((g.tie.conns c).left, (g.tie.conns c).bytes);
+          ends = λ c l. get_map (end_at s) m.conns c new_conn IsOpen (omega (arith, l, g.tie.same_count))
+              ∙ ap (λ v. if_too_long v (s.reader.ends (conn m c).rest (conn m c).closed)) (sym (g.tie.conns c).long)
+              ∙ ap (λ v. if_too_long (too_long (about c t)) (s.reader.ends v (conn m c).closed)) (sym (g.tie.conns c).rest)
+              ∙ ap (λ v. if_too_long (too_long (about c t)) v) (sym (on.ends (taken (about c t)) (conn m c).closed))
+              ∙ ap (λ v. if_too_long (too_long (about c t)) (s.reader.ends (taken (about c t)) v)) (sym (g.tie.conns c).closed);
+          replies = λ c l. get_map (λ (k : Conn). k.replies) m.conns c new_conn [] (omega (arith, l, g.tie.same_count)) ∙ sym (g.tie.conns c).replies;
+          sends = λ c. conn_prefix s (input s c) (about c t) (conn m c) (g.tie.conns c);
+          in_order = g.ordered; finished = g.finished; rightful = g.rightful; stored_first = g.stored; bytes_within = g.bytes; runs_within = g.within;
+          counted = g.tie.stats; levels_counted = λ p l q. g.tie.levels.is p l; background = g.tie.back.same;
+      }

@@ -1,0 +1,167 @@
+-- The headline, of a whole run.
+use Rattle.std.specs.Prelude.{◌≡◌, ℕ, zero, suc, ◌+◌, ◌<◌, ◌≤◌, false, List, [], ◌∷◌, ◌++◌, length, slice_index_or, ◌⊎◌}
+use Rattle.sc_model.specs.Follows.{Over, left}
+use Rattle.sc_model.specs.Frames.{frames}
+use Rattle.sc_model.specs.Job.{At, Own, finish, finish_fatal, finish_hit, finish_http, finish_output, job_of}
+use Rattle.sc_model.specs.Next.{Leads, due_of}
+use Rattle.sc_model.specs.Origin.{Origin}
+use Rattle.sc_model.specs.Rows.{level_total, total}
+use Rattle.sc_model.specs.Script.{End, IsOpen, Script, input, is_single}
+use Rattle.sc_model.specs.Trace.{Given, Mine, about, all, came, end_of, left_writes, open_runs, owned, request, reservations, sent, taken}
+use Rattle.sc_model.specs.World.{IsWithinBytes, World}
+use Rattle.sc_model.specs.declared.event.Answer.TheVariants.{Hit}
+use Rattle.sc_model.specs.declared.event.DistAnswer.TheVariants.{Done as DistDone, Http as DistHttp, TooLarge as DistTooLarge}
+use Rattle.sc_model.specs.declared.event.Event.{Event}
+use Rattle.sc_model.specs.declared.event.KeyStep.TheVariants.{Fault as KeyFault, ProcessError as KeyError}
+use Rattle.sc_model.specs.declared.event.Mode.TheVariants.{Raw, Whole}
+use Rattle.sc_model.specs.declared.event.Objects.TheVariants.{Broken}
+use Rattle.sc_model.specs.declared.event.Owner.{Owner}
+use Rattle.sc_model.specs.declared.event.Owner.TheVariants.{Request as OfRequest}
+use Rattle.sc_model.specs.declared.event.Placing.TheVariants.{Fault as PlaceFault}
+use Rattle.sc_model.specs.declared.event.RunAnswer.TheVariants.{Fault as RanFault, Output as RanOutput, ProcessError as RanError}
+use Rattle.sc_model.specs.declared.event.Step.{Step}
+use Rattle.sc_model.specs.declared.event.Verdict.TheVariants.{CacheMiss}
+use Rattle.sc_model.specs.declared.event.What.{What}
+use Rattle.sc_model.specs.declared.event.What.TheVariants.{Asked, Dist, Keyed, Outcome, Placed, Ran, Sent, WriteEnded}
+use Rattle.sc_model.specs.declared.message.CompileFinished.{CompileFinished}
+use Rattle.sc_model.specs.declared.message.Request.{Request}
+use Rattle.sc_model.specs.declared.message.Response.{Response}
+use Rattle.sc_model.specs.declared.message.Response.TheVariants.{ArtifactNotification as Note, CompileFinished as Finished}
+use Rattle.sc_stats.specs.declared.counters.LevelStats.{LevelStats}
+use Rattle.sc_stats.specs.declared.counters.ServerStats.{ServerStats}
+use Rattle.sc_stats.specs.Sums.{no_level_stats}
+
+abbrev pub IsPrefixOf : {A : Type 0} → List A → List A → Type 0
+IsPrefixOf {A} xs ys = (rest : List A) × (xs ++ rest ≡ ys)
+
+-- the frames of the first n requests of a connection
+abbrev pub frames_upto : Script → List Request → ℕ → List Mine → List Response
+frames_upto s rs zero t = []
+frames_upto s rs (suc n) t = frames_upto s rs n t ++ frames s (request rs n) (owned n t)
+
+-- the property holds of each event and those before it
+abbrev pub Each : (List Event → Event → Type 0) → List Event → Type 0
+Each P [] = Unit {0}
+Each P (e ∷ t) = P t e × Each P t
+
+-- an event of a request, where it is one
+abbrev pub OfARequest : Script → List Event → Owner → (ℕ → Request → List Own → Type 0) → Type 0
+OfARequest s t (OfRequest c n) P = P c (request (all s c) n) (owned n (about c t))
+OfARequest s t _ P = Unit {0}
+
+-- a reply is begun only where all requests before it are over
+abbrev pub Begins_in_order : Script → List Event → Owner → What → Type 0
+Begins_in_order s t (OfRequest c n) (Sent g) = (m : ℕ) → m < n → due_of s (all s c) m (about c t) ≡ Over
+Begins_in_order s t o x = Unit {0}
+
+abbrev pub IsInOrder : Script → List Event → Event → Type 0
+IsInOrder s t e = Begins_in_order s t e.owner e.what
+
+-- what a finished compile carries: an answer of its own run, its own hit, or a fault's text
+abbrev pub HasHit : List ℕ → List ℕ → List Own → Type 0
+HasHit k b [] = ⊥
+HasHit k b (At m (Asked l i Whole (Hit d mark) hs) ∷ own) = ((i ≡ k) × (d ≡ b)) ⊎ HasHit k b own
+HasHit k b (_ ∷ own) = HasHit k b own
+
+abbrev pub HasOutput : Script → Request → CompileFinished → List Own → Type 0
+HasOutput s r f [] = ⊥
+HasOutput s r f (At m (Ran (RanOutput out)) ∷ own) = (f ≡ finish_output s r out.output) ⊎ HasOutput s r f own
+HasOutput s r f (At m (Ran (RanError out)) ∷ own) = (f ≡ finish_output s r out) ⊎ HasOutput s r f own
+HasOutput s r f (At m (Dist (DistDone server out)) ∷ own) = (f ≡ finish_output s r out.output) ⊎ HasOutput s r f own
+HasOutput s r f (At m (Keyed first client (KeyError out)) ∷ own) = (f ≡ finish_output s r out) ⊎ HasOutput s r f own
+HasOutput s r f (_ ∷ own) = HasOutput s r f own
+
+abbrev pub HasFault : Script → Request → CompileFinished → List Own → Type 0
+HasFault s r f [] = ⊥
+HasFault s r f (At m (Ran (RanFault chain)) ∷ own) = (f ≡ finish_fatal s r chain) ⊎ HasFault s r f own
+HasFault s r f (At m (Ran (RanOutput out)) ∷ own) = ((chain : List (List ℕ)) × (out.objects ≡ Broken chain) × (f ≡ finish_fatal s r chain)) ⊎ HasFault s r f own
+HasFault s r f (At m (Dist (DistDone server out)) ∷ own) = ((chain : List (List ℕ)) × (out.objects ≡ Broken chain) × (f ≡ finish_fatal s r chain)) ⊎ HasFault s r f own
+HasFault s r f (At m (Dist (DistHttp text)) ∷ own) = (f ≡ finish_http s r text) ⊎ HasFault s r f own
+HasFault s r f (At m (Dist (DistTooLarge text)) ∷ own) = (f ≡ finish_fatal s r (text ∷ [])) ⊎ HasFault s r f own
+HasFault s r f (At m (Placed (PlaceFault chain)) ∷ own) = (f ≡ finish_fatal s r chain) ⊎ HasFault s r f own
+HasFault s r f (At m (Keyed first client (KeyFault chain)) ∷ own) = (f ≡ finish_fatal s r chain) ⊎ HasFault s r f own
+HasFault s r f (_ ∷ own) = HasFault s r f own
+
+abbrev pub Carries : Script → Request → CompileFinished → List Own → Type 0
+Carries s r f own = (HasOutput s r f own ⊎ ((b : List ℕ) × HasHit (job_of own).found.key b own × (f ≡ finish_hit s r b))) ⊎ HasFault s r f own
+
+abbrev pub Finishes : Script → List Event → Owner → What → Type 0
+Finishes s t (OfRequest c n) (Sent (Finished f)) = (f ≡ finish s (request (all s c) n) (owned n (about c t))) × Carries s (request (all s c) n) f (owned n (about c t))
+Finishes s t o x = Unit {0}
+
+abbrev pub IsFinished : Script → List Event → Event → Type 0
+IsFinished s t e = Finishes s t e.owner e.what
+
+-- what a lookup hits lies there rightfully
+abbrev pub Hits : Script → World → List Event → What → Type 0
+Hits s start t (Asked l k Whole (Hit b mark) hs) = Origin s start t l k b
+Hits s start t (Asked l k Raw (Hit b mark) hs) = Origin s start t l k b
+Hits s start t x = Unit {0}
+
+abbrev pub IsRightful : Script → World → List Event → Event → Type 0
+IsRightful s start t e = Hits s start t e.what
+
+-- its run is to be stored
+abbrev pub IsStorable : List Own → Type 0
+IsStorable [] = ⊥
+IsStorable (At m (Outcome (CacheMiss miss dist d) task) ∷ own) = Unit {0}
+IsStorable (At m (Outcome _ task) ∷ own) = ⊥
+IsStorable (_ ∷ own) = IsStorable own
+
+-- the write part is over
+abbrev pub HasStored : List Own → Type 0
+HasStored [] = ⊥
+HasStored (At m (WriteEnded put hs) ∷ own) = Unit {0}
+HasStored (_ ∷ own) = HasStored own
+
+abbrev pub Stores : Script → List Own → Type 0
+Stores s own = IsStorable own → HasStored own × (left s own ≡ [])
+
+-- a storable run is handed to the store before its first notification and its last reply
+abbrev pub StoresBefore : Script → List Event → Owner → What → Type 0
+StoresBefore s t (OfRequest c n) (Sent (Finished f)) = Stores s (owned n (about c t))
+StoresBefore s t (OfRequest c n) (Sent (Note line)) = Stores s (owned n (about c t))
+StoresBefore s t o x = Unit {0}
+
+abbrev pub IsStoredFirst : Script → List Event → Event → Type 0
+IsStoredFirst s t e = StoresBefore s t e.owner e.what
+
+-- after every event the open runs are within the tokens
+abbrev pub RunsWithin : Script → List Event → Event → Type 0
+RunsWithin s t e = length (open_runs (e ∷ t)) ≤ s.tokens
+
+-- after every event each disk level is within its capacity
+abbrev pub BytesWithin : Script → World → List Step → List Event → World → Type 0
+BytesWithin s start [] t end = Unit {0}
+BytesWithin s start (p ∷ ps) [] end = Unit {0}
+BytesWithin s start (p ∷ ps) (e ∷ t) end = IsWithinBytes s (reservations (e ∷ t)) end × ((mid : World) × Leads s start ps t mid × BytesWithin s start ps t mid)
+
+-- what the daemon counted and has left, and what each connection came to
+pub record Result_of_run : Type 0 where
+  pub stats : ServerStats
+  pub level_stats : List LevelStats
+  pub background : List Given
+  pub ends : List End
+  pub replies : List (List Response)
+
+pub record Headline (s : Script) (start : World) (steps : List Step) (t : List Event) (end : World) (last : Result_of_run) : Type 0 where
+  -- one event for each step, each one that may come next, and the worlds moved by them
+  pub leads : Leads s start steps t end
+  -- each connection's taken bytes are a prefix of its input, and its end is theirs
+  pub taken_bytes : (c : ℕ) → IsPrefixOf (taken (about c t)) (input s c)
+  pub ends : (c : ℕ) → c < length s.inputs → slice_index_or last.ends c IsOpen ≡ end_of s (about c t)
+  -- each connection was sent a prefix of what its requests are owed, one request after the other
+  pub replies : (c : ℕ) → c < length s.inputs → slice_index_or last.replies c [] ≡ sent (about c t)
+  pub sends : (c : ℕ) → IsPrefixOf (sent (about c t)) (frames_upto s (all s c) (length (came s c t)) (about c t))
+  pub in_order : Each (IsInOrder s) t
+  -- each finished compile carries its own run's output, its hit's under its key, or a fault's text; each hit is rightful
+  pub finished : Each (IsFinished s) t
+  pub rightful : Each (IsRightful s start) t
+  pub stored_first : Each (IsStoredFirst s) t
+  pub bytes_within : BytesWithin s start steps t end
+  pub runs_within : Each (RunsWithin s) t
+  -- the counters are the sums of the rows
+  pub counted : last.stats ≡ total s t
+  pub levels_counted : is_single s.policy ≡ false → (l : ℕ) → l < length s.levels → slice_index_or last.level_stats l no_level_stats ≡ level_total s t l
+  -- the writes handed and not done, in order
+  pub background : last.background ≡ left_writes t

@@ -1,0 +1,13 @@
+pub mod Script
+pub mod Plan
+pub mod Job
+pub mod Follows
+pub mod Frames
+pub mod Trace
+pub mod Rows
+pub mod World
+pub mod Next
+pub mod Origin
+pub mod Headline
+pub mod Stream
+pub mod Machine

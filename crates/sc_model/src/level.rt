@@ -1,0 +1,104 @@
+//! Stores, as the daemon's definitions see them.
+ghost use Rattle.std.specs.Prelude.{◌≡◌};
+
+use std::alloc::AllocError;
+use crate::message::CacheMode;
+use sc_entry::{ByteText, Items, Text};
+
+/// Why a store refuses.
+#[derive(Clone, Copy)]
+pub enum Cause {
+    FileTooLarge,
+    Io,
+    Reserved,
+    BadKey,
+    BadEntry,
+    ReadOnly(Store),
+    RemoteFault(RemoteFault),
+}
+
+#[derive(Clone, Copy)]
+pub enum RemoteFault {
+    AlreadyExists,
+    RateLimited,
+    Other,
+}
+
+/// Which text a read-only store has.
+#[derive(Clone, Copy)]
+pub enum Store {
+    Disk,
+    Remote,
+    Wrapper,
+}
+
+/// A put's answer.
+#[derive(Drop)]
+pub enum Put {
+    Done,
+    Refused(Cause),
+    Level(u64, Cause),
+    NoLevels,
+}
+
+#[derive(Clone, Copy)]
+pub enum LevelKind {
+    Disk,
+    Remote,
+}
+
+/// What does not change of a level.
+#[derive(Drop)]
+pub struct LevelFacts {
+    pub kind: LevelKind,
+    /// It stands in a `ReadOnlyStorage`.
+    pub wrapped: bool,
+    pub configured: CacheMode,
+    pub mode: CacheMode,
+    pub capacity: u64,
+    pub root: Text,
+}
+
+#[derive(Clone, Copy)]
+pub enum LevelPolicy {
+    Required,
+    Background,
+    Off,
+}
+
+/// How the daemon writes: one store, or levels with a policy each.
+#[derive(Drop)]
+pub enum Policy {
+    Single,
+    Levels(Items<LevelPolicy>),
+}
+
+/// A write that is handed on.
+#[derive(Drop)]
+pub struct Handed {
+    pub level: u64,
+    pub key: Text,
+    pub bytes: ByteText,
+    pub marked: bool,
+}
+
+#[derive(Drop)]
+pub enum Container {
+    Disabled,
+    Made,
+    FailWithMessage(Text),
+    RetryCreateAt(u64),
+}
+
+impl Clone for Handed {
+    ghost is_clone = { λ original copy. copy ≡ original };
+
+    fn clone(&self) -> Result<Handed, AllocError> {
+        Ok(Handed {
+            level: self.level,
+            key: self.key.clone()?,
+            bytes: self.bytes.clone()?,
+            marked: self.marked,
+        })
+    }
+}

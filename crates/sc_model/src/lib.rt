@@ -1,0 +1,20 @@
+//! The daemon's definitions.
+#![tactic(auto)]
+
+mod event;
+mod level;
+mod message;
+mod phase;
+
+ghost use Rattle.std.specs.Prelude.{List};
+ghost use Rattle.sc_model.specs.declared.event.Event.{Event};
+ghost use Rattle.sc_model.specs.declared.event.Step.{Step};
+ghost use Rattle.sc_model.specs.Script.{Script};
+ghost use Rattle.sc_model.specs.Machine.{Machine, IsIdle, Runs, result_of_run};
+ghost use Rattle.sc_model.specs.Headline.{Headline};
+
+/// The headline holds of every run of the machine, from an idle one.
+pub fn every_run()
+    ensures { (s : Script) (m0 : Machine) (steps : List Step) (t : List Event) (m : Machine) → IsIdle s m0 → Runs s m0 steps t m → Headline s m0.world steps t m.world (result_of_run s m) }
+{
+}
