@@ -5,7 +5,7 @@ use Rattle.sc_model.specs.Job.{At, Own}
 use Rattle.sc_model.specs.Machine.{due_pending, due_stage, given_of, pend, pending_after, pending_at, reserved_after, stage_after}
 use Rattle.sc_model.specs.Next.{nth}
 use Rattle.sc_model.specs.Rows.{reserved_since}
-use Rattle.sc_model.specs.Script.{Script}
+use Rattle.sc_model.specs.Script.{Setup}
 use Rattle.sc_model.specs.Trace.{Given, drop_done, drop_given, ends_write, given, hands, left_writes, no_request, numbered, written, written_by}
 use Rattle.sc_model.specs.declared.event.Event.{Event}
 use Rattle.sc_model.specs.declared.event.Owner.TheVariants.{Write as OfWrite}
@@ -153,7 +153,7 @@ length_map : (ps : List Pending) → length (map given_of ps) ≡ length ps
 length_map [] = refl
 length_map (p ∷ ps) = let ih = length_map ps in omega (arith, ih)
 
-module _ (s : Script) where
+module _ (s : Setup) where
   -- each write's stage is what its events tell
   abbrev pub Stages : List Event → List Pending → Type 0
   Stages t [] = Unit {0}

@@ -33,38 +33,38 @@ get_map f (x ∷ xs) (suc i) d e h = get_map f xs i d e (omega arith)
 
 module _ (s : Script) where
   -- a finished compile carries its own, and was stored before
-  finishes : (r : Request) (own : List Own) (p : Phase) (f : CompileFinished) → Keeps s r own p → Fits s r (due_at s r p) (Sent (Finished f)) → (f ≡ finish s r own) × Carries s r f own × Stores s own
+  finishes : (r : Request) (own : List Own) (p : Phase) (f : CompileFinished) → Keeps s.setup r own p → Fits s.setup r (due_at s.setup r p) (Sent (Finished f)) → (f ≡ finish s.setup r own) × Carries s.setup r f own × Stores s.setup own
   finishes r own (AtFinish ns last) f kp h =
       let e = (last_is_none ns last f h.0).1 in
-      (e ∙ sym kp.last_is, subst (λ v. Carries s r v own) (sym e) kp.carries, kp.stores)
+      (e ∙ sym kp.last_is, subst (λ v. Carries s.setup r v own) (sym e) kp.carries, kp.stores)
   finishes r own (AtSend g) f kp h = absurd (subst IsPlain (sym h.0) kp)
   finishes r own (AtStarted task) f kp h = let e = h.0 in (cc)
-  finishes r own (AtWrite b (l ∷ ls) g ending) f kp h = absurd (start_is s r (kind_at s.levels l) l b (Sent (Finished f)) h)
+  finishes r own (AtWrite b (l ∷ ls) g ending) f kp h = absurd (start_is s.setup r (kind_at s.setup.levels l) l b (Sent (Finished f)) h)
   finishes r own (AtWrite b [] g ending) f kp h = absurd h
   finishes r own (PrePut b [] g) f kp h = let e = h.0 in (cc)
   finishes r own (PrePut b (l ∷ ls) g) f kp h = absurd h
   finishes r own _ f kp h = absurd h
 
-  notes_stored : (r : Request) (own : List Own) (p : Phase) (line : List ℕ) → Keeps s r own p → Fits s r (due_at s r p) (Sent (Note line)) → Stores s own
+  notes_stored : (r : Request) (own : List Own) (p : Phase) (line : List ℕ) → Keeps s.setup r own p → Fits s.setup r (due_at s.setup r p) (Sent (Note line)) → Stores s.setup own
   notes_stored r own (AtFinish ns last) line kp h = kp.stores
   notes_stored r own (AtSend g) line kp h = absurd (subst IsPlain (sym h.0) kp)
   notes_stored r own (AtStarted task) line kp h = let e = h.0 in (cc)
-  notes_stored r own (AtWrite b (l ∷ ls) g ending) line kp h = absurd (start_is s r (kind_at s.levels l) l b (Sent (Note line)) h)
+  notes_stored r own (AtWrite b (l ∷ ls) g ending) line kp h = absurd (start_is s.setup r (kind_at s.setup.levels l) l b (Sent (Note line)) h)
   notes_stored r own (AtWrite b [] g ending) line kp h = absurd h
   notes_stored r own (PrePut b [] g) line kp h = let e = h.0 in (cc)
   notes_stored r own (PrePut b (l ∷ ls) g) line kp h = absurd h
   notes_stored r own _ line kp h = absurd h
 
-  pub lawful_finishes : (r : Request) (own : List Own) (f : CompileFinished) → Fits s r (due s r own) (Sent (Finished f)) → Lawful s r own → (f ≡ finish s r own) × Carries s r f own × Stores s own
-  lawful_finishes r own f h l = let t = lawful_ties s r own l in finishes r own (phase_of s r own) f t.keeps (subst (λ v. Fits s r v (Sent (Finished f))) t.is_due h)
+  pub lawful_finishes : (r : Request) (own : List Own) (f : CompileFinished) → Fits s.setup r (due s.setup r own) (Sent (Finished f)) → Lawful s.setup r own → (f ≡ finish s.setup r own) × Carries s.setup r f own × Stores s.setup own
+  lawful_finishes r own f h l = let t = lawful_ties s.setup r own l in finishes r own (phase_of s.setup r own) f t.keeps (subst (λ v. Fits s.setup r v (Sent (Finished f))) t.is_due h)
 
-  pub lawful_notes : (r : Request) (own : List Own) (line : List ℕ) → Fits s r (due s r own) (Sent (Note line)) → Lawful s r own → Stores s own
-  lawful_notes r own line h l = let t = lawful_ties s r own l in notes_stored r own (phase_of s r own) line t.keeps (subst (λ v. Fits s r v (Sent (Note line))) t.is_due h)
+  pub lawful_notes : (r : Request) (own : List Own) (line : List ℕ) → Fits s.setup r (due s.setup r own) (Sent (Note line)) → Lawful s.setup r own → Stores s.setup own
+  lawful_notes r own line h l = let t = lawful_ties s.setup r own l in notes_stored r own (phase_of s.setup r own) line t.keeps (subst (λ v. Fits s.setup r v (Sent (Note line))) t.is_due h)
 
   -- an event of a request fits, whoever's step it is
-  pub next_fits : (t : List Event) (p : Step) (c n : ℕ) (x : What) → NextStep s t p (OfRequest c n) x → IsFirst s (all s c) (about c t) n × Fits s (request (all s c) n) (due_of s (all s c) n (about c t)) x
+  pub next_fits : (t : List Event) (p : Step) (c n : ℕ) (x : What) → NextStep s t p (OfRequest c n) x → IsFirst s (all s c) (about c t) n × Fits s.setup (request (all s c) n) (due_of s.setup (all s c) n (about c t)) x
   next_fits t (Serve d) c n x h =
-      (subst (λ v. IsFirst s (all s v) (about v t) n) (sym h.0) h.1, subst (λ v. Fits s (request (all s v) n) (due_of s (all s v) n (about v t)) x) (sym h.0) h.2)
+      (subst (λ v. IsFirst s (all s v) (about v t) n) (sym h.0) h.1, subst (λ v. Fits s.setup (request (all s v) n) (due_of s.setup (all s v) n (about v t)) x) (sym h.0) h.2)
   next_fits t (Read d k) c n x h = absurd h
   next_fits t (Back i) c n x h = absurd h
   next_fits t (Pass k) c n x h = absurd h

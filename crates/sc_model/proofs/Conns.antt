@@ -62,12 +62,12 @@ module _ (s : Script) where
   abbrev pub reqs : List Mine → List Request
   reqs t = s.reader.requests (taken t)
 
-  upto_same : (rs : List Request) (n : ℕ) (t u : List Mine) → ((m : ℕ) → m < n → owned m u ≡ owned m t) → frames_upto s rs n u ≡ frames_upto s rs n t
+  upto_same : (rs : List Request) (n : ℕ) (t u : List Mine) → ((m : ℕ) → m < n → owned m u ≡ owned m t) → frames_upto s.setup rs n u ≡ frames_upto s.setup rs n t
   upto_same rs zero t u h = refl
   upto_same rs (suc n) t u h =
       let ih = upto_same rs n t u (λ m l. h m (omega arith)) in
       let e = h n (omega arith) in
-      ap (λ v. v ++ frames s (request rs n) (owned n u)) ih ∙ ap (λ v. frames_upto s rs n t ++ frames s (request rs n) v) e
+      ap (λ v. v ++ frames s.setup (request rs n) (owned n u)) ih ∙ ap (λ v. frames_upto s.setup rs n t ++ frames s.setup (request rs n) v) e
 
   start_not : (kind : LevelKind) (l : ℕ) (b : Bytes) → start_write kind l b ≡ Over → ⊥
   start_not Disk l b e = (cc)
@@ -78,12 +78,12 @@ module _ (s : Script) where
     pub following : List Request
     pub comes : reqs t ++ following ≡ rs
     pub within : n ≤ length (reqs t)
-    pub ties : Ties s (request rs n) (owned n t) p
-    pub before : (m : ℕ) → m < n → due_of s rs m t ≡ Over
+    pub ties : Ties s.setup (request rs n) (owned n t) p
+    pub before : (m : ℕ) → m < n → due_of s.setup rs m t ≡ Over
     pub later : (m : ℕ) → n < m → owned m t ≡ []
     pub absent : (m : ℕ) → length (reqs t) ≤ m → owned m t ≡ []
-    pub sends : sent t ≡ frames_upto s rs n t ++ sent_of (owned n t)
-    pub lawful : (m : ℕ) → Lawful s (request rs m) (owned m t)
+    pub sends : sent t ≡ frames_upto s.setup rs n t ++ sent_of (owned n t)
+    pub lawful : (m : ℕ) → Lawful s.setup (request rs m) (owned m t)
 
   pub record ConnTie (input : List ℕ) (t : List Mine) (k : Conn) : Type 0 where
     pub left : List ℕ
@@ -98,15 +98,15 @@ module _ (s : Script) where
     pub outcome : outcome_at (owned k.at t) ≡ k.outcome
     pub reserved : reserved_since (owned k.at t) ≡ k.reserved
     pub holds : Holds (s.reader.requests input) t k.at k.phase
-    pub unfinished : (r : Request) → due_at s r k.phase ≡ Over → ⊥
+    pub unfinished : (r : Request) → due_at s.setup r k.phase ≡ Over → ⊥
 
   pub conn_new : ReadsOn s.reader → (input : List ℕ) → ConnTie input [] new_conn
   conn_new on input =
-      let none : (m : ℕ) → Lawful s (request (s.reader.requests input) m) [] = λ m. tt in
+      let none : (m : ℕ) → Lawful s.setup (request (s.reader.requests input) m) [] = λ m. tt in
       record {
           left = input; bytes = refl; queue = on.none; rest = on.nothing; got = refl; closed = refl; replies = refl; long = refl; last = refl; outcome = refl; reserved = refl; unfinished = λ r e. (cc);
           holds = record {
-              following = s.reader.requests (s.reader.rest [] ++ input); comes = sym (on.requests [] input); within = omega arith; ties = ties_new s _; before = λ m l. absurd (omega arith);
+              following = s.reader.requests (s.reader.rest [] ++ input); comes = sym (on.requests [] input); within = omega arith; ties = ties_new s.setup _; before = λ m l. absurd (omega arith);
               later = λ m l. refl; absent = λ m l. refl; sends = refl; lawful = none;
           };
       }
@@ -160,23 +160,23 @@ module _ (s : Script) where
           ∙ sym (get_or_append_left (reqs t) c.holds.following no_request k.at a) ∙ ap (λ v. get_or v k.at no_request) c.holds.comes
 
   -- one event of the request that is served, which may then be over
-  holds_did : (rs : List Request) (t : List Mine) (n : ℕ) (p : Phase) (z : ℕ) (x : What) → n < length (reqs t) → Holds rs t n p → Fits s (request rs n) (due_at s (request rs n) p) x → Holds rs (Did n z x ∷ t) n (after s (request rs n) p z x)
+  holds_did : (rs : List Request) (t : List Mine) (n : ℕ) (p : Phase) (z : ℕ) (x : What) → n < length (reqs t) → Holds rs t n p → Fits s.setup (request rs n) (due_at s.setup (request rs n) p) x → Holds rs (Did n z x ∷ t) n (after s.setup (request rs n) p z x)
   holds_did rs t n p z x w h f =
       let r = request rs n in
       let same = owned_same n z x t in
       let other : (m : ℕ) → (n ≡ m → ⊥) → owned m (Did n z x ∷ t) ≡ owned m t = λ m d. owned_other m n z x t d in
-      let ties : Ties s r (At z x ∷ owned n t) (after s r p z x) = ties_step s r (owned n t) p z x h.ties f in
+      let ties : Ties s.setup r (At z x ∷ owned n t) (after s.setup r p z x) = ties_step s.setup r (owned n t) p z x h.ties f in
       record {
           following = h.following; comes = h.comes; within = h.within;
-          ties = subst (λ v. Ties s r v (after s r p z x)) (sym same) ties;
-          before = λ m l. ap (λ v. due s (request rs m) v) (other m (λ e. omega arith)) ∙ h.before m l;
+          ties = subst (λ v. Ties s.setup r v (after s.setup r p z x)) (sym same) ties;
+          before = λ m l. ap (λ v. due s.setup (request rs m) v) (other m (λ e. omega arith)) ∙ h.before m l;
           later = λ m l. other m (λ e. omega arith) ∙ h.later m l;
           absent = λ m l. other m (λ e. omega arith) ∙ h.absent m l;
-          sends = ap (λ v. v ++ sent_by x) h.sends ∙ append_assoc (frames_upto s rs n t) (sent_of (owned n t)) (sent_by x)
+          sends = ap (λ v. v ++ sent_by x) h.sends ∙ append_assoc (frames_upto s.setup rs n t) (sent_of (owned n t)) (sent_by x)
               ∙ ap (λ v. v ++ (sent_of (owned n t) ++ sent_by x)) (sym (upto_same rs n t (Did n z x ∷ t) (λ m l. other m (λ e. omega arith))))
-              ∙ ap (λ v. frames_upto s rs n (Did n z x ∷ t) ++ sent_of v) (sym same);
-          lawful = λ m. ⊎_elim (λ (e : n ≡ m). subst (λ j. Lawful s (request rs j) (owned j (Did n z x ∷ t))) e (subst (λ v. Lawful s r v) (sym same) ties.lawful))
-              (λ (d : n ≡ m → ⊥). subst (λ v. Lawful s (request rs m) v) (sym (other m d)) (h.lawful m)) (cases_eq n m);
+              ∙ ap (λ v. frames_upto s.setup rs n (Did n z x ∷ t) ++ sent_of v) (sym same);
+          lawful = λ m. ⊎_elim (λ (e : n ≡ m). subst (λ j. Lawful s.setup (request rs j) (owned j (Did n z x ∷ t))) e (subst (λ v. Lawful s.setup r v) (sym same) ties.lawful))
+              (λ (d : n ≡ m → ⊥). subst (λ v. Lawful s.setup (request rs m) v) (sym (other m d)) (h.lawful m)) (cases_eq n m);
       }
 
   -- the next request, where this one is over
@@ -184,14 +184,14 @@ module _ (s : Script) where
   over_holds rs t n l h =
       let r = request rs n in
       let none = h.later (suc n) (omega arith) in
-      let all_of = frames_are s r (owned n t) h.ties.lawful ∙ ap (λ v. sent_of (owned n t) ++ owed v) h.ties.is_due ∙ append-nil (sent_of (owned n t)) in
+      let all_of = frames_are s.setup r (owned n t) h.ties.lawful ∙ ap (λ v. sent_of (owned n t) ++ owed v) h.ties.is_due ∙ append-nil (sent_of (owned n t)) in
       record {
           following = h.following; comes = h.comes; within = omega arith;
-          ties = subst (λ v. Ties s (request rs (suc n)) v AtBegin) (sym none) (ties_new s _);
-          before = λ m j. ⊎_elim (λ (d : m ≡ n). subst (λ v. due_of s rs v t ≡ Over) (sym d) h.ties.is_due) (λ (d : m ≡ n → ⊥). h.before m (let z : m < n = omega (arith, d) in z)) (cases_eq m n);
+          ties = subst (λ v. Ties s.setup (request rs (suc n)) v AtBegin) (sym none) (ties_new s.setup _);
+          before = λ m j. ⊎_elim (λ (d : m ≡ n). subst (λ v. due_of s.setup rs v t ≡ Over) (sym d) h.ties.is_due) (λ (d : m ≡ n → ⊥). h.before m (let z : m < n = omega (arith, d) in z)) (cases_eq m n);
           later = λ m j. h.later m (omega arith); absent = h.absent;
-          sends = h.sends ∙ ap (λ v. frames_upto s rs n t ++ v) (sym all_of) ∙ sym (append-nil (frames_upto s rs n t ++ frames s r (owned n t)))
-              ∙ ap (λ v. (frames_upto s rs n t ++ frames s r (owned n t)) ++ sent_of v) (sym none);
+          sends = h.sends ∙ ap (λ v. frames_upto s.setup rs n t ++ v) (sym all_of) ∙ sym (append-nil (frames_upto s.setup rs n t ++ frames s.setup r (owned n t)))
+              ∙ ap (λ v. (frames_upto s.setup rs n t ++ frames s.setup r (owned n t)) ++ sent_of v) (sym none);
           lawful = h.lawful;
       }
 
@@ -209,7 +209,7 @@ module _ (s : Script) where
     outcome : outcome_at (owned k.at t) ≡ k.outcome
     reserved : reserved_since (owned k.at t) ≡ k.reserved
 
-  stays : (input : List ℕ) (t : List Mine) (k : Conn) (q : Phase) → Before input t k → Holds (s.reader.requests input) t k.at q → ((r : Request) → due_at s r q ≡ Over → ⊥) → ConnTie input t (record k { phase = q })
+  stays : (input : List ℕ) (t : List Mine) (k : Conn) (q : Phase) → Before input t k → Holds (s.reader.requests input) t k.at q → ((r : Request) → due_at s.setup r q ≡ Over → ⊥) → ConnTie input t (record k { phase = q })
   stays input t k q b h u = record { left = b.left; bytes = b.bytes; queue = b.queue; rest = b.rest; got = b.got; closed = b.closed; replies = b.replies; long = b.long; last = b.last; outcome = b.outcome; reserved = b.reserved; holds = h; unfinished = u }
 
   settle_tie : (input : List ℕ) (t : List Mine) (k : Conn) (q : Phase) → k.at < length (reqs t) → Before input t k → Holds (s.reader.requests input) t k.at q → ConnTie input t (settle k q)
@@ -221,7 +221,7 @@ module _ (s : Script) where
           holds = over_holds (s.reader.requests input) t k.at l h; unfinished = λ r e. (cc);
       }
   settle_tie input t k (AtWrite y [] g z) l b h = stays input t k (AtWrite y [] g z) b h (λ r e. (cc))
-  settle_tie input t k (AtWrite y (j ∷ js) g z) l b h = stays input t k (AtWrite y (j ∷ js) g z) b h (λ r e. start_not (kind_at s.levels j) j y e)
+  settle_tie input t k (AtWrite y (j ∷ js) g z) l b h = stays input t k (AtWrite y (j ∷ js) g z) b h (λ r e. start_not (kind_at s.setup.levels j) j y e)
   settle_tie input t k (PrePut y [] g) l b h = stays input t k (PrePut y [] g) b h (λ r e. (cc))
   settle_tie input t k (PrePut y (j ∷ js) g) l b h = stays input t k (PrePut y (j ∷ js) g) b h (λ r e. (cc))
   settle_tie input t k _ l b h = stays input t k _ b h (λ r e. (cc))
@@ -239,20 +239,20 @@ module _ (s : Script) where
   reserved_same m (Reserved l k n (WriteRefused c)) own = refl
   reserved_same m _ own = refl
 
-  pub conn_did : (input : List ℕ) (t : List Mine) (k : Conn) (z : ℕ) (x : What) → ConnTie input t k → 0 < length k.queue → Fits s (current k) (due_at s (current k) k.phase) x → ConnTie input (Did k.at z x ∷ t) (advanced s k z x)
+  pub conn_did : (input : List ℕ) (t : List Mine) (k : Conn) (z : ℕ) (x : What) → ConnTie input t k → 0 < length k.queue → Fits s.setup (current k) (due_at s.setup (current k) k.phase) x → ConnTie input (Did k.at z x ∷ t) (advanced s.setup k z x)
   conn_did input t k z x c l f =
       let r = current_is input t k c l in
       let w = came_is input t k c l in
-      let f2 = subst (λ v. Fits s v (due_at s v k.phase) x) r f in
+      let f2 = subst (λ v. Fits s.setup v (due_at s.setup v k.phase) x) r f in
       let h = holds_did (s.reader.requests input) t k.at k.phase z x w c.holds f2 in
       let same = owned_same k.at z x t in
-      settle_tie input (Did k.at z x ∷ t) (told_by k z x) (after s (current k) k.phase z x) w
+      settle_tie input (Did k.at z x ∷ t) (told_by k z x) (after s.setup (current k) k.phase z x) w
           (record {
               left = c.left; bytes = c.bytes; queue = c.queue; rest = c.rest; got = c.got; closed = c.closed; replies = ap (λ v. v ++ sent_by x) c.replies; long = long_same k.at z x t ∙ ap (λ v. long_after v x) c.long;
               last = ap last_at same; outcome = ap outcome_at same ∙ outcome_same z x (owned k.at t) ∙ ap (λ v. outcome_after v z x) c.outcome;
               reserved = ap reserved_since same ∙ reserved_same z x (owned k.at t) ∙ ap (λ v. reserved_after v z x) c.reserved;
           })
-          (subst (λ v. Holds (s.reader.requests input) (Did k.at z x ∷ t) k.at (after s v k.phase z x)) (sym r) h)
+          (subst (λ v. Holds (s.reader.requests input) (Did k.at z x ∷ t) k.at (after s.setup v k.phase z x)) (sym r) h)
 
   -- it is the first that isn't finished
   pub is_first : (input : List ℕ) (t : List Mine) (k : Conn) → ConnTie input t k → 0 < length k.queue → IsFirst s (s.reader.requests input) t k.at
@@ -275,25 +275,25 @@ module _ (s : Script) where
       let e = first_only input t k n c f in
       subst (λ v. 0 < length v) c.queue (len_drop k.at (reqs t) (subst (λ v. v < length (reqs t)) e f.came))
 
-  upto_later : (rs : List Request) (t : List Mine) (n L : ℕ) → ((m : ℕ) → n < m → owned m t ≡ []) → n < L → frames_upto s rs L t ≡ frames_upto s rs (suc n) t
+  upto_later : (rs : List Request) (t : List Mine) (n L : ℕ) → ((m : ℕ) → n < m → owned m t ≡ []) → n < L → frames_upto s.setup rs L t ≡ frames_upto s.setup rs (suc n) t
   upto_later rs t n zero h l = absurd (omega arith)
   upto_later rs t n (suc L) h l =
-      ⊎_elim (λ (e : n ≡ L). ap (λ v. frames_upto s rs (suc v) t) (sym e))
+      ⊎_elim (λ (e : n ≡ L). ap (λ v. frames_upto s.setup rs (suc v) t) (sym e))
           (λ (d : n ≡ L → ⊥). let z : n < L = omega (arith, d) in
-              ap (λ v. frames_upto s rs L t ++ frames s (request rs L) v) (h L z) ∙ append-nil (frames_upto s rs L t) ∙ upto_later rs t n L h z) (cases_eq n L)
+              ap (λ v. frames_upto s.setup rs L t ++ frames s.setup (request rs L) v) (h L z) ∙ append-nil (frames_upto s.setup rs L t) ∙ upto_later rs t n L h z) (cases_eq n L)
 
   -- what a connection was sent is a prefix of what its requests are owed, one request after the other
-  pub conn_prefix : (input : List ℕ) (t : List Mine) (k : Conn) → ConnTie input t k → IsPrefixOf (sent t) (frames_upto s (s.reader.requests input) (length (reqs t)) t)
+  pub conn_prefix : (input : List ℕ) (t : List Mine) (k : Conn) → ConnTie input t k → IsPrefixOf (sent t) (frames_upto s.setup (s.reader.requests input) (length (reqs t)) t)
   conn_prefix input t k c =
       let rs = s.reader.requests input in
       let h = c.holds in
       let n = k.at in
       let own = owned n t in
-      let all_of = frames_are s (request rs n) own h.ties.lawful in
+      let all_of = frames_are s.setup (request rs n) own h.ties.lawful in
       ⊎_elim (λ (l : n < length (reqs t)).
-              (owed (due_of s rs n t),
-               ap (λ v. v ++ owed (due_of s rs n t)) h.sends ∙ append_assoc (frames_upto s rs n t) (sent_of own) (owed (due_of s rs n t))
-                  ∙ ap (λ v. frames_upto s rs n t ++ v) (sym all_of) ∙ sym (upto_later rs t n (length (reqs t)) h.later l)))
+              (owed (due_of s.setup rs n t),
+               ap (λ v. v ++ owed (due_of s.setup rs n t)) h.sends ∙ append_assoc (frames_upto s.setup rs n t) (sent_of own) (owed (due_of s.setup rs n t))
+                  ∙ ap (λ v. frames_upto s.setup rs n t ++ v) (sym all_of) ∙ sym (upto_later rs t n (length (reqs t)) h.later l)))
           (λ (l : length (reqs t) ≤ n).
               let e : n ≡ length (reqs t) = omega (arith, h.within) in
-              ([], append-nil (sent t) ∙ h.sends ∙ ap (λ v. frames_upto s rs n t ++ sent_of v) (h.absent n l) ∙ append-nil (frames_upto s rs n t) ∙ ap (λ v. frames_upto s rs v t) e)) (cases_lt n (length (reqs t)))
+              ([], append-nil (sent t) ∙ h.sends ∙ ap (λ v. frames_upto s.setup rs n t ++ sent_of v) (h.absent n l) ∙ append-nil (frames_upto s.setup rs n t) ∙ ap (λ v. frames_upto s.setup rs v t) e)) (cases_lt n (length (reqs t)))

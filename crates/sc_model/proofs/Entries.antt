@@ -1,6 +1,6 @@
 -- What an event leaves in a level was there before, or it put it there.
 use Rattle.std.proofs.Common.{◌≡◌, ℕ, ◌+◌, ◌⊎◌, ⊎_elim, inl, inr, Bool, true, false, cond, List, [], ◌∷◌, length, drop, Option, Some, None, refl, sym, ap, ◌∙◌, subst}
-use Rattle.sc_model.specs.Script.{Script}
+use Rattle.sc_model.specs.Script.{Setup}
 use Rattle.sc_model.specs.World.{Commits, Evicts, Files, Fills, IsFault, IsPart, IsRefused, Keeps_all, Level, MovesLevel, Puts_pre, Puts_remote, Reserves, drop_file, drop_part, find_file, held, main_path, put_file, write_cause}
 use Rattle.sc_model.specs.declared.event.Mode.TheVariants.{Path, Pre, Raw, Size as Sizes, Whole}
 use Rattle.sc_model.specs.declared.event.What.{What}
@@ -147,7 +147,7 @@ pre_held Remote capacity x r i d WriteDone v w k b h e = keeps_held Remote v w k
 pre_held Remote capacity x r i d (WriteRefused c) v w k b h e = absurd h
 
 -- what a level holds after its event
-pub level_held : (s : Script) (f : LevelFacts) (r : ℕ) (x : What) (v w : Level) (k b : List ℕ) → IsStoreKey k → MovesLevel s f r x v w → held f.kind w k ≡ Some b → (held f.kind v k ≡ Some b) ⊎ PutsAt x k b
+pub level_held : (s : Setup) (f : LevelFacts) (r : ℕ) (x : What) (v w : Level) (k b : List ℕ) → IsStoreKey k → MovesLevel s f r x v w → held f.kind w k ≡ Some b → (held f.kind v k ≡ Some b) ⊎ PutsAt x k b
 level_held s f r (Asked l i mode a hs) v w k b st h e = inl (keeps_held f.kind v w k b h.keeps e)
 level_held s f r (Reserved l i n how) v w k b st h e = inl (reserved_held f.kind f.capacity (write_cause s.policy f r i n) r n how v w k b h.1 e)
 level_held s f r (Filled l i d mark how) v w k b st h e = inl (filled_held f.kind how v w k b h.1 e)

@@ -4,7 +4,7 @@ use Rattle.sc_model.specs.Follows.{Lawful, Over, ToDist, ToEnd, ToFinish, ToKey,
 use Rattle.sc_model.specs.Job.{At, Own, retcode, signal}
 use Rattle.sc_model.specs.Plan.{backfilled, background, goes_on, plan}
 use Rattle.sc_model.specs.Rows.{total}
-use Rattle.sc_model.specs.Script.{IsOpen, Script, no_task}
+use Rattle.sc_model.specs.Script.{IsOpen, Script, Setup, no_task}
 use Rattle.sc_model.specs.World.{first_missing, placed_of}
 use Rattle.sc_model.specs.declared.event.Answer.{Answer}
 use Rattle.sc_model.specs.declared.event.Answer.TheVariants.{Hit, Miss, Refused}
@@ -73,15 +73,21 @@ compile vs = Compile (record { exe = codes "/cc"; cwd = codes "/"; args = []; en
 abbrev remote : LevelFacts
 remote = record { kind = Remote; wrapped = false; configured = ModeReadWrite; mode = ModeReadWrite; capacity = 0; root = [] }
 
-abbrev script : Request → Script
-script r = record {
-    inputs = [] ∷ [];
-    reader = record { requests = λ b. r ∷ []; rest = λ b. []; ends = λ b c. IsOpen };
+abbrev setup : Setup
+setup = record {
     codec = record { payload = λ g. []; entry = λ os. 1 ∷ []; objects = read_entry };
     compilers = record { may_read = λ c p. true; may_key = λ c k st. true; color = λ c. ColorAuto; pretty = λ c. codes "/o"; is_note = λ c l. false; is_valid = λ b. true; kind_text = λ t. codes "C/C++"; full_text = λ t. codes "c [gcc]" };
     scheduler = record { url = None; retry_text = λ n. [] };
     store = record { location = []; type_name = []; basedirs = []; basedir_texts = []; flag = false; max_size = None };
-    levels = remote ∷ []; policy = Single; tokens = 1; limit = 100; first = no_stats; first_levels = no_level_stats ∷ [];
+    levels = remote ∷ []; policy = Single; tokens = 1; limit = 100;
+}
+
+abbrev script : Request → Script
+script r = record {
+    setup = setup;
+    inputs = [] ∷ [];
+    reader = record { requests = λ b. r ∷ []; rest = λ b. []; ends = λ b c. IsOpen };
+    first = no_stats; first_levels = no_level_stats ∷ [];
 }
 
 abbrev task : Task
@@ -115,13 +121,13 @@ stored_after r miss dist m own =
     At m (Sent (reply r)) ∷ At m (WriteEnded PutDone []) ∷ At m (Wrote 0 key (1 ∷ []) Whole true WriteDone) ∷ At m (Outcome (CacheMiss miss dist 0) task) ∷ At m (ran (Code 0)) ∷ At m TokenTaken ∷ own
 
 -- row 1: ten events, and then nothing more
-row_1 : due (script (compile [])) (compile []) (stored_after (compile []) Normal NoDist 0 (asked (compile []) 0 Miss)) ≡ Over
+row_1 : due setup (compile []) (stored_after (compile []) Normal NoDist 0 (asked (compile []) 0 Miss)) ≡ Over
 row_1 = refl
 
 row_1_count : length (stored_after (compile []) Normal NoDist 0 (asked (compile []) 0 Miss)) ≡ 10
 row_1_count = refl
 
-row_1_lawful : Lawful (script (compile [])) (compile []) (stored_after (compile []) Normal NoDist 0 (asked (compile []) 0 Miss))
+row_1_lawful : Lawful setup (compile []) (stored_after (compile []) Normal NoDist 0 (asked (compile []) 0 Miss))
 row_1_lawful =
     ((refl, omega arith), ((refl, refl), ((refl, refl, refl, refl, refl), ((refl, refl), (tt, (tt, ((refl, refl, refl, refl), ((refl, tt), ((refl, omega arith), ((refl, refl), tt))))))))))
 
@@ -134,7 +140,7 @@ trace_of (At m x ∷ own) = (record { moment = m; owner = OfRequest 0 0; what = 
 abbrev hit_row : ℕ → List ℕ → List Own → List Own
 hit_row m b own = At m (Sent (reply (compile []))) ∷ At m (Outcome (CacheHit m) task) ∷ At m (Placed PlaceDone) ∷ own
 
-row_2 : Lawful (script (compile [])) (compile []) (hit_row 0 (1 ∷ []) (asked (compile []) 0 (Hit (1 ∷ []) true)))
+row_2 : Lawful setup (compile []) (hit_row 0 (1 ∷ []) (asked (compile []) 0 (Hit (1 ∷ []) true)))
 row_2 = ((refl, omega arith), ((refl, refl), (tt, ((refl, refl, refl, refl), ((refl, tt), ((refl, omega arith), ((refl, refl), tt)))))))
 
 row_2_count : length (hit_row 0 (1 ∷ []) (asked (compile []) 0 (Hit (1 ∷ []) true))) ≡ 7
@@ -145,7 +151,7 @@ abbrev failed_row : List Own
 failed_row =
     At 0 (Outcome (CompileFailed NoDist 0) task) ∷ At 0 (Ran (RanOutput (record { output = record { status = Code 1; stdout = []; stderr = codes "bad" }; objects = Collected [] }))) ∷ At 0 TokenTaken ∷ asked (compile []) 0 Miss
 
-row_4 : due (script (compile [])) (compile []) failed_row ≡ ToFinish [] (record { retcode = Some (pos 1); signal = None; stdout = []; stderr = codes "bad"; color_mode = ColorAuto })
+row_4 : due setup (compile []) failed_row ≡ ToFinish [] (record { retcode = Some (pos 1); signal = None; stdout = []; stderr = codes "bad"; color_mode = ColorAuto })
 row_4 = refl
 
 row_4_count : length failed_row ≡ 7
@@ -155,17 +161,17 @@ row_4_count = refl
 abbrev uncached : Request
 uncached = compile (variable (codes "SCCACHE_NO_CACHE") ∷ variable (codes "SCCACHE_RECACHE") ∷ [])
 
-row_5 : due (script uncached) uncached (begun uncached false true) ≡ ToTake
+row_5 : due setup uncached (begun uncached false true) ≡ ToTake
 row_5 = refl
 
-row_5_end : due (script uncached) uncached (At 0 (ran (Code 0)) ∷ At 0 TokenTaken ∷ begun uncached false true) ≡ ToEnd (NotCached NoDist 0) task
+row_5_end : due setup uncached (At 0 (ran (Code 0)) ∷ At 0 TokenTaken ∷ begun uncached false true) ≡ ToEnd (NotCached NoDist 0) task
 row_5_end = refl
 
 -- row 17: bytes that spell no entry are a read error; a hit that lacks obj is one too
-row_17 : due (script (compile [])) (compile []) (At 0 (ran (Code 0)) ∷ At 0 TokenTaken ∷ asked (compile []) 0 (Refused BadEntry)) ≡ ToEnd (CacheMiss CacheReadError NoDist 0) task
+row_17 : due setup (compile []) (At 0 (ran (Code 0)) ∷ At 0 TokenTaken ∷ asked (compile []) 0 (Refused BadEntry)) ≡ ToEnd (CacheMiss CacheReadError NoDist 0) task
 row_17 = refl
 
-row_17_missing : due (script (compile [])) (compile []) (At 0 (ran (Code 0)) ∷ At 0 TokenTaken ∷ At 0 (Placed (Missing name_obj)) ∷ asked (compile []) 0 (Hit (2 ∷ []) false)) ≡ ToEnd (CacheMiss CacheReadError NoDist 0) task
+row_17_missing : due setup (compile []) (At 0 (ran (Code 0)) ∷ At 0 TokenTaken ∷ At 0 (Placed (Missing name_obj)) ∷ asked (compile []) 0 (Hit (2 ∷ []) false)) ≡ ToEnd (CacheMiss CacheReadError NoDist 0) task
 row_17_missing = refl
 
 row_17_names : first_missing (read_entry (2 ∷ [])) (placed_of true outputs) ≡ Some name_obj
@@ -178,31 +184,31 @@ row_17_count = refl
 abbrev distributed : List Own
 distributed = At 0 (keyed false true false) ∷ At 0 (Asked 0 key Whole Miss []) ∷ begun (compile []) true false
 
-row_33_again : due (script (compile [])) (compile []) (At 0 (Asked 0 key Whole Miss []) ∷ begun (compile []) true false) ≡ ToKey false
+row_33_again : due setup (compile []) (At 0 (Asked 0 key Whole Miss []) ∷ begun (compile []) true false) ≡ ToKey false
 row_33_again = refl
 
-row_33_dist : due (script (compile [])) (compile []) distributed ≡ ToDist
+row_33_dist : due setup (compile []) distributed ≡ ToDist
 row_33_dist = refl
 
-row_33_done : due (script (compile [])) (compile []) (At 0 (Dist (DistDone (codes "srv") (record { output = record { status = Code 0; stdout = 104 ∷ 105 ∷ []; stderr = [] }; objects = Collected (obj ∷ []) }))) ∷ distributed) ≡ ToEnd (CacheMiss ForcedRecache (DistOk (codes "srv")) 0) task
+row_33_done : due setup (compile []) (At 0 (Dist (DistDone (codes "srv") (record { output = record { status = Code 0; stdout = 104 ∷ 105 ∷ []; stderr = [] }; objects = Collected (obj ∷ []) }))) ∷ distributed) ≡ ToEnd (CacheMiss ForcedRecache (DistOk (codes "srv")) 0) task
 row_33_done = refl
 
-row_33_other : due (script (compile [])) (compile []) (At 0 (ran (Code 0)) ∷ At 0 TokenTaken ∷ At 0 (Dist (DistOther (codes "lost"))) ∷ distributed) ≡ ToEnd (CacheMiss ForcedRecache DistError 0) task
+row_33_other : due setup (compile []) (At 0 (ran (Code 0)) ∷ At 0 TokenTaken ∷ At 0 (Dist (DistOther (codes "lost"))) ∷ distributed) ≡ ToEnd (CacheMiss ForcedRecache DistError 0) task
 row_33_other = refl
 
 row_33_count : length (stored_after (compile []) ForcedRecache DistError 0 (At 0 (Dist (DistOther (codes "lost"))) ∷ distributed)) ≡ 12
 row_33_count = refl
 
 -- row 34: locally preprocessed, with a client: no second key step
-row_34 : due (script (compile [])) (compile []) (At 0 (Outcome HttpError task) ∷ At 0 (Dist (DistHttp (codes "gone"))) ∷ At 0 (Asked 0 key Whole Miss []) ∷ begun (compile []) true true)
+row_34 : due setup (compile []) (At 0 (Outcome HttpError task) ∷ At 0 (Dist (DistHttp (codes "gone"))) ∷ At 0 (Asked 0 key Whole Miss []) ∷ begun (compile []) true true)
     ≡ ToFinish [] (record { retcode = Some (pos 1); signal = None; stdout = []; stderr = codes "[\"/o\"] http error status: gone"; color_mode = ColorAuto })
 row_34 = refl
 
 -- row 35: later than 60 s, and just in time
-row_35_late : due (script (compile [])) (compile []) (At 60000000001 (ran (Code 0)) ∷ At 60000000001 TokenTaken ∷ asked (compile []) 60000000001 (Hit (1 ∷ []) true)) ≡ ToEnd (CacheMiss TimedOut NoDist 0) task
+row_35_late : due setup (compile []) (At 60000000001 (ran (Code 0)) ∷ At 60000000001 TokenTaken ∷ asked (compile []) 60000000001 (Hit (1 ∷ []) true)) ≡ ToEnd (CacheMiss TimedOut NoDist 0) task
 row_35_late = refl
 
-row_35_time : due (script (compile [])) (compile []) (asked (compile []) 60000000000 (Hit (1 ∷ []) true)) ≡ ToPlace
+row_35_time : due setup (compile []) (asked (compile []) 60000000000 (Hit (1 ∷ []) true)) ≡ ToPlace
 row_35_time = refl
 
 -- rows 14, 15 and 45: which levels are written, and which writes are handed on

@@ -8,7 +8,7 @@ use Rattle.sc_model.specs.Job.{At, IsBroken, IsFailed, IsNotCacheable, IsNotCach
 use Rattle.sc_model.specs.Machine.{after, asked_miss, begin_phase, control_phase, dist_phase, due_at, end_write_phase, ending_of, judged_phase, key_phase, missed_phase, noted, path_phase, placed_phase, pre_phase, ran_phase, raw_phase, size_phase, whole_phase, work_of, work_phase}
 use Rattle.sc_model.specs.Origin.{HasRun, PutBy}
 use Rattle.sc_model.specs.Plan.{note, plan, pre_plan}
-use Rattle.sc_model.specs.Script.{Control, Default, ForceNoCache, ForceRecache, Script, control}
+use Rattle.sc_model.specs.Script.{Control, Default, ForceNoCache, ForceRecache, Setup, control}
 use Rattle.sc_model.specs.declared.event.Answer.{Answer}
 use Rattle.sc_model.specs.declared.event.Answer.TheVariants.{Found as FoundAt, Hit, Miss, Refused, Size as SizeIs}
 use Rattle.sc_model.specs.declared.event.DistAnswer.{DistAnswer}
@@ -84,7 +84,7 @@ not_storable : (own : List Own) (m : ℕ) (v : Verdict) (t : Task) → NotMiss v
 not_storable own m (CacheMiss miss dist d) t h i = h
 not_storable own m _ t h i = i
 
-module _ (s : Script) where
+module _ (s : Setup) where
   put_compile : (r : Request) (own : List Own) (k b : List ℕ) → IsCompile r → (job_of own).found.key ≡ k → HasRun s b own → PutBy s r own k b
   put_compile (Compile c) own k b h e i = (e, i)
   put_compile _ own k b h e i = absurd h

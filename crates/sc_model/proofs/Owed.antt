@@ -4,7 +4,7 @@ use Rattle.sc_model.specs.Follows.{Due, Fits, Lawful, Stopped, ToAsk, ToDist, To
 use Rattle.sc_model.specs.Frames.{asked_frames, began_frames, frames, owed_by, pre_put_frames}
 use Rattle.sc_model.specs.Job.{At, Own, bytes_of, is_late, job_of, put_bytes, refused, sized, stats_of}
 use Rattle.sc_model.specs.Plan.{plan, pre_plan}
-use Rattle.sc_model.specs.Script.{Control, Default, ForceNoCache, ForceRecache, Script, control}
+use Rattle.sc_model.specs.Script.{Control, Default, ForceNoCache, ForceRecache, Setup, control}
 use Rattle.sc_model.specs.Trace.{sent_by, sent_of}
 use Rattle.sc_model.specs.declared.event.Answer.{Answer}
 use Rattle.sc_model.specs.declared.event.Answer.TheVariants.{Found as FoundAt, Hit, Refused}
@@ -55,7 +55,7 @@ none_cond : (b : Bool) (x y : Due) → owed x ≡ [] → owed y ≡ [] → [] �
 none_cond true x y e f = sym e
 none_cond false x y e f = sym f
 
-module _ (s : Script) where
+module _ (s : Setup) where
   start_owed : (kind : LevelKind) (l : ℕ) (b : Bytes) → [] ≡ owed (start_write kind l b)
   start_owed Disk l b = refl
   start_owed Remote l b = refl

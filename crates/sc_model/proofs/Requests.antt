@@ -6,7 +6,7 @@ use Rattle.sc_model.specs.Job.{IsStored, Judged, Own, asked_at, bytes_of, dist_o
 use Rattle.sc_model.specs.Machine.{asked_miss, begin_phase, control_phase, dist_phase, due_at, judged_phase, key_phase, missed_phase, path_phase, phase_next, placed_phase, pre_phase, ran_phase, raw_phase, size_phase, whole_phase, work_of, work_phase}
 use Rattle.sc_model.specs.Origin.{PutBy}
 use Rattle.sc_model.specs.Plan.{plan}
-use Rattle.sc_model.specs.Script.{Control, Default, ForceNoCache, ForceRecache, Script, control, counted_task}
+use Rattle.sc_model.specs.Script.{Control, Default, ForceNoCache, ForceRecache, Setup, control, counted_task}
 use Rattle.sc_model.specs.declared.event.Answer.{Answer}
 use Rattle.sc_model.specs.declared.event.Answer.TheVariants.{Found as FoundAt, Hit, Miss, Refused, Size as SizeIs}
 use Rattle.sc_model.specs.declared.event.DistAnswer.{DistAnswer}
@@ -64,25 +64,25 @@ pub record HasJob (r : Request) (own : List Own) (job : Job) : Type 0 where
   pub job_is : job_of own ≡ job
   pub task_is : task_of own ≡ job.task
 
-pub record HasWork (s : Script) (r : Request) (own : List Own) (w : Work) : Type 0 where
+pub record HasWork (s : Setup) (r : Request) (own : List Own) (w : Work) : Type 0 where
   pub has : HasJob r own w.job
   pub miss_is : miss_of s r own ≡ w.miss
   pub from_is : work_from own ≡ w.from
   pub dist_is : dist_of own ≡ w.dist
 
-pub record Ends (s : Script) (r : Request) (own : List Own) (ending : Ending) : Type 0 where
+pub record Ends (s : Setup) (r : Request) (own : List Own) (ending : Ending) : Type 0 where
   pub compile : IsCompile r
   pub last_is : finish s r own ≡ ending.last
   pub notes_are : notes_of s r own ≡ ending.notes
   pub carries : Carries s r ending.last own
 
-pub record EndsIn (s : Script) (r : Request) (own : List Own) (last : CompileFinished) : Type 0 where
+pub record EndsIn (s : Setup) (r : Request) (own : List Own) (last : CompileFinished) : Type 0 where
   pub compile : IsCompile r
   pub last_is : finish s r own ≡ last
   pub carries : Carries s r last own
   pub stores : Stores s own
 
-abbrev pub EndsBy : Script → Request → List Own → Option Ending → Type 0
+abbrev pub EndsBy : Setup → Request → List Own → Option Ending → Type 0
 EndsBy s r own None = IsPutRaw r
 EndsBy s r own (Some ending) = Ends s r own ending
 
@@ -100,7 +100,7 @@ plain_over (Answered (UnsupportedCompiler text)) h = refl
 plain_over _ h = refl
 
 -- what a phase keeps is what the events tell
-abbrev pub Keeps : Script → Request → List Own → Phase → Type 0
+abbrev pub Keeps : Setup → Request → List Own → Phase → Type 0
 Keeps s r own AtBegin = own ≡ []
 Keeps s r own (AtSend f) = IsPlain f
 Keeps s r own (AtStarted task) = IsCompile r × (task_of own ≡ task)
@@ -125,11 +125,11 @@ Keeps s r own (AtEnded left) = Unit {0}
 Keeps s r own AtOver = Unit {0}
 
 -- choices
-pub due_cond : (s : Script) (r : Request) (b : Bool) (p q : Phase) → cond b (due_at s r p) (due_at s r q) ≡ due_at s r (cond b p q)
+pub due_cond : (s : Setup) (r : Request) (b : Bool) (p q : Phase) → cond b (due_at s r p) (due_at s r q) ≡ due_at s r (cond b p q)
 due_cond s r true p q = refl
 due_cond s r false p q = refl
 
-pub keeps_cond : (s : Script) (r : Request) (own : List Own) (b : Bool) (p q : Phase) → Keeps s r own p → Keeps s r own q → Keeps s r own (cond b p q)
+pub keeps_cond : (s : Setup) (r : Request) (own : List Own) (b : Bool) (p q : Phase) → Keeps s r own p → Keeps s r own q → Keeps s r own (cond b p q)
 keeps_cond s r own true p q x y = x
 keeps_cond s r own false p q x y = y
 
@@ -139,7 +139,7 @@ choose b x y z e = ap (λ v. cond b x v) e
 choose_first : (b : Bool) (x y z : Due) → x ≡ y → cond b x z ≡ cond b y z
 choose_first b x y z e = ap (λ v. cond b v z) e
 
-module _ (s : Script) where
+module _ (s : Setup) where
   pub work_due : (r : Request) (job : Job) (miss : MissType) (m : ℕ) → start_work job ≡ due_at s r (work_phase job miss m)
   work_due r job miss m = due_cond s r job.client (AtDist (work_of job miss m)) (AtTake (work_of job miss m))
 

@@ -5,7 +5,7 @@ use Rattle.sc_model.specs.Follows.{Fits, ToCommit, ToFill, ToFinish, after_asked
 use Rattle.sc_model.specs.Job.{At, Own, bytes_of, finish, notes_of, over, refused, sized, stats_of}
 use Rattle.sc_model.specs.Machine.{after, due_at, end_write_phase, noted}
 use Rattle.sc_model.specs.Plan.{goes_on, note, plan, pre_plan}
-use Rattle.sc_model.specs.Script.{Script}
+use Rattle.sc_model.specs.Script.{Setup}
 use Rattle.sc_model.specs.declared.event.Mode.{Mode}
 use Rattle.sc_model.specs.declared.event.Mode.TheVariants.{Whole}
 use Rattle.sc_model.specs.declared.event.Verdict.{Verdict}
@@ -43,7 +43,7 @@ IsStart (Reserved l k n w) = Unit {0}
 IsStart (Wrote l k b mode mark w) = Unit {0}
 IsStart _ = ⊥
 
-module _ (s : Script) where
+module _ (s : Setup) where
   pub start_is : (r : Request) (kind : LevelKind) (l : ℕ) (b : Bytes) (x : What) → Fits s r (start_write kind l b) x → IsStart x
   start_is r kind l b (Reserved j k n w) f = tt
   start_is r kind l b (Wrote j k d mode mark w) f = tt

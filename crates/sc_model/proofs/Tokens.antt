@@ -4,7 +4,7 @@ use Rattle.sc_model.specs.Follows.{Due, Fits, ToAsk, ToDist, ToFinish, ToKey, To
 use Rattle.sc_model.specs.Job.{At, Own, bytes_of, is_late, job_of, put_bytes, refused}
 use Rattle.sc_model.specs.Machine.{free_after}
 use Rattle.sc_model.specs.Plan.{plan, pre_plan}
-use Rattle.sc_model.specs.Script.{Control, Default, ForceNoCache, ForceRecache, Script, control}
+use Rattle.sc_model.specs.Script.{Control, Default, ForceNoCache, ForceRecache, Setup, control}
 use Rattle.sc_model.specs.Trace.{all, opened, without}
 use Rattle.sc_model.specs.declared.event.Answer.{Answer}
 use Rattle.sc_model.specs.declared.event.Answer.TheVariants.{Found as FoundAt, Hit, Refused}
@@ -99,7 +99,7 @@ quiet_send g (ToFinish [] last) = tt
 quiet_send g (ToFinish (n ∷ ns) last) = tt
 quiet_send g _ = quiet_sent g
 
-module _ (s : Script) where
+module _ (s : Setup) where
   quiet_start : (kind : LevelKind) (l : ℕ) (b : Bytes) → Quiet (start_write kind l b)
   quiet_start Disk l b = tt
   quiet_start Remote l b = tt

@@ -34,7 +34,7 @@ use Rattle.sc_model.specs.declared.phase.Phase.TheVariants.{AtPlace, AtRun, AtWr
 use Rattle.sc_stats.specs.Sums.{no_level_stats, sat}
 
 module _ (s : Script) where
-  module _ (t : List Event) (lawful : (c n : ℕ) → Lawful s (request (all s c) n) (owned n (about c t))) (p : Step) where
+  module _ (t : List Event) (lawful : (c n : ℕ) → Lawful s.setup (request (all s c) n) (owned n (about c t))) (p : Step) where
     order_step : (o : Owner) (x : What) → NextStep s t p o x → Begins_in_order s t o x
     order_step (OfRequest c n) (Sent g) h = let f = next_fits s t p c n (Sent g) h in f.0.before
     order_step (OfRequest c n) _ h = tt
@@ -48,7 +48,7 @@ module _ (s : Script) where
     finish_step (OfRequest c n) _ h = tt
     finish_step _ x h = tt
 
-    stored_step : (o : Owner) (x : What) → NextStep s t p o x → StoresBefore s t o x
+    stored_step : (o : Owner) (x : What) → NextStep s t p o x → StoresBefore s.setup t o x
     stored_step (OfRequest c n) (Sent (Finished f)) h =
         let q = next_fits s t p c n (Sent (Finished f)) h in
         let a = lawful_finishes s (request (all s c) n) (owned n (about c t)) f q.1 (lawful c n) in a.2
@@ -59,25 +59,25 @@ module _ (s : Script) where
     stored_step _ x h = tt
 
   -- the key and the hit that the phase keeps are the job's
-  moves_same : (r : Request) (own : List Own) (p : Phase) (x : What) (z : ℕ → ℕ) (w w2 : World) → Keeps s r own p → Fits s r (due_at s r p) x → Moves s (need_at s r p) z x w w2 → Moves s (need_of s r own) z x w w2
+  moves_same : (r : Request) (own : List Own) (p : Phase) (x : What) (z : ℕ → ℕ) (w w2 : World) → Keeps s.setup r own p → Fits s.setup r (due_at s.setup r p) x → Moves s.setup (need_at s.setup r p) z x w w2 → Moves s.setup (need_of s.setup r own) z x w w2
   moves_same r own (AtRun work) (Ran a) z w w2 kp f m =
       (m.0, m.1, m.2, subst (λ v. w2 ≡ record w { runs = w.runs ++ (v.found.key, a) ∷ []; shop_faults = m.0 }) (sym kp.has.job_is) m.3)
   moves_same r own (AtPlace job b d) (Placed p) z w w2 kp f m =
-      let n2 : Need → Type 0 = λ v. MovesPlaced s v p w w2 in
+      let n2 : Need → Type 0 = λ v. MovesPlaced s.setup v p w w2 in
       placed p m
     where
-      placed : (p : Placing) → MovesPlaced s (need_at s r (AtPlace job b d)) p w w2 → MovesPlaced s (need_of s r own) p w w2
-      placed (Missing name) h = (ap (λ v. first_missing (s.codec.objects v) (need_of s r own).outputs) kp.1 ∙ ap (λ (v : Job). first_missing (s.codec.objects b) (placed_of v.found.locally_preprocessed v.found.outputs)) kp.0.job_is ∙ h.0, h.1)
+      placed : (p : Placing) → MovesPlaced s.setup (need_at s.setup r (AtPlace job b d)) p w w2 → MovesPlaced s.setup (need_of s.setup r own) p w w2
+      placed (Missing name) h = (ap (λ v. first_missing (s.setup.codec.objects v) (need_of s.setup r own).outputs) kp.1 ∙ ap (λ (v : Job). first_missing (s.setup.codec.objects b) (placed_of v.found.locally_preprocessed v.found.outputs)) kp.0.job_is ∙ h.0, h.1)
       placed PlaceDone h =
-          (ap (λ v. first_missing (s.codec.objects v) (need_of s r own).outputs) kp.1 ∙ ap (λ (v : Job). first_missing (s.codec.objects b) (placed_of v.found.locally_preprocessed v.found.outputs)) kp.0.job_is ∙ h.0,
+          (ap (λ v. first_missing (s.setup.codec.objects v) (need_of s.setup r own).outputs) kp.1 ∙ ap (λ (v : Job). first_missing (s.setup.codec.objects b) (placed_of v.found.locally_preprocessed v.found.outputs)) kp.0.job_is ∙ h.0,
            h.1 ∙ ap (λ (v : Job). record w { placings = w.placings ++ (record { outputs = placed_of v.found.locally_preprocessed v.found.outputs; bytes = b }) ∷ [] }) (sym kp.0.job_is)
-               ∙ ap (λ (v : List ℕ). record w { placings = w.placings ++ (record { outputs = (need_of s r own).outputs; bytes = v }) ∷ [] }) (sym kp.1))
-      placed (PlaceFault chain) h = (ap (λ v. first_missing (s.codec.objects v) (need_of s r own).outputs) kp.1 ∙ ap (λ (v : Job). first_missing (s.codec.objects b) (placed_of v.found.locally_preprocessed v.found.outputs)) kp.0.job_is ∙ h.0, h.1)
-  moves_same r own (AtWrite b (l ∷ ls) g ending) (Ran a) z w w2 kp f m = absurd (start_is s r (kind_at s.levels l) l b (Ran a) f)
+               ∙ ap (λ (v : List ℕ). record w { placings = w.placings ++ (record { outputs = (need_of s.setup r own).outputs; bytes = v }) ∷ [] }) (sym kp.1))
+      placed (PlaceFault chain) h = (ap (λ v. first_missing (s.setup.codec.objects v) (need_of s.setup r own).outputs) kp.1 ∙ ap (λ (v : Job). first_missing (s.setup.codec.objects b) (placed_of v.found.locally_preprocessed v.found.outputs)) kp.0.job_is ∙ h.0, h.1)
+  moves_same r own (AtWrite b (l ∷ ls) g ending) (Ran a) z w w2 kp f m = absurd (start_is s.setup r (kind_at s.setup.levels l) l b (Ran a) f)
   moves_same r own (AtWrite b [] g ending) (Ran a) z w w2 kp f m = absurd f
   moves_same r own (PrePut b (l ∷ ls) g) (Ran a) z w w2 kp f m = absurd f
   moves_same r own (PrePut b [] g) (Ran a) z w w2 kp f m = absurd f
-  moves_same r own (AtWrite b (l ∷ ls) g ending) (Placed p) z w w2 kp f m = absurd (start_is s r (kind_at s.levels l) l b (Placed p) f)
+  moves_same r own (AtWrite b (l ∷ ls) g ending) (Placed p) z w w2 kp f m = absurd (start_is s.setup r (kind_at s.setup.levels l) l b (Placed p) f)
   moves_same r own (AtWrite b [] g ending) (Placed p) z w w2 kp f m = absurd f
   moves_same r own (PrePut b (l ∷ ls) g) (Placed p) z w w2 kp f m = absurd f
   moves_same r own (PrePut b [] g) (Placed p) z w w2 kp f m = absurd f
@@ -85,7 +85,7 @@ module _ (s : Script) where
   moves_same r own _ (Placed p) z w w2 kp f m = absurd f
   moves_same r own p _ z w w2 kp f m = m
 
-  moves_write : (n n2 : Need) (x : What) (z : ℕ → ℕ) (w w2 : World) → IsWrite x → Moves s n z x w w2 → Moves s n2 z x w w2
+  moves_write : (n n2 : Need) (x : What) (z : ℕ → ℕ) (w w2 : World) → IsWrite x → Moves s.setup n z x w w2 → Moves s.setup n2 z x w w2
   moves_write n n2 (Ran a) z w w2 iw m = absurd iw
   moves_write n n2 (Placed p) z w w2 iw m = absurd iw
   moves_write n n2 (Keyed first client step) z w w2 iw m = absurd iw
@@ -93,41 +93,41 @@ module _ (s : Script) where
 
   -- the parts' world moves as the trace tells
   module _ (t : List Event) (m : Machine) (h : Tie s t m) where
-    serve_moves : (c z : ℕ) (o : Owner) (x : What) (m2 : Machine) → DoesServe s m c z o x m2 → Moves s (need_of s (request_of s o) (own_of o t)) (λ l. reserved_at l (reservations t)) x (at_moment m.world (ticked m.world.moment x)) m2.world
+    serve_moves : (c z : ℕ) (o : Owner) (x : What) (m2 : Machine) → DoesServe s.setup m c z o x m2 → Moves s.setup (need_of s.setup (request_of s o) (own_of o t)) (λ l. reserved_at l (reservations t)) x (at_moment m.world (ticked m.world.moment x)) m2.world
     serve_moves c z Nobody Idle m2 g = ap (λ v. v.world) g.1
     serve_moves c z (OfRequest d j) x m2 g =
         let k = conn m c in
         let tie = h.conns c in
         let w0 = at_moment m.world (ticked m.world.moment x) in
         let cur = current_is s (input s c) (about c t) k tie g.3 in
-        let f = subst (λ v. Fits s v (due_at s v k.phase) x) cur g.4 in
-        let a = moves_same (request (all s c) k.at) (owned k.at (about c t)) k.phase x (λ l. reserved_at l m.reserved) w0 g.7.0 tie.holds.ties.keeps f (subst (λ v. Moves s (need_at s v k.phase) (λ l. reserved_at l m.reserved) x w0 g.7.0) cur g.7.1) in
-        let b : Moves s (need_of s (request (all s c) k.at) (owned k.at (about c t))) (λ l. reserved_at l (reservations t)) x w0 g.7.0 = subst (λ v. Moves s (need_of s (request (all s c) k.at) (owned k.at (about c t))) (λ l. reserved_at l v) x w0 g.7.0) h.reserved a in
-        let q : Moves s (need_of s (request (all s d) j) (owned j (about d t))) (λ l. reserved_at l (reservations t)) x w0 g.7.0 =
-            subst (λ v. Moves s (need_of s (request (all s v) j) (owned j (about v t))) (λ l. reserved_at l (reservations t)) x w0 g.7.0) (sym g.0) (subst (λ v. Moves s (need_of s (request (all s c) v) (owned v (about c t))) (λ l. reserved_at l (reservations t)) x w0 g.7.0) (sym g.2) b) in
-        subst (λ v. Moves s (need_of s (request (all s d) j) (owned j (about d t))) (λ l. reserved_at l (reservations t)) x w0 v.world) (sym g.7.2) q
+        let f = subst (λ v. Fits s.setup v (due_at s.setup v k.phase) x) cur g.4 in
+        let a = moves_same (request (all s c) k.at) (owned k.at (about c t)) k.phase x (λ l. reserved_at l m.reserved) w0 g.7.0 tie.holds.ties.keeps f (subst (λ v. Moves s.setup (need_at s.setup v k.phase) (λ l. reserved_at l m.reserved) x w0 g.7.0) cur g.7.1) in
+        let b : Moves s.setup (need_of s.setup (request (all s c) k.at) (owned k.at (about c t))) (λ l. reserved_at l (reservations t)) x w0 g.7.0 = subst (λ v. Moves s.setup (need_of s.setup (request (all s c) k.at) (owned k.at (about c t))) (λ l. reserved_at l v) x w0 g.7.0) h.reserved a in
+        let q : Moves s.setup (need_of s.setup (request (all s d) j) (owned j (about d t))) (λ l. reserved_at l (reservations t)) x w0 g.7.0 =
+            subst (λ v. Moves s.setup (need_of s.setup (request (all s v) j) (owned j (about v t))) (λ l. reserved_at l (reservations t)) x w0 g.7.0) (sym g.0) (subst (λ v. Moves s.setup (need_of s.setup (request (all s c) v) (owned v (about c t))) (λ l. reserved_at l (reservations t)) x w0 g.7.0) (sym g.2) b) in
+        subst (λ v. Moves s.setup (need_of s.setup (request (all s d) j) (owned j (about d t))) (λ l. reserved_at l (reservations t)) x w0 v.world) (sym g.7.2) q
     serve_moves c z _ x m2 g = absurd g
 
-    read_moves : (c n : ℕ) (o : Owner) (x : What) (m2 : Machine) → DoesRead s m c n o x m2 → Moves s (need_of s (request_of s o) (own_of o t)) (λ l. reserved_at l (reservations t)) x (at_moment m.world (ticked m.world.moment x)) m2.world
+    read_moves : (c n : ℕ) (o : Owner) (x : What) (m2 : Machine) → DoesRead s m c n o x m2 → Moves s.setup (need_of s.setup (request_of s o) (own_of o t)) (λ l. reserved_at l (reservations t)) x (at_moment m.world (ticked m.world.moment x)) m2.world
     read_moves c n Nobody Idle m2 g = ap (λ v. v.world) g.1
     read_moves c n Nobody (Taken d bytes) m2 g = ap (λ v. v.world) g.5
     read_moves c n Nobody (Closed d) m2 g = ap (λ v. v.world) g.5
     read_moves c n _ x m2 g = absurd g
 
-    back_moves : (i z : ℕ) (o : Owner) (x : What) (m2 : Machine) → DoesBack s m i z o x m2 → Moves s (need_of s (request_of s o) (own_of o t)) (λ l. reserved_at l (reservations t)) x (at_moment m.world (ticked m.world.moment x)) m2.world
+    back_moves : (i z : ℕ) (o : Owner) (x : What) (m2 : Machine) → DoesBack s.setup m i z o x m2 → Moves s.setup (need_of s.setup (request_of s o) (own_of o t)) (λ l. reserved_at l (reservations t)) x (at_moment m.world (ticked m.world.moment x)) m2.world
     back_moves i z Nobody Idle m2 g = ap (λ v. v.world) g.1
     back_moves i z (OfWrite n) x m2 g =
         let w0 = at_moment m.world (ticked m.world.moment x) in
-        let a = moves_write (need_of s no_request []) (need_of s no_request (written n t)) x (λ l. reserved_at l m.reserved) w0 g.4.0 (pending_writes s g.0 x g.3) g.4.1 in
-        let b : Moves s (need_of s no_request (written n t)) (λ l. reserved_at l (reservations t)) x w0 g.4.0 = subst (λ v. Moves s (need_of s no_request (written n t)) (λ l. reserved_at l v) x w0 g.4.0) h.reserved a in
-        subst (λ v. Moves s (need_of s no_request (written n t)) (λ l. reserved_at l (reservations t)) x w0 v.world) (sym g.4.2) b
+        let a = moves_write (need_of s.setup no_request []) (need_of s.setup no_request (written n t)) x (λ l. reserved_at l m.reserved) w0 g.4.0 (pending_writes s.setup g.0 x g.3) g.4.1 in
+        let b : Moves s.setup (need_of s.setup no_request (written n t)) (λ l. reserved_at l (reservations t)) x w0 g.4.0 = subst (λ v. Moves s.setup (need_of s.setup no_request (written n t)) (λ l. reserved_at l v) x w0 g.4.0) h.reserved a in
+        subst (λ v. Moves s.setup (need_of s.setup no_request (written n t)) (λ l. reserved_at l (reservations t)) x w0 v.world) (sym g.4.2) b
     back_moves i z _ x m2 g = absurd g
 
-    pass_moves : (n : ℕ) (o : Owner) (x : What) (m2 : Machine) → DoesPass m n o x m2 → Moves s (need_of s (request_of s o) (own_of o t)) (λ l. reserved_at l (reservations t)) x (at_moment m.world (ticked m.world.moment x)) m2.world
+    pass_moves : (n : ℕ) (o : Owner) (x : What) (m2 : Machine) → DoesPass m n o x m2 → Moves s.setup (need_of s.setup (request_of s o) (own_of o t)) (λ l. reserved_at l (reservations t)) x (at_moment m.world (ticked m.world.moment x)) m2.world
     pass_moves n Nobody (Passed k) m2 g = ap (λ v. v.world) g.1 ∙ ap (λ v. at_moment m.world (sat m.world.moment v)) (sym g.0)
     pass_moves n _ x m2 g = absurd g
 
-    step_moves : (p : Step) (z : ℕ) (o : Owner) (x : What) (m2 : Machine) → DoesStep s m p z o x m2 → Moves s (need_of s (request_of s o) (own_of o t)) (λ l. reserved_at l (reservations t)) x (at_moment m.world (ticked m.world.moment x)) m2.world
+    step_moves : (p : Step) (z : ℕ) (o : Owner) (x : What) (m2 : Machine) → DoesStep s m p z o x m2 → Moves s.setup (need_of s.setup (request_of s o) (own_of o t)) (λ l. reserved_at l (reservations t)) x (at_moment m.world (ticked m.world.moment x)) m2.world
     step_moves (Read c n) z o x m2 g = read_moves c n o x m2 g
     step_moves (Serve c) z o x m2 g = serve_moves c z o x m2 g
     step_moves (Back i) z o x m2 g = back_moves i z o x m2 g
@@ -139,8 +139,8 @@ module _ (s : Script) where
     pub leads : Leads s start ps t m.world
     pub ordered : Each (IsInOrder s) t
     pub finished : Each (IsFinished s) t
-    pub stored : Each (IsStoredFirst s) t
-    pub within : Each (RunsWithin s) t
+    pub stored : Each (IsStoredFirst s.setup) t
+    pub within : Each (RunsWithin s.setup) t
     pub bytes : BytesWithin s start ps t m.world
     pub rightful : Each (IsRightful s start) t
     pub holds : HoldsRightful s start t m.world
@@ -149,9 +149,9 @@ module _ (s : Script) where
   good_step : ReadsOn s.reader → (start : World) (ps : List Step) (t : List Event) (m : Machine) (p : Step) (e : Event) (m2 : Machine) → Good start ps t m → Does s m p e m2 → Good start (p ∷ ps) (e ∷ t) m2
   good_step on start ps t m p e m2 g d =
       let a = tie_step s t m g.tie on p e.moment e.owner e.what m2 d.1 in
-      let lawful : (c n : ℕ) → Lawful s (request (all s c) n) (owned n (about c t)) = λ c n. (g.tie.conns c).holds.lawful n in
-      let b : IsWithinBytes s (reservations (e ∷ t)) m2.world = subst (λ v. IsWithinBytes s v m2.world) a.1.reserved d.2 in
-      let n = need_of s (request_of s e.owner) (own_of e.owner t) in
+      let lawful : (c n : ℕ) → Lawful s.setup (request (all s c) n) (owned n (about c t)) = λ c n. (g.tie.conns c).holds.lawful n in
+      let b : IsWithinBytes s.setup (reservations (e ∷ t)) m2.world = subst (λ v. IsWithinBytes s.setup v m2.world) a.1.reserved d.2 in
+      let n = need_of s.setup (request_of s e.owner) (own_of e.owner t) in
       let z : ℕ → ℕ = λ l. reserved_at l (reservations t) in
       let w0 = at_moment m.world (ticked m.world.moment e.what) in
       let mv = step_moves t m g.tie p e.moment e.owner e.what m2 d.1 in
@@ -171,7 +171,7 @@ module _ (s : Script) where
   idle_tie m i = record {
       conns = λ c. subst (λ v. ConnTie s (input s c) [] v) (sym (i.conns c)) (conn_new s i.reads_on (input s c)); same_count = i.same_count;
       tokens = omega (arith, i.free); stats = i.stats; opens = λ c n q. (cc); reserved = i.reserved;
-      back = subst (λ v. BackTie s [] v m.handed) (sym i.background) (subst (λ v. BackTie s [] [] v) (sym i.handed) (back_new s));
+      back = subst (λ v. BackTie s.setup [] v m.handed) (sym i.background) (subst (λ v. BackTie s.setup [] [] v) (sym i.handed) (back_new s.setup));
       levels = record { same_length = ap length i.level_stats ∙ i.level_count; is = λ p l. ap (λ v. get_or v l no_level_stats) i.level_stats };
   }
 

@@ -2,7 +2,7 @@
 use Rattle.std.specs.Prelude.{◌≡◌, ℕ, zero, suc, ◌+◌, ◌-◌, ◌^◌, min, ◌<◌, ◌≤◌, Bool, true, false, ◌&&◌, not, if◌then◌else◌, List, [], ◌∷◌, ◌++◌, length, drop, Option, Some, None, Ok, Err, codes, IsTrue, nat_lt}
 use Rattle.sc_model.specs.Job.{At, Own, asked_at, bytes_of, dist_of, finish, is_late, job_of, judge, judged_verdict, miss_of, notes_of, over, put_bytes, refused, run_verdict, sized, stats_of, task_of, work_from}
 use Rattle.sc_model.specs.Plan.{backfills, cause_text, goes_on, handed_by, is_disk, is_none, level_facts, plan, pre_plan, pre_put_result, put_answer, put_result, reads_only}
-use Rattle.sc_model.specs.Script.{Control, Default, Script, control, counted_task}
+use Rattle.sc_model.specs.Script.{Control, Default, Setup, control, counted_task}
 use Rattle.sc_model.specs.declared.event.Answer.{Answer}
 use Rattle.sc_model.specs.declared.event.Answer.TheVariants.{Found as FoundAt, Hit, Refused, Size as SizeIs}
 use Rattle.sc_model.specs.declared.event.DistAnswer.{DistAnswer}
@@ -100,7 +100,7 @@ abbrev pub multi_level : Policy → List Sized → Option (List LevelStats)
 multi_level Single zs = None
 multi_level (Levels ps) zs = Some (counters_in zs)
 
-abbrev pub server_info : Script → ServerStats → List Sized → ServerInfo
+abbrev pub server_info : Setup → ServerStats → List Sized → ServerInfo
 server_info s stats zs = record {
     stats = record stats { multi_level = multi_level s.policy zs };
     cache_location = s.store.location; cache_size = cache_size s.policy zs; max_cache_size = s.store.max_size;
@@ -115,7 +115,7 @@ abbrev pub mode_of : Bool → CacheMode
 mode_of true = ModeReadOnly
 mode_of false = ModeReadWrite
 
-abbrev pub handshake : Script → StorageHandshakeInfo
+abbrev pub handshake : Setup → StorageHandshakeInfo
 handshake s = record {
     location = s.store.location; cache_type_name = s.store.type_name; basedirs = s.store.basedirs; use_preprocessor_cache_mode = s.store.flag;
     cache_mode = mode_of (not (is_none s.levels) && all_read_only s.levels); max_size = s.store.max_size;
@@ -134,31 +134,31 @@ start_write Disk l b = ToReserve l b
 start_write Remote l b = ToWrite Whole l b
 
 -- the next level of a write part
-abbrev pub next_write : Script → Bytes → Refusal → List ℕ → Due
+abbrev pub next_write : Setup → Bytes → Refusal → List ℕ → Due
 next_write s b r [] = ToEndWrite (put_answer s.policy s.levels r) (handed_by s.policy s.levels b r)
 next_write s b r (l ∷ ls) = start_write (kind_at s.levels l) l b
 
 -- the next level of a preprocessor put
-abbrev pub next_pre : Script → Bytes → Refusal → List ℕ → Due
+abbrev pub next_pre : Setup → Bytes → Refusal → List ℕ → Due
 next_pre s b r [] = ToSend (PrePutReply (pre_put_result s.policy r))
 next_pre s b r (l ∷ ls) = ToWrite Pre l b
 
 -- the levels that are left
-abbrev pub left : Script → List Own → List ℕ
+abbrev pub left : Setup → List Own → List ℕ
 left s own = goes_on (refused own) (drop (over own) (plan s.policy s.levels))
 
-abbrev pub left_pre : Script → List Own → List ℕ
+abbrev pub left_pre : Setup → List Own → List ℕ
 left_pre s own = drop (over own) (pre_plan s.policy s.levels)
 
 -- a lookup's next level, or what comes after the last
-abbrev pub ask_next : Script → Mode → ℕ → List ℕ → Due → Due
+abbrev pub ask_next : Setup → Mode → ℕ → List ℕ → Due → Due
 ask_next s mode l k last = if nat_lt l (length s.levels) then ToAsk mode l k else last
 
 abbrev pub is_disk_alone : Policy → List LevelFacts → Bool
 is_disk_alone Single (f ∷ fs) = is_disk f.kind && not f.wrapped
 is_disk_alone _ fs = false
 
-abbrev pub begin_pre : Script → Bool → Request → Due
+abbrev pub begin_pre : Setup → Bool → Request → Due
 begin_pre s true r = next_pre s (put_bytes r) NoneYet (pre_plan s.policy s.levels)
 begin_pre s false r = ToSend (PrePutReply (Err (codes "bad preprocessor entry")))
 
@@ -168,7 +168,7 @@ begin_compile NotCompile = ToSend (Answered UnhandledCompile)
 begin_compile (CannotCache why extra) = ToSend (Answered UnhandledCompile)
 begin_compile (Unsupported text) = ToSend (Answered (UnsupportedCompiler text))
 
-abbrev pub after_began : Script → Request → Told → Due
+abbrev pub after_began : Setup → Request → Told → Due
 after_began s (Compile c) (TellsCompile p) = begin_compile p
 after_began s (GetRaw k) _ = ask_next s Raw 0 k (ToSend (RawReply None))
 after_began s (PutRaw k b) _ = next_write s (put_bytes (PutRaw k b)) NoneYet (plan s.policy s.levels)
@@ -191,20 +191,20 @@ start_work job = if job.client then ToDist else ToTake
 abbrev pub missed : Job → Due
 missed job = if not job.found.locally_preprocessed && job.client then ToKey false else start_work job
 
-abbrev pub after_control : Script → Control → Job → Due
+abbrev pub after_control : Setup → Control → Job → Due
 after_control s Default job = ask_next s Whole 0 job.found.key (missed job)
 after_control s _ job = start_work job
 
-abbrev pub after_key : Script → Request → List Own → ℕ → Bool → Bool → KeyStep → Due
+abbrev pub after_key : Setup → Request → List Own → ℕ → Bool → Bool → KeyStep → Due
 after_key s r own m first client (Key found) = after_control s (control r first) (record { task = task_of own; found = found; at = m; client = client; first = first })
 after_key s r own m first client (KeyError out) = ToEnd KeyStepError (counted_task r (task_of own))
 after_key s r own m first client (KeyFault chain) = ToEnd FatalFault (counted_task r (task_of own))
 
-abbrev pub after_whole : Script → Job → ℕ → ℕ → Answer → Due
+abbrev pub after_whole : Setup → Job → ℕ → ℕ → Answer → Due
 after_whole s job m l (Hit b mark) = if is_late job m then missed job else ToPlace
 after_whole s job m l _ = ask_next s Whole (suc l) job.found.key (missed job)
 
-abbrev pub after_raw : Script → ℕ → List ℕ → Answer → Due
+abbrev pub after_raw : Setup → ℕ → List ℕ → Answer → Due
 after_raw s l k (Hit b mark) = ToSend (RawReply (Some b))
 after_raw s l k _ = ask_next s Raw (suc l) k (ToSend (RawReply None))
 
@@ -212,7 +212,7 @@ abbrev pub after_path : Answer → Due
 after_path (FoundAt p) = ToSend (PathReply (PathFound p))
 after_path _ = ToSend (PathReply PathMiss)
 
-abbrev pub after_pre : Script → ℕ → List ℕ → Answer → Due
+abbrev pub after_pre : Setup → ℕ → List ℕ → Answer → Due
 after_pre s l k (Hit b mark) = ToSend (PreReply (Ok (Some b)))
 after_pre s l k (Refused c) = ToSend (PreReply (Err (cause_text c)))
 after_pre s l k _ = ask_next s Pre (suc l) k (ToSend (PreReply (Ok None)))
@@ -221,10 +221,10 @@ abbrev pub with_size : List Sized → Answer → List Sized
 with_size zs (SizeIs n c) = zs ++ (record { size = n; counters = c }) ∷ []
 with_size zs _ = zs
 
-abbrev pub after_size : Script → Request → ServerStats → List Sized → ℕ → List ℕ → Due
+abbrev pub after_size : Setup → Request → ServerStats → List Sized → ℕ → List ℕ → Due
 after_size s r stats zs l k = ask_next s Sizes (suc l) k (ToSend (stats_reply r (server_info s stats zs)))
 
-abbrev pub after_asked : Script → Request → List Own → ℕ → ℕ → List ℕ → Mode → Answer → Due
+abbrev pub after_asked : Setup → Request → List Own → ℕ → ℕ → List ℕ → Mode → Answer → Due
 after_asked s r own m l k Whole a = after_whole s (job_of own) m l a
 after_asked s r own m l k Raw a = after_raw s l k a
 after_asked s r own m l k Path a = after_path a
@@ -241,19 +241,19 @@ dist_verdict job miss d (DistDone server out) = judged_verdict (judge job miss o
 dist_verdict job miss d (DistHttp text) = HttpError
 dist_verdict job miss d _ = FatalFault
 
-abbrev pub after_dist : Script → Request → List Own → ℕ → DistAnswer → Due
+abbrev pub after_dist : Setup → Request → List Own → ℕ → DistAnswer → Due
 after_dist s r own m (DistOther text) = ToTake
 after_dist s r own m d = ToEnd (dist_verdict (job_of own) (miss_of s r own) (m - work_from own) d) (counted_task r (task_of own))
 
-abbrev pub after_outcome : Script → Request → List Own → Verdict → Due
+abbrev pub after_outcome : Setup → Request → List Own → Verdict → Due
 after_outcome s r own (CacheMiss miss dist d) = next_write s (bytes_of s r own) NoneYet (plan s.policy s.levels)
 after_outcome s r own _ = ToFinish (notes_of s r own) (finish s r own)
 
-abbrev pub after_wrote : Script → Request → List Own → Mode → Due
+abbrev pub after_wrote : Setup → Request → List Own → Mode → Due
 after_wrote s r own Pre = next_pre s (bytes_of s r own) (refused own) (left_pre s own)
 after_wrote s r own _ = next_write s (bytes_of s r own) (refused own) (left s own)
 
-abbrev pub after_write : Script → Request → List Own → Put → Due
+abbrev pub after_write : Setup → Request → List Own → Put → Due
 after_write s (Compile c) own put = ToFinish (notes_of s (Compile c) own) (finish s (Compile c) own)
 after_write s _ own put = ToSend (PutReply (put_result put))
 
@@ -281,7 +281,7 @@ stop (ToFinish ns last) = Stopped (notes_then ns last)
 stop _ = Over
 
 -- what is due after these events
-abbrev pub due : Script → Request → List Own → Due
+abbrev pub due : Setup → Request → List Own → Due
 due s r [] = ToBegin
 due s r (At m (Began q told) ∷ own) = after_began s r told
 due s r (At m (Keyed first client step) ∷ own) = after_key s r own m first client step
@@ -313,7 +313,7 @@ due_back fs h (At m (Filled l k b mark WriteDone) ∷ own) = ToCommit h.level (b
 due_back fs h (_ ∷ own) = Over
 
 -- which Began fits the request; the others' events are another matter
-abbrev pub Begins : Script → Request → Told → Type 0
+abbrev pub Begins : Setup → Request → Told → Type 0
 Begins s (Compile c) (TellsCompile p) = IsTrue (s.compilers.may_read c p)
 Begins s (PutPre k b) (TellsValid v) = v ≡ s.compilers.is_valid b
 Begins s GetStats (TellsStats stats) = Unit {0}
@@ -329,15 +329,15 @@ Begins s (GetPre k) TellsNothing = Unit {0}
 Begins s _ _ = ⊥
 
 -- which key step fits; its answer is the container's kept message or one that the compiler part may give
-abbrev pub Keys : Script → Request → Bool → KeyStep → Type 0
+abbrev pub Keys : Setup → Request → Bool → KeyStep → Type 0
 Keys s (Compile c) first step = Unit {0}
 Keys s _ first step = ⊥
 
-abbrev pub payload_size : Script → Response → ℕ
+abbrev pub payload_size : Setup → Response → ℕ
 payload_size s g = length (s.codec.payload g)
 
 -- the event that comes is the one that is due
-abbrev pub Fits : Script → Request → Due → What → Type 0
+abbrev pub Fits : Setup → Request → Due → What → Type 0
 Fits s r ToBegin (Began q told) = (q ≡ r) × Begins s r told
 Fits s r (ToSend f) (Sent g) = (g ≡ f) × (payload_size s f ≤ s.limit)
 Fits s r (ToSend f) (TooLong n) = (n ≡ payload_size s f) × (s.limit < n)
@@ -361,6 +361,6 @@ Fits s r _ _ = ⊥
 abbrev pub what_of : Own → What
 what_of (At m x) = x
 
-abbrev pub Lawful : Script → Request → List Own → Type 0
+abbrev pub Lawful : Setup → Request → List Own → Type 0
 Lawful s r [] = Unit {0}
 Lawful s r (x ∷ own) = Fits s r (due s r own) (what_of x) × Lawful s r own

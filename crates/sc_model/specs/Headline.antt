@@ -6,7 +6,7 @@ use Rattle.sc_model.specs.Job.{At, Own, finish, finish_fatal, finish_hit, finish
 use Rattle.sc_model.specs.Next.{Leads, due_of}
 use Rattle.sc_model.specs.Origin.{Origin}
 use Rattle.sc_model.specs.Rows.{level_total, total}
-use Rattle.sc_model.specs.Script.{End, IsOpen, Script, input, is_single}
+use Rattle.sc_model.specs.Script.{End, IsOpen, Script, Setup, input, is_single}
 use Rattle.sc_model.specs.Trace.{Given, Mine, about, all, came, end_of, left_writes, open_runs, owned, request, reservations, sent, taken}
 use Rattle.sc_model.specs.World.{IsWithinBytes, World}
 use Rattle.sc_model.specs.declared.event.Answer.TheVariants.{Hit}
@@ -35,7 +35,7 @@ abbrev pub IsPrefixOf : {A : Type 0} → List A → List A → Type 0
 IsPrefixOf {A} xs ys = (rest : List A) × (xs ++ rest ≡ ys)
 
 -- the frames of the first n requests of a connection
-abbrev pub frames_upto : Script → List Request → ℕ → List Mine → List Response
+abbrev pub frames_upto : Setup → List Request → ℕ → List Mine → List Response
 frames_upto s rs zero t = []
 frames_upto s rs (suc n) t = frames_upto s rs n t ++ frames s (request rs n) (owned n t)
 
@@ -51,7 +51,7 @@ OfARequest s t _ P = Unit {0}
 
 -- a reply is begun only where all requests before it are over
 abbrev pub Begins_in_order : Script → List Event → Owner → What → Type 0
-Begins_in_order s t (OfRequest c n) (Sent g) = (m : ℕ) → m < n → due_of s (all s c) m (about c t) ≡ Over
+Begins_in_order s t (OfRequest c n) (Sent g) = (m : ℕ) → m < n → due_of s.setup (all s c) m (about c t) ≡ Over
 Begins_in_order s t o x = Unit {0}
 
 abbrev pub IsInOrder : Script → List Event → Event → Type 0
@@ -63,7 +63,7 @@ HasHit k b [] = ⊥
 HasHit k b (At m (Asked l i Whole (Hit d mark) hs) ∷ own) = ((i ≡ k) × (d ≡ b)) ⊎ HasHit k b own
 HasHit k b (_ ∷ own) = HasHit k b own
 
-abbrev pub HasOutput : Script → Request → CompileFinished → List Own → Type 0
+abbrev pub HasOutput : Setup → Request → CompileFinished → List Own → Type 0
 HasOutput s r f [] = ⊥
 HasOutput s r f (At m (Ran (RanOutput out)) ∷ own) = (f ≡ finish_output s r out.output) ⊎ HasOutput s r f own
 HasOutput s r f (At m (Ran (RanError out)) ∷ own) = (f ≡ finish_output s r out) ⊎ HasOutput s r f own
@@ -71,7 +71,7 @@ HasOutput s r f (At m (Dist (DistDone server out)) ∷ own) = (f ≡ finish_outp
 HasOutput s r f (At m (Keyed first client (KeyError out)) ∷ own) = (f ≡ finish_output s r out) ⊎ HasOutput s r f own
 HasOutput s r f (_ ∷ own) = HasOutput s r f own
 
-abbrev pub HasFault : Script → Request → CompileFinished → List Own → Type 0
+abbrev pub HasFault : Setup → Request → CompileFinished → List Own → Type 0
 HasFault s r f [] = ⊥
 HasFault s r f (At m (Ran (RanFault chain)) ∷ own) = (f ≡ finish_fatal s r chain) ⊎ HasFault s r f own
 HasFault s r f (At m (Ran (RanOutput out)) ∷ own) = ((chain : List (List ℕ)) × (out.objects ≡ Broken chain) × (f ≡ finish_fatal s r chain)) ⊎ HasFault s r f own
@@ -82,11 +82,11 @@ HasFault s r f (At m (Placed (PlaceFault chain)) ∷ own) = (f ≡ finish_fatal 
 HasFault s r f (At m (Keyed first client (KeyFault chain)) ∷ own) = (f ≡ finish_fatal s r chain) ⊎ HasFault s r f own
 HasFault s r f (_ ∷ own) = HasFault s r f own
 
-abbrev pub Carries : Script → Request → CompileFinished → List Own → Type 0
+abbrev pub Carries : Setup → Request → CompileFinished → List Own → Type 0
 Carries s r f own = (HasOutput s r f own ⊎ ((b : List ℕ) × HasHit (job_of own).found.key b own × (f ≡ finish_hit s r b))) ⊎ HasFault s r f own
 
 abbrev pub Finishes : Script → List Event → Owner → What → Type 0
-Finishes s t (OfRequest c n) (Sent (Finished f)) = (f ≡ finish s (request (all s c) n) (owned n (about c t))) × Carries s (request (all s c) n) f (owned n (about c t))
+Finishes s t (OfRequest c n) (Sent (Finished f)) = (f ≡ finish s.setup (request (all s c) n) (owned n (about c t))) × Carries s.setup (request (all s c) n) f (owned n (about c t))
 Finishes s t o x = Unit {0}
 
 abbrev pub IsFinished : Script → List Event → Event → Type 0
@@ -114,27 +114,27 @@ HasStored [] = ⊥
 HasStored (At m (WriteEnded put hs) ∷ own) = Unit {0}
 HasStored (_ ∷ own) = HasStored own
 
-abbrev pub Stores : Script → List Own → Type 0
+abbrev pub Stores : Setup → List Own → Type 0
 Stores s own = IsStorable own → HasStored own × (left s own ≡ [])
 
 -- a storable run is handed to the store before its first notification and its last reply
-abbrev pub StoresBefore : Script → List Event → Owner → What → Type 0
+abbrev pub StoresBefore : Setup → List Event → Owner → What → Type 0
 StoresBefore s t (OfRequest c n) (Sent (Finished f)) = Stores s (owned n (about c t))
 StoresBefore s t (OfRequest c n) (Sent (Note line)) = Stores s (owned n (about c t))
 StoresBefore s t o x = Unit {0}
 
-abbrev pub IsStoredFirst : Script → List Event → Event → Type 0
+abbrev pub IsStoredFirst : Setup → List Event → Event → Type 0
 IsStoredFirst s t e = StoresBefore s t e.owner e.what
 
 -- after every event the open runs are within the tokens
-abbrev pub RunsWithin : Script → List Event → Event → Type 0
+abbrev pub RunsWithin : Setup → List Event → Event → Type 0
 RunsWithin s t e = length (open_runs (e ∷ t)) ≤ s.tokens
 
 -- after every event each disk level is within its capacity
 abbrev pub BytesWithin : Script → World → List Step → List Event → World → Type 0
 BytesWithin s start [] t end = Unit {0}
 BytesWithin s start (p ∷ ps) [] end = Unit {0}
-BytesWithin s start (p ∷ ps) (e ∷ t) end = IsWithinBytes s (reservations (e ∷ t)) end × ((mid : World) × Leads s start ps t mid × BytesWithin s start ps t mid)
+BytesWithin s start (p ∷ ps) (e ∷ t) end = IsWithinBytes s.setup (reservations (e ∷ t)) end × ((mid : World) × Leads s start ps t mid × BytesWithin s start ps t mid)
 
 -- what the daemon counted and has left, and what each connection came to
 pub record Result_of_run : Type 0 where
@@ -152,16 +152,16 @@ pub record Headline (s : Script) (start : World) (steps : List Step) (t : List E
   pub ends : (c : ℕ) → c < length s.inputs → slice_index_or last.ends c IsOpen ≡ end_of s (about c t)
   -- each connection was sent a prefix of what its requests are owed, one request after the other
   pub replies : (c : ℕ) → c < length s.inputs → slice_index_or last.replies c [] ≡ sent (about c t)
-  pub sends : (c : ℕ) → IsPrefixOf (sent (about c t)) (frames_upto s (all s c) (length (came s c t)) (about c t))
+  pub sends : (c : ℕ) → IsPrefixOf (sent (about c t)) (frames_upto s.setup (all s c) (length (came s c t)) (about c t))
   pub in_order : Each (IsInOrder s) t
   -- each finished compile carries its own run's output, its hit's under its key, or a fault's text; each hit is rightful
   pub finished : Each (IsFinished s) t
   pub rightful : Each (IsRightful s start) t
-  pub stored_first : Each (IsStoredFirst s) t
+  pub stored_first : Each (IsStoredFirst s.setup) t
   pub bytes_within : BytesWithin s start steps t end
-  pub runs_within : Each (RunsWithin s) t
+  pub runs_within : Each (RunsWithin s.setup) t
   -- the counters are the sums of the rows
   pub counted : last.stats ≡ total s t
-  pub levels_counted : is_single s.policy ≡ false → (l : ℕ) → l < length s.levels → slice_index_or last.level_stats l no_level_stats ≡ level_total s t l
+  pub levels_counted : is_single s.setup.policy ≡ false → (l : ℕ) → l < length s.setup.levels → slice_index_or last.level_stats l no_level_stats ≡ level_total s t l
   -- the writes handed and not done, in order
   pub background : last.background ≡ left_writes t

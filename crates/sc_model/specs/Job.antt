@@ -1,7 +1,7 @@
 -- What a request's own events tell of its job, the newest event first. 
 use Rattle.std.specs.Prelude.{ℕ, zero, suc, ◌+◌, ◌-◌, Bool, true, false, ◌==◌, if◌then◌else◌, List, [], ◌∷◌, ◌++◌, Option, Some, None, codes, bytes_eq, pos, negsuc, ℤ, nat_lt}
 use Rattle.sc_model.specs.Plan.{note}
-use Rattle.sc_model.specs.Script.{Control, Default, ForceNoCache, ForceRecache, Script, control, no_task}
+use Rattle.sc_model.specs.Script.{Control, Default, ForceNoCache, ForceRecache, Setup, control, no_task}
 use Rattle.sc_model.specs.declared.event.Answer.{Answer}
 use Rattle.sc_model.specs.declared.event.Answer.TheVariants.{Hit, Refused, Size as SizeIs}
 use Rattle.sc_model.specs.declared.event.CompilerKind.{CompilerKind}
@@ -89,7 +89,7 @@ by_answer Single (Refused c) = CacheReadError
 by_answer _ a = Normal
 
 -- what kind of miss it is
-abbrev pub miss_of : Script → Request → List Own → MissType
+abbrev pub miss_of : Setup → Request → List Own → MissType
 miss_of s r [] = Normal
 miss_of s r (At m (Keyed first client step) ∷ own) = forced (control r first)
 miss_of s r (At m (Asked l k mode a hs) ∷ own) = if_late (is_late (job_of own) m) (by_answer s.policy a)
@@ -177,21 +177,21 @@ abbrev pub kept_lines : (List ℕ → Bool) → List (List ℕ) → List (List �
 kept_lines test [] = []
 kept_lines test (l ∷ ls) = if test l then l ∷ kept_lines test ls else kept_lines test ls
 
-abbrev pub note_test : Script → Request → List ℕ → Bool
+abbrev pub note_test : Setup → Request → List ℕ → Bool
 note_test s (Compile c) line = s.compilers.is_note c line
 note_test s _ line = false
 
-abbrev pub notes_in : Script → Request → CompilerKind → List ℕ → List (List ℕ)
+abbrev pub notes_in : Setup → Request → CompilerKind → List ℕ → List (List ℕ)
 notes_in s r KindRust stderr = kept_lines (note_test s r) (lines stderr)
 notes_in s r (KindC k) stderr = []
 
 -- the notifications of a local Rust run
-abbrev pub run_notes : Script → Request → Task → RunAnswer → List (List ℕ)
+abbrev pub run_notes : Setup → Request → Task → RunAnswer → List (List ℕ)
 run_notes s r task (RanOutput out) = notes_in s r task.kind out.output.stderr
 run_notes s r task (RanError out) = notes_in s r task.kind out.stderr
 run_notes s r task (RanFault chain) = []
 
-abbrev pub notes_of : Script → Request → List Own → List (List ℕ)
+abbrev pub notes_of : Setup → Request → List Own → List (List ℕ)
 notes_of s r [] = []
 notes_of s r (At m (Ran a) ∷ own) = run_notes s r (task_of own) a
 notes_of s r (At m (Dist d) ∷ own) = []
@@ -200,11 +200,11 @@ notes_of s r (At m (Keyed first client step) ∷ own) = []
 notes_of s r (_ ∷ own) = notes_of s r own
 
 -- the last reply of a compile
-abbrev pub color_of : Script → Request → ColorMode
+abbrev pub color_of : Setup → Request → ColorMode
 color_of s (Compile c) = s.compilers.color c
 color_of s _ = ColorAuto
 
-abbrev pub pretty_of : Script → Request → List ℕ
+abbrev pub pretty_of : Setup → Request → List ℕ
 pretty_of s (Compile c) = s.compilers.pretty c
 pretty_of s _ = []
 
@@ -216,7 +216,7 @@ abbrev pub signal : Status → Option ℤ
 signal (Signal n) = Some (pos n)
 signal _ = None
 
-abbrev pub finish_output : Script → Request → Output → CompileFinished
+abbrev pub finish_output : Setup → Request → Output → CompileFinished
 finish_output s r out = record { retcode = retcode out.status; signal = signal out.status; stdout = out.stdout; stderr = out.stderr; color_mode = color_of s r }
 
 abbrev pub caused_by : List (List ℕ) → List ℕ
@@ -230,10 +230,10 @@ first_text (t ∷ ts) = t
 abbrev pub fatal_text : List (List ℕ) → List ℕ
 fatal_text chain = codes "sccache: encountered fatal error" ++ 10 ∷ codes "sccache: error: " ++ first_text chain ++ 10 ∷ caused_by chain
 
-abbrev pub finish_fatal : Script → Request → List (List ℕ) → CompileFinished
+abbrev pub finish_fatal : Setup → Request → List (List ℕ) → CompileFinished
 finish_fatal s r chain = record { retcode = Some (negsuc 1); signal = None; stdout = []; stderr = fatal_text chain; color_mode = color_of s r }
 
-abbrev pub finish_http : Script → Request → List ℕ → CompileFinished
+abbrev pub finish_http : Setup → Request → List ℕ → CompileFinished
 finish_http s r text = record { retcode = Some (pos 1); signal = None; stdout = []; stderr = codes "[\"" ++ pretty_of s r ++ codes "\"] http error status: " ++ text; color_mode = color_of s r }
 
 abbrev pub object_bytes : List ℕ → List Object → List ℕ
@@ -245,35 +245,35 @@ stored_bytes None name = []
 stored_bytes (Some os) name = object_bytes name os
 
 -- what a hit's entry holds
-abbrev pub finish_hit : Script → Request → List ℕ → CompileFinished
+abbrev pub finish_hit : Setup → Request → List ℕ → CompileFinished
 finish_hit s r b = record { retcode = Some (pos 0); signal = None; stdout = stored_bytes (s.codec.objects b) (codes "stdout"); stderr = stored_bytes (s.codec.objects b) (codes "stderr"); color_mode = color_of s r }
 
-abbrev pub finish_judged : Script → Request → Judged → Output → CompileFinished
+abbrev pub finish_judged : Setup → Request → Judged → Output → CompileFinished
 finish_judged s r (IsBroken chain) out = finish_fatal s r chain
 finish_judged s r _ out = finish_output s r out
 
-abbrev pub finish_run : Script → Request → Job → MissType → RunAnswer → CompileFinished
+abbrev pub finish_run : Setup → Request → Job → MissType → RunAnswer → CompileFinished
 finish_run s r job miss (RanOutput out) = finish_judged s r (judge job miss out) out.output
 finish_run s r job miss (RanError out) = finish_output s r out
 finish_run s r job miss (RanFault chain) = finish_fatal s r chain
 
-abbrev pub finish_dist : Script → Request → Job → MissType → DistAnswer → CompileFinished
+abbrev pub finish_dist : Setup → Request → Job → MissType → DistAnswer → CompileFinished
 finish_dist s r job miss (DistDone server out) = finish_judged s r (judge job miss out) out.output
 finish_dist s r job miss (DistHttp text) = finish_http s r text
 finish_dist s r job miss (DistTooLarge text) = finish_fatal s r (text ∷ [])
 finish_dist s r job miss (DistOther text) = finish_fatal s r (text ∷ [])
 
-abbrev pub finish_key : Script → Request → KeyStep → CompileFinished
+abbrev pub finish_key : Setup → Request → KeyStep → CompileFinished
 finish_key s r (Key found) = finish_fatal s r []
 finish_key s r (KeyError out) = finish_output s r out
 finish_key s r (KeyFault chain) = finish_fatal s r chain
 
-abbrev pub finish_place : Script → Request → Placing → List ℕ → CompileFinished
+abbrev pub finish_place : Setup → Request → Placing → List ℕ → CompileFinished
 finish_place s r (PlaceFault chain) b = finish_fatal s r chain
 finish_place s r _ b = finish_hit s r b
 
 -- how a job finished: by its run, its distributed run, its placing or its key step, whichever was last
-abbrev pub finish : Script → Request → List Own → CompileFinished
+abbrev pub finish : Setup → Request → List Own → CompileFinished
 finish s r [] = finish_fatal s r []
 finish s r (At m (Ran a) ∷ own) = finish_run s r (job_of own) (miss_of s r own) a
 finish s r (At m (Dist d) ∷ own) = finish_dist s r (job_of own) (miss_of s r own) d
@@ -290,7 +290,7 @@ abbrev pub objects_of : Objects → List Object
 objects_of (Collected os) = os
 objects_of (Broken chain) = []
 
-abbrev pub entry_of : Script → RunOutput → List ℕ
+abbrev pub entry_of : Setup → RunOutput → List ℕ
 entry_of s out = s.codec.entry (objects_of out.objects ++ stream (codes "stdout") out.output.stdout ++ stream (codes "stderr") out.output.stderr)
 
 abbrev pub put_bytes : Request → Bytes
@@ -299,10 +299,10 @@ put_bytes (PutPre k b) = record { key = k; bytes = b; run = false }
 put_bytes _ = record { key = []; bytes = []; run = false }
 
 -- a local run made it, or not
-abbrev pub run_bytes : Script → Job → Bool → RunOutput → Bytes
+abbrev pub run_bytes : Setup → Job → Bool → RunOutput → Bytes
 run_bytes s job run out = record { key = job.found.key; bytes = entry_of s out; run = run }
 
-abbrev pub bytes_of : Script → Request → List Own → Bytes
+abbrev pub bytes_of : Setup → Request → List Own → Bytes
 bytes_of s r [] = put_bytes r
 bytes_of s r (At m (Ran (RanOutput out)) ∷ own) = run_bytes s (job_of own) true out
 bytes_of s r (At m (Dist (DistDone server out)) ∷ own) = run_bytes s (job_of own) false out

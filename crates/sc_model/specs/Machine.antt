@@ -6,7 +6,7 @@ use Rattle.sc_model.specs.Job.{IsStored, Judged, by_answer, finish_dist, finish_
 use Rattle.sc_model.specs.Next.{Ended, at_moment, ticked}
 use Rattle.sc_model.specs.Plan.{cause_text, goes_on, note, plan, pre_plan, put_result}
 use Rattle.sc_model.specs.Rows.{Direct, by_backfill, count, level_named, level_row, row, zeroes}
-use Rattle.sc_model.specs.Script.{BadFrame, Control, Default, End, ReadsOn, Script, control, counted_task, input}
+use Rattle.sc_model.specs.Script.{BadFrame, Control, Default, End, ReadsOn, Script, Setup, control, counted_task, input}
 use Rattle.sc_model.specs.Trace.{Given, Open, ends_write, hands, if_too_long, no_request, request, reserved_at, reserved_by, sent_by}
 use Rattle.sc_model.specs.World.{IsWithinBytes, Moves, Need, World, may_of, need_of, placed_of}
 use Rattle.sc_model.specs.declared.event.Answer.{Answer}
@@ -71,7 +71,7 @@ abbrev pub key_of_job : Job → List ℕ
 key_of_job job = job.found.key
 
 -- what is due at a phase
-abbrev pub due_at : Script → Request → Phase → Due
+abbrev pub due_at : Setup → Request → Phase → Due
 due_at s r AtBegin = ToBegin
 due_at s r (AtSend f) = ToSend f
 due_at s r (AtStarted task) = ToSend (Answered CompileStarted)
@@ -96,7 +96,7 @@ due_at s r (AtEnded left) = Stopped left
 due_at s r AtOver = Over
 
 -- the phase after an answer: a lookup's next level, or what comes after the last
-abbrev pub phase_next : Script → ℕ → Phase → Phase → Phase
+abbrev pub phase_next : Setup → ℕ → Phase → Phase → Phase
 phase_next s l next last = if nat_lt l (length s.levels) then next else last
 
 abbrev pub begin_compile_phase : Parsed → Phase
@@ -105,11 +105,11 @@ begin_compile_phase NotCompile = AtSend (Answered UnhandledCompile)
 begin_compile_phase (CannotCache why extra) = AtSend (Answered UnhandledCompile)
 begin_compile_phase (Unsupported text) = AtSend (Answered (UnsupportedCompiler text))
 
-abbrev pub begin_pre_phase : Script → Bool → Request → Phase
+abbrev pub begin_pre_phase : Setup → Bool → Request → Phase
 begin_pre_phase s true r = PrePut (put_bytes r) (pre_plan s.policy s.levels) NoneYet
 begin_pre_phase s false r = AtSend (PrePutReply (Err (codes "bad preprocessor entry")))
 
-abbrev pub begin_phase : Script → Request → Told → Phase
+abbrev pub begin_phase : Setup → Request → Told → Phase
 begin_phase s (Compile c) (TellsCompile p) = begin_compile_phase p
 begin_phase s (GetRaw k) _ = phase_next s 0 (RawAsk 0 k) (AtSend (RawReply None))
 begin_phase s (PutRaw k b) _ = AtWrite (put_bytes (PutRaw k b)) (plan s.policy s.levels) NoneYet None
@@ -134,27 +134,27 @@ work_phase job miss m = if job.client then AtDist (work_of job miss m) else AtTa
 abbrev pub missed_phase : Job → MissType → ℕ → Phase
 missed_phase job miss m = if not job.found.locally_preprocessed && job.client then AtKey job.task false else work_phase job miss m
 
-abbrev pub control_phase : Script → Control → Job → ℕ → Phase
+abbrev pub control_phase : Setup → Control → Job → ℕ → Phase
 control_phase s Default job m = phase_next s 0 (AtAsk job 0) (missed_phase job Normal m)
 control_phase s c job m = work_phase job (forced c) m
 
 abbrev pub ending_of : List (List ℕ) → CompileFinished → Ending
 ending_of ns last = record { notes = ns; last = last }
 
-abbrev pub key_phase : Script → Request → Task → ℕ → Bool → Bool → KeyStep → Phase
+abbrev pub key_phase : Setup → Request → Task → ℕ → Bool → Bool → KeyStep → Phase
 key_phase s r task m first client (Key found) = control_phase s (control r first) (record { task = task; found = found; at = m; client = client; first = first }) m
 key_phase s r task m first client (KeyError out) = AtEnd KeyStepError task (ending_of [] (finish_output s r out))
 key_phase s r task m first client (KeyFault chain) = AtEnd FatalFault task (ending_of [] (finish_fatal s r chain))
 
 -- the miss that a lookup's last answer makes
-abbrev pub asked_miss : Script → Job → ℕ → Answer → MissType
+abbrev pub asked_miss : Setup → Job → ℕ → Answer → MissType
 asked_miss s job m a = if_late (is_late job m) (by_answer s.policy a)
 
-abbrev pub whole_phase : Script → Job → ℕ → ℕ → Answer → Phase
+abbrev pub whole_phase : Setup → Job → ℕ → ℕ → Answer → Phase
 whole_phase s job m l (Hit b mark) = if is_late job m then missed_phase job (asked_miss s job m (Hit b mark)) m else AtPlace job b (m - job.at)
 whole_phase s job m l a = phase_next s (suc l) (AtAsk job (suc l)) (missed_phase job (asked_miss s job m a) m)
 
-abbrev pub raw_phase : Script → ℕ → List ℕ → Answer → Phase
+abbrev pub raw_phase : Setup → ℕ → List ℕ → Answer → Phase
 raw_phase s l k (Hit b mark) = AtSend (RawReply (Some b))
 raw_phase s l k _ = phase_next s (suc l) (RawAsk (suc l) k) (AtSend (RawReply None))
 
@@ -162,15 +162,15 @@ abbrev pub path_phase : Answer → Phase
 path_phase (FoundAt p) = AtSend (PathReply (PathFound p))
 path_phase _ = AtSend (PathReply PathMiss)
 
-abbrev pub pre_phase : Script → ℕ → List ℕ → Answer → Phase
+abbrev pub pre_phase : Setup → ℕ → List ℕ → Answer → Phase
 pre_phase s l k (Hit b mark) = AtSend (PreReply (Ok (Some b)))
 pre_phase s l k (Refused c) = AtSend (PreReply (Err (cause_text c)))
 pre_phase s l k _ = phase_next s (suc l) (PreAsk (suc l) k) (AtSend (PreReply (Ok None)))
 
-abbrev pub size_phase : Script → Request → ServerStats → List Sized → ℕ → Phase
+abbrev pub size_phase : Setup → Request → ServerStats → List Sized → ℕ → Phase
 size_phase s r stats zs l = phase_next s (suc l) (SizeAsk (suc l) stats zs) (AtSend (stats_reply r (server_info s stats zs)))
 
-abbrev pub placed_phase : Script → Request → Job → List ℕ → ℕ → ℕ → Placing → Phase
+abbrev pub placed_phase : Setup → Request → Job → List ℕ → ℕ → ℕ → Placing → Phase
 placed_phase s r job b d m PlaceDone = AtEnd (CacheHit d) job.task (ending_of [] (finish_hit s r b))
 placed_phase s r job b d m (Missing name) = missed_phase job CacheReadError m
 placed_phase s r job b d m (PlaceFault chain) = AtEnd FatalFault job.task (ending_of [] (finish_fatal s r chain))
@@ -180,13 +180,13 @@ abbrev pub judged_phase : Judged → Verdict → Task → Bytes → Ending → P
 judged_phase (IsStored os) v task b ending = AtStore v task b ending
 judged_phase _ v task b ending = AtEnd v task ending
 
-abbrev pub ran_phase : Script → Request → Work → ℕ → RunAnswer → Phase
+abbrev pub ran_phase : Setup → Request → Work → ℕ → RunAnswer → Phase
 ran_phase s r work m (RanOutput out) =
     judged_phase (judge work.job work.miss out) (run_verdict work.job work.miss work.dist (m - work.from) (RanOutput out)) work.job.task
         (run_bytes s work.job true out) (ending_of (run_notes s r work.job.task (RanOutput out)) (finish_run s r work.job work.miss (RanOutput out)))
 ran_phase s r work m a = AtEnd (run_verdict work.job work.miss work.dist (m - work.from) a) work.job.task (ending_of (run_notes s r work.job.task a) (finish_run s r work.job work.miss a))
 
-abbrev pub dist_phase : Script → Request → Work → ℕ → DistAnswer → Phase
+abbrev pub dist_phase : Setup → Request → Work → ℕ → DistAnswer → Phase
 dist_phase s r work m (DistDone server out) =
     judged_phase (judge work.job work.miss out) (dist_verdict work.job work.miss (m - work.from) (DistDone server out)) work.job.task
         (run_bytes s work.job false out) (ending_of [] (finish_dist s r work.job work.miss (DistDone server out)))
@@ -221,7 +221,7 @@ stopped (ToFinish ns last) = AtEnded (notes_then ns last)
 stopped _ = AtOver
 
 -- the phase after an event of this moment
-abbrev pub after : Script → Request → Phase → ℕ → What → Phase
+abbrev pub after : Setup → Request → Phase → ℕ → What → Phase
 after s r AtBegin m (Began q told) = begin_phase s r told
 after s r (AtSend f) m (Sent g) = AtOver
 after s r (AtStarted task) m (Sent g) = AtKey task true
@@ -304,7 +304,7 @@ long_after old _ = old
 abbrev pub told_by : Conn → ℕ → What → Conn
 told_by k m x = record k { last = m; outcome = outcome_after k.outcome m x; reserved = reserved_after k.reserved m x; replies = k.replies ++ sent_by x; long = long_after k.long x }
 
-abbrev pub advanced : Script → Conn → ℕ → What → Conn
+abbrev pub advanced : Setup → Conn → ℕ → What → Conn
 advanced s k m x = settle (told_by k m x) (after s (current k) k.phase m x)
 
 -- more bytes come
@@ -320,7 +320,7 @@ free_after free (Ran a) = free + 1
 free_after free _ = free
 
 -- what the job at this phase needs of the parts
-abbrev pub need_at : Script → Request → Phase → Need
+abbrev pub need_at : Setup → Request → Phase → Need
 need_at s r (AtRun work) = record { may = may_of s r; key = work.job.found.key; outputs = []; hit = [] }
 need_at s r (AtPlace job b d) = record { may = may_of s r; key = []; outputs = placed_of job.found.locally_preprocessed job.found.outputs; hit = b }
 need_at s r _ = record { may = may_of s r; key = []; outputs = []; hit = [] }
@@ -375,13 +375,13 @@ counters_at Single ls l = None
 counters_at (Levels ps) ls l = Some (slice_index_or ls l no_level_stats)
 
 -- what the code tells of its counters
-abbrev pub Says : Script → Machine → What → Type 0
+abbrev pub Says : Setup → Machine → What → Type 0
 Says s m (Began q (TellsStats stats)) = stats ≡ m.stats
 Says s m (Asked l k Sizes (SizeIs n c) hs) = c ≡ counters_at s.policy m.level_stats l
 Says s m _ = Unit {0}
 
 -- an event of the request that is served on connection c
-abbrev pub served : Script → Machine → ℕ → ℕ → What → World → Machine
+abbrev pub served : Setup → Machine → ℕ → ℕ → What → World → Machine
 served s m c z x w = record {
     conns = slice_set m.conns c (advanced s (conn m c) z x);
     free = free_after m.free x;
@@ -394,23 +394,23 @@ served s m c z x w = record {
 }
 
 -- an event of the ith handed write that is left
-abbrev pub backed : Script → Machine → ℕ → Pending → ℕ → What → World → Machine
+abbrev pub backed : Setup → Machine → ℕ → Pending → ℕ → What → World → Machine
 backed s m i p z x w = record m {
     level_stats = counted_level s.policy (level_row (by_backfill p.backfill p.at) 0 p.since z x) x m.level_stats;
     background = pending_after (ends_write x) i z x m.background; reserved = reserved_by (OfWrite p.number) x m.reserved; world = w;
 }
 
-abbrev pub IsStopped : Machine → Script → ℕ → Type 0
+abbrev pub IsStopped : Machine → Setup → ℕ → Type 0
 IsStopped m s c = (0 < length (conn m c).queue) × Ended (due_at s (current (conn m c)) (conn m c).phase)
 
 abbrev pub NoMore : Script → Machine → ℕ → Type 0
-NoMore s m c = (((conn m c).closed ≡ true) ⊎ (s.reader.ends (conn m c).rest false ≡ BadFrame)) ⊎ IsStopped m s c
+NoMore s m c = (((conn m c).closed ≡ true) ⊎ (s.reader.ends (conn m c).rest false ≡ BadFrame)) ⊎ IsStopped m s.setup c
 
 -- nothing is there to serve, the connection has ended, or a token is waited for
-abbrev pub IdleServe : Script → Machine → ℕ → Type 0
+abbrev pub IdleServe : Setup → Machine → ℕ → Type 0
 IdleServe s m c = ((length (conn m c).queue ≡ 0) ⊎ IsStopped m s c) ⊎ ((0 < length (conn m c).queue) × (due_at s (current (conn m c)) (conn m c).phase ≡ ToTake) × (m.free ≡ 0))
 
-abbrev pub DoesServe : Script → Machine → ℕ → ℕ → Owner → What → Machine → Type 0
+abbrev pub DoesServe : Setup → Machine → ℕ → ℕ → Owner → What → Machine → Type 0
 DoesServe s m c z Nobody Idle m2 = IdleServe s m c × (m2 ≡ m)
 DoesServe s m c z (OfRequest d j) x m2 =
     (d ≡ c) × (c < length m.conns) × (j ≡ (conn m c).at) × (0 < length (conn m c).queue) × Fits s (current (conn m c)) (due_at s (current (conn m c)) (conn m c).phase) x
@@ -428,7 +428,7 @@ DoesRead s m c n Nobody (Closed d) m2 =
     × (m2 ≡ record m { conns = slice_set m.conns c (shut (conn m c)) })
 DoesRead s m c n o x m2 = ⊥
 
-abbrev pub DoesBack : Script → Machine → ℕ → ℕ → Owner → What → Machine → Type 0
+abbrev pub DoesBack : Setup → Machine → ℕ → ℕ → Owner → What → Machine → Type 0
 DoesBack s m i z Nobody Idle m2 = (length m.background ≤ i) × (m2 ≡ m)
 DoesBack s m i z (OfWrite n) x m2 =
     (p : Pending) × (pending_at i m.background ≡ Some p) × (n ≡ p.number) × Fits s no_request (due_pending s.levels p) x
@@ -441,13 +441,13 @@ DoesPass m n o x m2 = ⊥
 
 abbrev pub DoesStep : Script → Machine → Step → ℕ → Owner → What → Machine → Type 0
 DoesStep s m (Read c n) z o x m2 = DoesRead s m c n o x m2
-DoesStep s m (Serve c) z o x m2 = DoesServe s m c z o x m2
-DoesStep s m (Back i) z o x m2 = DoesBack s m i z o x m2
+DoesStep s m (Serve c) z o x m2 = DoesServe s.setup m c z o x m2
+DoesStep s m (Back i) z o x m2 = DoesBack s.setup m i z o x m2
 DoesStep s m (Pass n) z o x m2 = DoesPass m n o x m2
 
 -- what the code's step does; afterwards each disk level is within its capacity
 abbrev pub Does : Script → Machine → Step → Event → Machine → Type 0
-Does s m p e m2 = (e.moment ≡ ticked m.world.moment e.what) × DoesStep s m p e.moment e.owner e.what m2 × IsWithinBytes s m2.reserved m2.world
+Does s m p e m2 = (e.moment ≡ ticked m.world.moment e.what) × DoesStep s m p e.moment e.owner e.what m2 × IsWithinBytes s.setup m2.reserved m2.world
 
 -- a run of the machine, the newest step and event first
 abbrev pub Runs : Script → Machine → List Step → List Event → Machine → Type 0
@@ -461,10 +461,10 @@ pub record IsIdle (s : Script) (m : Machine) : Type 0 where
   pub reads_on : ReadsOn s.reader
   pub conns : (c : ℕ) → conn m c ≡ new_conn
   pub same_count : length m.conns ≡ length s.inputs
-  pub free : m.free ≡ s.tokens
+  pub free : m.free ≡ s.setup.tokens
   pub stats : m.stats ≡ s.first
   pub level_stats : m.level_stats ≡ s.first_levels
-  pub level_count : length s.first_levels ≡ length s.levels
+  pub level_count : length s.first_levels ≡ length s.setup.levels
   pub background : m.background ≡ []
   pub handed : m.handed ≡ 0
   pub reserved : m.reserved ≡ []

@@ -2,7 +2,7 @@
 use Rattle.std.specs.Prelude.{◌≡◌, ℕ, zero, suc, ◌<◌, ◌≤◌, true, false, List, [], ◌∷◌, length, take, drop, Option, Some, None, ◌⊎◌}
 use Rattle.sc_model.specs.Follows.{Due, Fits, Over, Stopped, ToTake, due, due_back, left}
 use Rattle.sc_model.specs.Rows.{counters_of, total}
-use Rattle.sc_model.specs.Script.{BadFrame, HasConn, Script, input}
+use Rattle.sc_model.specs.Script.{BadFrame, HasConn, Script, Setup, input}
 use Rattle.sc_model.specs.Trace.{Given, Mine, about, all, is_closed, left_writes, no_request, open_runs, own_of, owned, request, request_of, reservations, reserved_at, taken, written}
 use Rattle.sc_model.specs.World.{IsWithinBytes, Moves, World, need_of}
 use Rattle.sc_model.specs.declared.event.Answer.TheVariants.{Size as SizeIs}
@@ -18,14 +18,14 @@ use Rattle.sc_model.specs.declared.event.What.TheVariants.{Asked, Began, Closed,
 use Rattle.sc_model.specs.declared.message.Request.{Request}
 use Rattle.sc_stats.specs.Sums.{sat}
 
-abbrev pub due_of : Script → List Request → ℕ → List Mine → Due
+abbrev pub due_of : Setup → List Request → ℕ → List Mine → Due
 due_of s rs n t = due s (request rs n) (owned n t)
 
 -- n is the first request of a connection that isn't finished
 pub record IsFirst (s : Script) (rs : List Request) (t : List Mine) (n : ℕ) : Type 0 where
   pub came : n < length (s.reader.requests (taken t))
-  pub unfinished : due_of s rs n t ≡ Over → ⊥
-  pub before : (m : ℕ) → m < n → due_of s rs m t ≡ Over
+  pub unfinished : due_of s.setup rs n t ≡ Over → ⊥
+  pub before : (m : ℕ) → m < n → due_of s.setup rs m t ≡ Over
 
 -- the connection ended by a reply that was too long
 abbrev pub Ended : Due → Type 0
@@ -33,7 +33,7 @@ Ended (Stopped left) = Unit {0}
 Ended _ = ⊥
 
 abbrev pub HasEnded : Script → List Event → ℕ → Type 0
-HasEnded s t c = (n : ℕ) × IsFirst s (all s c) (about c t) n × Ended (due_of s (all s c) n (about c t))
+HasEnded s t c = (n : ℕ) × IsFirst s (all s c) (about c t) n × Ended (due_of s.setup (all s c) n (about c t))
 
 -- nothing more is read: it is closed, its bytes spell no request, or a reply was too long
 abbrev pub IsDone : Script → List Event → ℕ → Type 0
@@ -41,7 +41,7 @@ IsDone s t c = ((is_closed (about c t) ≡ true) ⊎ (s.reader.ends (taken (abou
 
 -- the first request waits for a token
 abbrev pub Waits : Script → List Event → ℕ → Type 0
-Waits s t c = (n : ℕ) × IsFirst s (all s c) (about c t) n × (due_of s (all s c) n (about c t) ≡ ToTake) × (s.tokens ≤ length (open_runs t))
+Waits s t c = (n : ℕ) × IsFirst s (all s c) (about c t) n × (due_of s.setup (all s c) n (about c t) ≡ ToTake) × (s.setup.tokens ≤ length (open_runs t))
 
 -- what an event tells of the others' events
 abbrev pub Tells : Script → List Event → What → Type 0
@@ -53,7 +53,7 @@ Tells s t _ = Unit {0}
 abbrev pub NextServe : Script → List Event → ℕ → Owner → What → Type 0
 NextServe s t c Nobody Idle = (((n : ℕ) → IsFirst s (all s c) (about c t) n → ⊥) ⊎ HasEnded s t c) ⊎ Waits s t c
 NextServe s t c (OfRequest d n) x =
-    (d ≡ c) × IsFirst s (all s c) (about c t) n × Fits s (request (all s c) n) (due_of s (all s c) n (about c t)) x
+    (d ≡ c) × IsFirst s (all s c) (about c t) n × Fits s.setup (request (all s c) n) (due_of s.setup (all s c) n (about c t)) x
     × (Waits s t c → ⊥) × Tells s t x
 NextServe s t c _ x = ⊥
 
@@ -69,7 +69,7 @@ nth zero (g ∷ gs) = Some g
 nth (suc i) (g ∷ gs) = nth i gs
 
 -- the event of the ith handed write that is left
-abbrev pub NextBack : Script → List Event → ℕ → Owner → What → Type 0
+abbrev pub NextBack : Setup → List Event → ℕ → Owner → What → Type 0
 NextBack s t i Nobody Idle = length (left_writes t) ≤ i
 NextBack s t i (OfWrite n) x = (g : Given) × (nth i (left_writes t) ≡ Some g) × (n ≡ g.number) × Fits s no_request (due_back s.levels g.handed (written n t)) x
 NextBack s t i _ x = ⊥
@@ -81,7 +81,7 @@ NextPass n _ x = ⊥
 abbrev pub NextStep : Script → List Event → Step → Owner → What → Type 0
 NextStep s t (Read c n) o x = NextRead s t c n o x
 NextStep s t (Serve c) o x = NextServe s t c o x
-NextStep s t (Back i) o x = NextBack s t i o x
+NextStep s t (Back i) o x = NextBack s.setup t i o x
 NextStep s t (Pass n) o x = NextPass n o x
 
 abbrev pub Next : Script → List Event → Step → Event → Type 0
@@ -98,8 +98,8 @@ at_moment w m = record w { moment = m }
 -- an event's moment is the world's after it; the rest is moved by the parts
 abbrev pub MovesBy : Script → World → List Event → Event → World → Type 0
 MovesBy s w t e w2 =
-    (e.moment ≡ ticked w.moment e.what) × Moves s (need_of s (request_of s e.owner) (own_of e.owner t)) (λ l. reserved_at l (reservations t)) e.what (at_moment w (ticked w.moment e.what)) w2
-    × IsWithinBytes s (reservations (e ∷ t)) w2
+    (e.moment ≡ ticked w.moment e.what) × Moves s.setup (need_of s.setup (request_of s e.owner) (own_of e.owner t)) (λ l. reserved_at l (reservations t)) e.what (at_moment w (ticked w.moment e.what)) w2
+    × IsWithinBytes s.setup (reservations (e ∷ t)) w2
 
 -- these steps gave these events, from the one world to the other; the newest step and event stand first
 abbrev pub Leads : Script → World → List Step → List Event → World → Type 0

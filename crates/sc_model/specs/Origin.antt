@@ -2,7 +2,7 @@
 use Rattle.std.specs.Prelude.{◌≡◌, ℕ, true, false, List, [], ◌∷◌, length, Some, ◌⊎◌}
 use Rattle.sc_model.specs.Follows.{kind_at}
 use Rattle.sc_model.specs.Job.{At, Own, entry_of, job_of}
-use Rattle.sc_model.specs.Script.{Script}
+use Rattle.sc_model.specs.Script.{Script, Setup}
 use Rattle.sc_model.specs.Trace.{Given, about, all, given, numbered, owned, request}
 use Rattle.sc_model.specs.World.{World, held, level_at}
 use Rattle.sc_model.specs.declared.event.Answer.TheVariants.{Hit}
@@ -21,23 +21,23 @@ use Rattle.sc_model.specs.declared.message.Request.{Request}
 use Rattle.sc_model.specs.declared.message.Request.TheVariants.{Compile, StoragePutRaw as PutRaw}
 
 -- a run event of status 0 whose entry is b stands among these
-abbrev pub IsEntryOf : Script → RunOutput → List ℕ → Type 0
+abbrev pub IsEntryOf : Setup → RunOutput → List ℕ → Type 0
 IsEntryOf s out b = (out.output.status ≡ Code 0) × (entry_of s out ≡ b)
 
-abbrev pub HasRun : Script → List ℕ → List Own → Type 0
+abbrev pub HasRun : Setup → List ℕ → List Own → Type 0
 HasRun s b [] = ⊥
 HasRun s b (At m (Ran (RanOutput out)) ∷ own) = IsEntryOf s out b ⊎ HasRun s b own
 HasRun s b (At m (Dist (DistDone server out)) ∷ own) = IsEntryOf s out b ⊎ HasRun s b own
 HasRun s b (_ ∷ own) = HasRun s b own
 
 -- a request put b under k: a compile of that key, its own run's entry; a put-raw, its bytes
-abbrev pub PutBy : Script → Request → List Own → List ℕ → List ℕ → Type 0
+abbrev pub PutBy : Setup → Request → List Own → List ℕ → List ℕ → Type 0
 PutBy s (Compile c) own k b = ((job_of own).found.key ≡ k) × HasRun s b own
 PutBy s (PutRaw key bytes) own k b = (key ≡ k) × (bytes ≡ b)
 PutBy s _ own k b = ⊥
 
 abbrev pub PutByOwner : Script → Owner → List Event → List ℕ → List ℕ → Type 0
-PutByOwner s (OfRequest c n) t k b = PutBy s (request (all s c) n) (owned n (about c t)) k b
+PutByOwner s (OfRequest c n) t k b = PutBy s.setup (request (all s c) n) (owned n (about c t)) k b
 PutByOwner s _ t k b = ⊥
 
 -- what a trace tells of origins
@@ -69,7 +69,7 @@ write_by s t o owner m (WriteEnded put hs) i k b = Gives (numbered (length (give
 write_by s t o owner m _ i k b = ⊥
 
 abbrev pub origins : Script → World → List Event → Origins
-origins s start [] = record { entry = λ l k b. held (kind_at s.levels l) (level_at start l) k ≡ Some b; write = λ i k b. ⊥ }
+origins s start [] = record { entry = λ l k b. held (kind_at s.setup.levels l) (level_at start l) k ≡ Some b; write = λ i k b. ⊥ }
 origins s start (e ∷ t) =
     let o = origins s start t in
     record {

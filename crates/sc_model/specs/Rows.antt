@@ -2,7 +2,7 @@
 use Rattle.std.specs.Prelude.{ℕ, ◌+◌, ◌-◌, ◌*◌, ◌^◌, min, Bool, true, false, ◌==◌, ◌&&◌, not, if◌then◌else◌, List, [], ◌∷◌, ◌++◌, length, Option, Some, None, slice_index_or, codes, bytes_eq, nat_lt}
 use Rattle.sc_model.specs.Follows.{multi_level}
 use Rattle.sc_model.specs.Job.{At, Own}
-use Rattle.sc_model.specs.Script.{Script, is_single}
+use Rattle.sc_model.specs.Script.{Script, Setup, is_single}
 use Rattle.sc_entry.specs.Tally.{Tally, counted}
 use Rattle.sc_model.specs.Trace.{Given, about, all, left_writes, own_of, owned, request}
 use Rattle.sc_model.specs.declared.event.Answer.{Answer}
@@ -37,7 +37,7 @@ use Rattle.sc_stats.specs.declared.counters.ServerStats.{ServerStats}
 use Rattle.std.specs.FinMap.{empty as empty_map, entries as entries_map}
 use Rattle.sc_stats.specs.Sums.{add_level, no_level_stats, no_stats, one_of, sat, sum}
 
-abbrev pub counted_language : Script → Task → PerLanguageCount
+abbrev pub counted_language : Setup → Task → PerLanguageCount
 counted_language s task = record { counts = one_of (s.compilers.kind_text task); adv_counts = one_of (s.compilers.full_text task) }
 
 -- the reason that is counted for a compile that can't be cached
@@ -71,7 +71,7 @@ missed_row TimedOut lang row = record row { cache_timeouts = 1 }
 missed_row CacheReadError lang row = record row { cache_errors = lang }
 missed_row _ lang row = row
 
-abbrev pub verdict_row : Script → Task → Verdict → ServerStats
+abbrev pub verdict_row : Setup → Task → Verdict → ServerStats
 verdict_row s task KeyStepError = record no_stats { cache_errors = counted_language s task }
 verdict_row s task (CacheHit d) = record no_stats { cache_hits = counted_language s task; cache_read_hit_duration = d }
 verdict_row s task (CacheMiss miss dist d) = with_dist dist (missed_row miss (counted_language s task) (record no_stats { compilations = 1; cache_misses = counted_language s task; compiler_write_duration = d }))
@@ -94,7 +94,7 @@ written_row (Compile c) d _ = record no_stats { cache_write_errors = 1 }
 written_row _ d put = no_stats
 
 -- what an event counts, by its request, the moment of its outcome and its own
-abbrev pub row : Script → Request → ℕ → ℕ → What → ServerStats
+abbrev pub row : Setup → Request → ℕ → ℕ → What → ServerStats
 row s r since m (Began q told) = began_row r told
 row s r since m (Keyed true client step) = record no_stats { requests_executed = 1 }
 row s r since m (Outcome v task) = verdict_row s task v
@@ -111,7 +111,7 @@ count true before row = no_stats
 count false before row = sum before row
 
 abbrev pub count_of_owner : Script → List Event → Owner → ℕ → What → ServerStats → ServerStats
-count_of_owner s t (OfRequest c n) m x before = count (zeroes x) before (row s (request (all s c) n) (outcome_at (owned n (about c t))) m x)
+count_of_owner s t (OfRequest c n) m x before = count (zeroes x) before (row s.setup (request (all s c) n) (outcome_at (owned n (about c t))) m x)
 count_of_owner s t _ m x before = before
 
 -- the daemon's counters
@@ -199,9 +199,9 @@ first_level s l = slice_index_or s.first_levels l no_level_stats
 abbrev pub level_total : Script → List Event → ℕ → LevelStats
 level_total s [] l = first_level s l
 level_total s (e ∷ t) l =
-    if is_at (length s.levels) l (level_named e.what) then add_level (level_total s t l) (level_row (put_origin e.owner t) (last_at (own_of e.owner t)) (reserved_since (own_of e.owner t)) e.moment e.what)
+    if is_at (length s.setup.levels) l (level_named e.what) then add_level (level_total s t l) (level_row (put_origin e.owner t) (last_at (own_of e.owner t)) (reserved_since (own_of e.owner t)) e.moment e.what)
     else level_total s t l
 
 -- what a level tells of its counters: a single store has none
 abbrev pub counters_of : Script → List Event → ℕ → Option LevelStats
-counters_of s t l = if is_single s.policy then None else Some (level_total s t l)
+counters_of s t l = if is_single s.setup.policy then None else Some (level_total s t l)

@@ -82,9 +82,8 @@ pub record Scheduler : Type 0 where
   pub url : Option (List ℕ)
   pub retry_text : ℕ → List ℕ
 
-pub record Script : Type 0 where
-  pub inputs : List (List ℕ)
-  pub reader : Reader
+-- a daemon: how it spells, what its parts tell, its store's levels and policy, its limits
+pub record Setup : Type 0 where
   pub codec : Codec
   pub compilers : Compilers
   pub scheduler : Scheduler
@@ -93,7 +92,12 @@ pub record Script : Type 0 where
   pub policy : Policy
   pub tokens : ℕ
   pub limit : ℕ
-  -- the counters at the call
+
+-- what a drive is given: a daemon, each connection's bytes with the reader that finds their requests, and the counters at the call
+pub record Script : Type 0 where
+  pub setup : Setup
+  pub inputs : List (List ℕ)
+  pub reader : Reader
   pub first : ServerStats
   pub first_levels : List LevelStats
 

@@ -3,7 +3,7 @@ use Rattle.std.specs.Prelude.{◌≡◌, ℕ, ◌+◌, ◌-◌, ◌^◌, min, �
 use Rattle.sc_model.specs.Follows.{kind_at}
 use Rattle.sc_model.specs.Job.{Own, hit_of, job_of}
 use Rattle.sc_model.specs.Plan.{is_disk, level_facts, reads_only}
-use Rattle.sc_model.specs.Script.{Script, control, is_single}
+use Rattle.sc_model.specs.Script.{Setup, control, is_single}
 use Rattle.sc_model.specs.Trace.{Open, reserved_at}
 use Rattle.sc_model.specs.declared.event.Answer.{Answer}
 use Rattle.sc_model.specs.declared.event.Answer.TheVariants.{Found as FoundAt, Hit, Miss, Refused, Size as SizeIs}
@@ -143,7 +143,7 @@ Spells (Some os) = Unit {0}
 Spells None = ⊥
 
 -- a lookup's answer, by the level's map after it
-abbrev pub Answers_whole : Script → LevelKind → List ℕ → Answer → Level → Level → Type 0
+abbrev pub Answers_whole : Setup → LevelKind → List ℕ → Answer → Level → Level → Type 0
 Answers_whole s kind k (Hit b mark) v w = IsStoreKey k × (held kind w k ≡ Some b) × Spells (s.codec.objects b)
 Answers_whole s kind k Miss v w = IsStoreKey k × (held kind w k ≡ None)
 Answers_whole s kind k (Refused BadKey) v w = IsStoreKey k → ⊥
@@ -181,7 +181,7 @@ abbrev pub Answers_size : LevelKind → ℕ → Answer → Level → Type 0
 Answers_size kind r (SizeIs n c) w = n ≡ level_size kind w r
 Answers_size kind r _ w = ⊥
 
-abbrev pub Answers : Script → LevelFacts → ℕ → List ℕ → Mode → Answer → Level → Level → Type 0
+abbrev pub Answers : Setup → LevelFacts → ℕ → List ℕ → Mode → Answer → Level → Level → Type 0
 Answers s f r k Whole a v w = Answers_whole s f.kind k a v w
 Answers s f r k Raw a v w = Answers_raw f.kind k a v w
 Answers s f r k Path a v w = Answers_path f k a v w
@@ -197,7 +197,7 @@ Opens_by mode (Refused c) v w = Unit {0}
 Opens_by mode a v w = IsTrue (w.opened)
 
 -- a level is asked
-pub record Asks (s : Script) (f : LevelFacts) (r : ℕ) (k : List ℕ) (mode : Mode) (a : Answer) (v w : Level) : Type 0 where
+pub record Asks (s : Setup) (f : LevelFacts) (r : ℕ) (k : List ℕ) (mode : Mode) (a : Answer) (v w : Level) : Type 0 where
   pub later : Later v w
   pub keeps : Keeps_all f.kind v w
   pub answers : Answers s f r k mode a v w
@@ -269,13 +269,13 @@ Puts_pre Disk capacity expected r k b (WriteRefused c) v w = IsRefused Disk expe
 Puts_pre Remote capacity expected r k b WriteDone v w = Keeps_all Remote v w
 Puts_pre Remote capacity expected r k b (WriteRefused c) v w = ⊥
 
-abbrev pub Wrote_at : Script → LevelFacts → ℕ → List ℕ → List ℕ → Mode → Written → Level → Level → Type 0
+abbrev pub Wrote_at : Setup → LevelFacts → ℕ → List ℕ → List ℕ → Mode → Written → Level → Level → Type 0
 Wrote_at s f r k b Pre how v w = Puts_pre f.kind f.capacity (write_cause s.policy f r k (length b)) r k b how v w
 Wrote_at s f r k b Whole how v w = Puts_remote f.kind (write_cause s.policy f r k (length b)) k b how v w
 Wrote_at s f r k b _ how v w = ⊥
 
 -- what moves one level by an event there: r are its open reservations before
-abbrev pub MovesLevel : Script → LevelFacts → ℕ → What → Level → Level → Type 0
+abbrev pub MovesLevel : Setup → LevelFacts → ℕ → What → Level → Level → Type 0
 MovesLevel s f r (Asked l k mode a hs) v w = Asks s f r k mode a v w
 MovesLevel s f r (Reserved l k n how) v w = Later v w × Reserves f.capacity (write_cause s.policy f r k n) r n how v w
 MovesLevel s f r (Filled l k b mark how) v w = Later v w × Fills how v w
@@ -284,7 +284,7 @@ MovesLevel s f r (Wrote l k b mode mark how) v w = Later v w × Wrote_at s f r k
 MovesLevel s f r _ v w = w ≡ v
 
 -- that level alone moves, and all else stays
-abbrev pub MovesAt : Script → ℕ → ℕ → What → World → World → Type 0
+abbrev pub MovesAt : Setup → ℕ → ℕ → What → World → World → Type 0
 MovesAt s l r x w w2 = (v : Level) × MovesLevel s (level_facts s.levels l) r x (level_at w l) v × (w2 ≡ record w { levels = slice_set w.levels l v })
 
 -- the container: a due retry makes its client anew
@@ -307,7 +307,7 @@ abbrev pub reset : ℕ → Container → Container
 reset now Disabled = Disabled
 reset now _ = RetryCreateAt now
 
-abbrev pub Tells_status : Script → ℕ → Container → DistInfo → ℕ → ℕ → Type 0
+abbrev pub Tells_status : Setup → ℕ → Container → DistInfo → ℕ → ℕ → Type 0
 Tells_status s now Disabled info f g = info ≡ IsDisabled (codes "disabled")
 Tells_status s now Made (SchedulerStatus u n c i) f g = Unit {0}
 Tells_status s now Made info f g = (info ≡ NotConnected s.scheduler.url (codes "could not communicate with scheduler")) × Rose f g
@@ -342,11 +342,11 @@ abbrev pub placed_of : Bool → List FileObjectSource → List FileObjectSource
 placed_of locally [] = []
 placed_of locally (o ∷ os) = if is_placed locally o then o ∷ placed_of locally os else placed_of locally os
 
-abbrev pub may_of : Script → Request → Bool → KeyStep → Bool
+abbrev pub may_of : Setup → Request → Bool → KeyStep → Bool
 may_of s (Compile c) first step = s.compilers.may_key c (control (Compile c) first) step
 may_of s _ first step = false
 
-abbrev pub need_of : Script → Request → List Own → Need
+abbrev pub need_of : Setup → Request → List Own → Need
 need_of s r own = record { may = may_of s r; key = (job_of own).found.key; outputs = placed_of (job_of own).found.locally_preprocessed (job_of own).found.outputs; hit = hit_of own }
 
 abbrev pub lacks : Option (List Object) → List ℕ → Bool
@@ -367,7 +367,7 @@ abbrev pub first_missing : Option (List Object) → List FileObjectSource → Op
 first_missing os [] = None
 first_missing os (o ∷ rest) = if not o.optional && not (holds_name os o.key) then Some o.key else first_missing os rest
 
-abbrev pub MovesPlaced : Script → Need → Placing → World → World → Type 0
+abbrev pub MovesPlaced : Setup → Need → Placing → World → World → Type 0
 MovesPlaced s n (Missing name) w w2 = (first_missing (s.codec.objects n.hit) n.outputs ≡ Some name) × (w2 ≡ w)
 MovesPlaced s n PlaceDone w w2 = (first_missing (s.codec.objects n.hit) n.outputs ≡ None) × (w2 ≡ record w { placings = w.placings ++ (record { outputs = n.outputs; bytes = n.hit }) ∷ [] })
 MovesPlaced s n (PlaceFault chain) w w2 = (first_missing (s.codec.objects n.hit) n.outputs ≡ None) × ((f : ℕ) × Rose w.shop_faults f × (w.shop_faults ≤ f) × (w2 ≡ record w { shop_faults = f }))
@@ -376,12 +376,12 @@ abbrev pub MovesOutcome : Verdict → World → World → Type 0
 MovesOutcome HttpError w w2 = w2 ≡ record w { container = reset w.moment w.container }
 MovesOutcome _ w w2 = w2 ≡ w
 
-abbrev pub MovesBegan : Script → Told → World → World → Type 0
+abbrev pub MovesBegan : Setup → Told → World → World → Type 0
 MovesBegan s (TellsDist info) w w2 = (c : Container) × (f g : ℕ) × (w.maker_faults ≤ f) × (w.dist_faults ≤ g) × Renews w.moment w.container c w.maker_faults f × Tells_status s w.moment c info w.dist_faults g × (w2 ≡ record w { container = c; maker_faults = f; dist_faults = g })
 MovesBegan s _ w w2 = w2 ≡ w
 
 -- how an event of a request or a handed write moves the world; r: a level's open reservations before
-abbrev pub Moves : Script → Need → (ℕ → ℕ) → What → World → World → Type 0
+abbrev pub Moves : Setup → Need → (ℕ → ℕ) → What → World → World → Type 0
 Moves s n r (Began q told) w w2 = MovesBegan s told w w2
 Moves s n r (Keyed first client step) w w2 = (c d : Container) × (f : ℕ) × (w.maker_faults ≤ f) × Renews w.moment w.container c w.maker_faults f × Tells_client w.moment c (n.may first step) client step d × (w2 ≡ record w { container = d; maker_faults = f })
 Moves s n r (Asked l k mode a hs) w w2 = MovesAt s l (r l) (Asked l k mode a hs) w w2
@@ -396,5 +396,5 @@ Moves s n r (Wrote l k b mode mark how) w w2 = MovesAt s l (r l) (Wrote l k b mo
 Moves s n r _ w w2 = w2 ≡ w
 
 -- afterwards each disk level is within its capacity
-abbrev pub IsWithinBytes : Script → List Open → World → Type 0
+abbrev pub IsWithinBytes : Setup → List Open → World → Type 0
 IsWithinBytes s rs w = (l : ℕ) → l < length s.levels → IsTrue (is_disk (kind_at s.levels l)) → part_size (level_at w l) + reserved_at l rs ≤ (level_facts s.levels l).capacity
