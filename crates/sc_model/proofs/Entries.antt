@@ -1,7 +1,8 @@
 -- What an event leaves in a level was there before, or it put it there.
 use Rattle.std.proofs.Common.{◌≡◌, ℕ, ◌+◌, ◌⊎◌, ⊎_elim, inl, inr, Bool, true, false, cond, List, [], ◌∷◌, length, drop, Option, Some, None, refl, sym, ap, ◌∙◌, subst}
 use Rattle.sc_model.specs.Script.{Setup}
-use Rattle.sc_model.specs.World.{Commits, Evicts, Files, Fills, IsFault, IsPart, IsRefused, Keeps_all, Level, MovesLevel, Puts_pre, Puts_remote, Reserves, drop_file, drop_part, find_file, held, main_path, put_file, write_cause}
+use Rattle.sc_model.specs.World.{Causes, Commits, Evicts, Evicts_unless, Files, Fills, IsFault, IsPart, IsRefused, Keeps_all, Level, MovesLevel, Puts_pre, Puts_pre_disk, Puts_pre_remote, Puts_remote, Reserves, causes, drop_file, drop_part, find_file, held, main_path, put_file}
+use Rattle.sc_model.specs.declared.level.Store.TheVariants.{Disk as DiskStore, Remote as RemoteStore, Wrapper as WrapperStore}
 use Rattle.sc_model.specs.declared.event.Mode.TheVariants.{Path, Pre, Raw, Size as Sizes, Whole}
 use Rattle.sc_model.specs.declared.event.What.{What}
 use Rattle.sc_model.specs.declared.event.What.TheVariants.{Asked, Committed, Filled, Reserved, Wrote}
@@ -90,9 +91,9 @@ keeps_held Remote v w k b h e =
 pub level_same : (kind : LevelKind) (v w : Level) (k b : List ℕ) → w ≡ v → held kind w k ≡ Some b → held kind v k ≡ Some b
 level_same kind v w k b h e = same_held kind v w k b (ap (λ u. u.main) h) e
 
-refused_held : (kind : LevelKind) (x : Option Cause) (c : Cause) (v w : Level) (k b : List ℕ) → IsRefused kind x c v w → (IsFault kind v w c → (held kind w k ≡ Some b → held kind v k ≡ Some b)) → held kind w k ≡ Some b → held kind v k ≡ Some b
-refused_held kind x Io v w k b h g e = g h e
-refused_held kind x (RemoteRefused z) v w k b h g e = g h.0 e
+refused_held : (kind : LevelKind) (x : Causes) (c : Cause) (v w : Level) (k b : List ℕ) → IsRefused kind x c v w → (IsFault kind v w c → (held kind w k ≡ Some b → held kind v k ≡ Some b)) → held kind w k ≡ Some b → held kind v k ≡ Some b
+refused_held kind x Io v w k b h g e = g h.1 e
+refused_held kind x (RemoteRefused z) v w k b h g e = g h.1 e
 refused_held kind x FileTooLarge v w k b h g e = keeps_held kind v w k b h.1 e
 refused_held kind x NoRoom v w k b h g e = keeps_held kind v w k b h.1 e
 refused_held kind x BadKey v w k b h g e = keeps_held kind v w k b h.1 e
@@ -102,10 +103,14 @@ refused_held kind x (ForReading y) v w k b h g e = keeps_held kind v w k b h.1 e
 evicts_held : (kind : LevelKind) (capacity n : ℕ) (v w : Level) (k b : List ℕ) → ((ps : List (Bool × List ℕ)) × Evicts capacity n ps v w) → held kind w k ≡ Some b → held kind v k ≡ Some b
 evicts_held kind capacity n v w k b h e = evicts_part capacity n h.0 v w h.1 (main_path kind k) b e
 
-reserved_held : (kind : LevelKind) (capacity : ℕ) (x : Option Cause) (r n : ℕ) (how : Written) (v w : Level) (k b : List ℕ) → Reserves capacity x r n how v w → held kind w k ≡ Some b → held kind v k ≡ Some b
-reserved_held kind capacity x r n WriteDone v w k b h e = evicts_held kind capacity (r + n) v w k b h.1 e
-reserved_held kind capacity x r n (WriteRefused Io) v w k b h e = evicts_held kind capacity (r + n) v w k b h.1 e
-reserved_held kind capacity x r n (WriteRefused (RemoteRefused z)) v w k b h e = absurd h.0
+unless_held : (kind : LevelKind) (x : Option Cause) (capacity n : ℕ) (v w : Level) (k b : List ℕ) → Evicts_unless x capacity n v w → held kind w k ≡ Some b → held kind v k ≡ Some b
+unless_held kind None capacity n v w k b h e = evicts_held kind capacity n v w k b h e
+unless_held kind (Some c) capacity n v w k b h e = same_held kind v w k b h.0 e
+
+reserved_held : (kind : LevelKind) (capacity : ℕ) (x : Causes) (r n : ℕ) (how : Written) (v w : Level) (k b : List ℕ) → Reserves capacity x r n how v w → held kind w k ≡ Some b → held kind v k ≡ Some b
+reserved_held kind capacity x r n WriteDone v w k b h e = unless_held kind x.all capacity (r + n) v w k b h.1 e
+reserved_held kind capacity x r n (WriteRefused Io) v w k b h e = unless_held kind x.all capacity (r + n) v w k b h.2 e
+reserved_held kind capacity x r n (WriteRefused (RemoteRefused z)) v w k b h e = absurd h.1
 reserved_held kind capacity x r n (WriteRefused FileTooLarge) v w k b h e = same_held kind v w k b h.1.0 e
 reserved_held kind capacity x r n (WriteRefused NoRoom) v w k b h e = same_held kind v w k b h.1.0 e
 reserved_held kind capacity x r n (WriteRefused BadKey) v w k b h e = same_held kind v w k b h.1.0 e
@@ -123,37 +128,53 @@ committed_held Disk l i d WriteDone v w k b s h e =
 committed_held Disk l i d (WriteRefused c) v w k b s h e = inl (same_held Disk v w k b h.1.0 e)
 committed_held Remote l i d how v w k b s h e = absurd h
 
-wrote_held : (kind : LevelKind) (l : ℕ) (i d : List ℕ) (mark : Bool) (x : Option Cause) (how : Written) (v w : Level) (k b : List ℕ) → IsStoreKey k → Puts_remote kind x i d how v w → held kind w k ≡ Some b → (held kind v k ≡ Some b) ⊎ PutsAt (Wrote l i d Whole mark how) k b
+wrote_held : (kind : LevelKind) (l : ℕ) (i d : List ℕ) (mark : Bool) (x : Causes) (how : Written) (v w : Level) (k b : List ℕ) → IsStoreKey k → Puts_remote kind x i d how v w → held kind w k ≡ Some b → (held kind v k ≡ Some b) ⊎ PutsAt (Wrote l i d Whole mark how) k b
 wrote_held Remote l i d mark x WriteDone v w k b s h e =
     let seen : find_file (put_file v.main (normalize_key i) d) (normalize_key k) ≡ Some b =
         ⊎_elim (λ (y : w.main ≡ put_file v.main (normalize_key i) d). ap (λ m. find_file m (normalize_key k)) (sym y) ∙ e)
-            (λ (y : IsPart w.main (put_file v.main (normalize_key i) d) × (held Remote w i ≡ Some d) × Rose v.losses w.losses). y.0 (normalize_key k) b e) h.3 in
+            (λ (y : IsPart w.main (put_file v.main (normalize_key i) d) × (held Remote w i ≡ Some d) × Rose v.losses w.losses). y.0 (normalize_key k) b e) h.4 in
     ⊎_elim (λ (y : find_file v.main (normalize_key k) ≡ Some b). inl y) (λ (y : (normalize_key k ≡ normalize_key i) × (d ≡ b)). inr (sym (normal_same k i s h.0 y.0), y.1))
         (put_seen v.main (normalize_key i) d (normalize_key k) b seen)
 wrote_held Remote l i d mark x (WriteRefused c) v w k b s h e = inl (keeps_held Remote v w k b h.1 e)
 wrote_held Disk l i d mark x how v w k b s h e = absurd h
 
-pre_held : (kind : LevelKind) (capacity : ℕ) (x : Option Cause) (r : ℕ) (i d : List ℕ) (how : Written) (v w : Level) (k b : List ℕ) → Puts_pre kind capacity x r i d how v w → held kind w k ≡ Some b → held kind v k ≡ Some b
-pre_held Disk capacity x r i d WriteDone v w k b h e =
-    let u = h.1.0 in evicts_held Disk capacity (r + length d) v u k b h.1.1 (ap (λ m. find_file m (make_key_path k)) (sym h.1.2) ∙ e)
-pre_held Disk capacity x r i d (WriteRefused Io) v w k b h e = evicts_held Disk capacity (r + length d) v w k b h.1 e
-pre_held Disk capacity x r i d (WriteRefused (RemoteRefused z)) v w k b h e = absurd h.0
-pre_held Disk capacity x r i d (WriteRefused FileTooLarge) v w k b h e = keeps_held Disk v w k b h.1 e
-pre_held Disk capacity x r i d (WriteRefused NoRoom) v w k b h e = keeps_held Disk v w k b h.1 e
-pre_held Disk capacity x r i d (WriteRefused BadKey) v w k b h e = keeps_held Disk v w k b h.1 e
-pre_held Disk capacity x r i d (WriteRefused BadEntry) v w k b h e = keeps_held Disk v w k b h.1 e
-pre_held Disk capacity x r i d (WriteRefused (ForReading y)) v w k b h e = keeps_held Disk v w k b h.1 e
-pre_held Remote capacity x r i d WriteDone v w k b h e = keeps_held Remote v w k b h e
-pre_held Remote capacity x r i d (WriteRefused c) v w k b h e = absurd h
+pre_disk_held : (capacity : ℕ) (x : Causes) (r : ℕ) (i d : List ℕ) (how : Written) (v w : Level) (k b : List ℕ) → Puts_pre_disk capacity x r i d how v w → held Disk w k ≡ Some b → held Disk v k ≡ Some b
+pre_disk_held capacity x r i d WriteDone v w k b h e =
+    let u = h.1.0 in unless_held Disk x.all capacity (r + length d) v u k b h.1.1 (ap (λ m. find_file m (make_key_path k)) (sym h.1.2) ∙ e)
+pre_disk_held capacity x r i d (WriteRefused Io) v w k b h e = unless_held Disk x.all capacity (r + length d) v w k b h.2 e
+pre_disk_held capacity x r i d (WriteRefused (RemoteRefused z)) v w k b h e = absurd h.1
+pre_disk_held capacity x r i d (WriteRefused FileTooLarge) v w k b h e = keeps_held Disk v w k b h.1 e
+pre_disk_held capacity x r i d (WriteRefused NoRoom) v w k b h e = keeps_held Disk v w k b h.1 e
+pre_disk_held capacity x r i d (WriteRefused BadKey) v w k b h e = keeps_held Disk v w k b h.1 e
+pre_disk_held capacity x r i d (WriteRefused BadEntry) v w k b h e = keeps_held Disk v w k b h.1 e
+pre_disk_held capacity x r i d (WriteRefused (ForReading y)) v w k b h e = keeps_held Disk v w k b h.1 e
+
+pre_remote_held : (wrapped : Bool) (how : Written) (v w : Level) (k b : List ℕ) → Puts_pre_remote wrapped how v w → held Remote w k ≡ Some b → held Remote v k ≡ Some b
+pre_remote_held false WriteDone v w k b h e = keeps_held Remote v w k b h.0 e
+pre_remote_held true WriteDone v w k b h e = absurd h
+pre_remote_held false (WriteRefused c) v w k b h e = absurd h
+pre_remote_held true (WriteRefused (ForReading WrapperStore)) v w k b h e = level_same Remote v w k b h e
+pre_remote_held true (WriteRefused (ForReading DiskStore)) v w k b h e = absurd h
+pre_remote_held true (WriteRefused (ForReading RemoteStore)) v w k b h e = absurd h
+pre_remote_held true (WriteRefused Io) v w k b h e = absurd h
+pre_remote_held true (WriteRefused (RemoteRefused z)) v w k b h e = absurd h
+pre_remote_held true (WriteRefused FileTooLarge) v w k b h e = absurd h
+pre_remote_held true (WriteRefused NoRoom) v w k b h e = absurd h
+pre_remote_held true (WriteRefused BadKey) v w k b h e = absurd h
+pre_remote_held true (WriteRefused BadEntry) v w k b h e = absurd h
+
+pre_held : (f : LevelFacts) (kind : LevelKind) (x : Causes) (r : ℕ) (i d : List ℕ) (how : Written) (v w : Level) (k b : List ℕ) → Puts_pre f kind x r i d how v w → held kind w k ≡ Some b → held kind v k ≡ Some b
+pre_held f Disk x r i d how v w k b h e = pre_disk_held f.capacity x r i d how v w k b h e
+pre_held f Remote x r i d how v w k b h e = pre_remote_held f.wrapped how v w k b h e
 
 -- what a level holds after its event
 pub level_held : (s : Setup) (f : LevelFacts) (r : ℕ) (x : What) (v w : Level) (k b : List ℕ) → IsStoreKey k → MovesLevel s f r x v w → held f.kind w k ≡ Some b → (held f.kind v k ≡ Some b) ⊎ PutsAt x k b
 level_held s f r (Asked l i mode a hs) v w k b st h e = inl (keeps_held f.kind v w k b h.keeps e)
-level_held s f r (Reserved l i n how) v w k b st h e = inl (reserved_held f.kind f.capacity (write_cause s.policy f r i n) r n how v w k b h.1 e)
+level_held s f r (Reserved l i n how) v w k b st h e = inl (reserved_held f.kind f.capacity (causes s.policy f r i n) r n how v w k b h.1 e)
 level_held s f r (Filled l i d mark how) v w k b st h e = inl (filled_held f.kind how v w k b h.1 e)
 level_held s f r (Committed l i d how) v w k b st h e = committed_held f.kind l i d how v w k b st h.1 e
-level_held s f r (Wrote l i d Whole mark how) v w k b st h e = wrote_held f.kind l i d mark (write_cause s.policy f r i (length d)) how v w k b st h.1 e
-level_held s f r (Wrote l i d Pre mark how) v w k b st h e = inl (pre_held f.kind f.capacity (write_cause s.policy f r i (length d)) r i d how v w k b h.1 e)
+level_held s f r (Wrote l i d Whole mark how) v w k b st h e = wrote_held f.kind l i d mark (causes s.policy f r i (length d)) how v w k b st h.1 e
+level_held s f r (Wrote l i d Pre mark how) v w k b st h e = inl (pre_held f f.kind (causes s.policy f r i (length d)) r i d how v w k b h.1 e)
 level_held s f r (Wrote l i d Raw mark how) v w k b st h e = absurd h.1
 level_held s f r (Wrote l i d Path mark how) v w k b st h e = absurd h.1
 level_held s f r (Wrote l i d Sizes mark how) v w k b st h e = absurd h.1

@@ -148,27 +148,31 @@ Answers_whole s kind k (Hit b mark) v w = IsStoreKey k × (held kind w k ≡ Som
 Answers_whole s kind k Miss v w = IsStoreKey k × (held kind w k ≡ None)
 Answers_whole s kind k (Refused BadKey) v w = IsStoreKey k → ⊥
 Answers_whole s kind k (Refused BadEntry) v w = IsStoreKey k × ((b : List ℕ) × (held kind w k ≡ Some b) × (s.codec.objects b ≡ None))
-Answers_whole s kind k (Refused c) v w = IsFault kind v w c
+Answers_whole s kind k (Refused c) v w = IsStoreKey k × IsFault kind v w c
 Answers_whole s kind k _ v w = ⊥
 
 abbrev pub Answers_raw : LevelKind → List ℕ → Answer → Level → Level → Type 0
 Answers_raw kind k (Hit b mark) v w = IsStoreKey k × (held kind w k ≡ Some b)
 Answers_raw kind k Miss v w = IsStoreKey k × (held kind w k ≡ None)
 Answers_raw kind k (Refused BadKey) v w = IsStoreKey k → ⊥
-Answers_raw kind k (Refused c) v w = IsFault kind v w c
+Answers_raw kind k (Refused c) v w = IsStoreKey k × IsFault kind v w c
 Answers_raw kind k _ v w = ⊥
+
+-- a miss without a hit's map: the key is bad, and nothing is opened for it; else the opened store holds nothing there, or its disk refused
+abbrev pub Misses : List ℕ → Option (List ℕ) → Level → Level → Type 0
+Misses k found v w = ((IsStoreKey k → ⊥) × (w.opened ≡ v.opened)) ⊎ (IsStoreKey k × ((IsTrue (w.opened) × (found ≡ None)) ⊎ Rose v.faults w.faults))
 
 -- a path is found, or the key is bad, absent, or its disk refused
 abbrev pub Answers_path : LevelFacts → List ℕ → Answer → Level → Level → Type 0
 Answers_path f k (FoundAt p) v w = IsStoreKey k × ((b : List ℕ) × (held Disk w k ≡ Some b)) × (p ≡ f.root ++ 47 ∷ make_key_path k)
-Answers_path f k Miss v w = ((IsStoreKey k → ⊥) ⊎ (held Disk w k ≡ None)) ⊎ Rose v.faults w.faults
+Answers_path f k Miss v w = Misses k (held Disk w k) v w
 Answers_path f k _ v w = ⊥
 
--- a preprocessor entry: a remote keeps none; a refused read is a miss, a refused opening is told
+-- a preprocessor entry: a remote keeps none; a refused read is a miss, a refused opening alone is told
 abbrev pub Answers_pre : LevelKind → List ℕ → Answer → Level → Level → Type 0
 Answers_pre Disk k (Hit b mark) v w = IsStoreKey k × (held_pre w k ≡ Some b)
-Answers_pre Disk k Miss v w = ((IsStoreKey k → ⊥) ⊎ (held_pre w k ≡ None)) ⊎ Rose v.faults w.faults
-Answers_pre Disk k (Refused Io) v w = Rose v.faults w.faults
+Answers_pre Disk k Miss v w = Misses k (held_pre w k) v w
+Answers_pre Disk k (Refused Io) v w = IsStoreKey k × Rose v.faults w.faults × (w.opened ≡ false)
 Answers_pre Remote k Miss v w = Unit {0}
 Answers_pre kind k _ v w = ⊥
 
@@ -188,20 +192,22 @@ Answers s f r k Path a v w = Answers_path f k a v w
 Answers s f r k Pre a v w = Answers_pre f.kind k a v w
 Answers s f r k Sizes a v w = Answers_size f.kind r a w
 
--- an answer of an opened disk store opened it
-abbrev pub Opens_by : Mode → Answer → Level → Level → Type 0
-Opens_by Sizes a v w = w ≡ v
-Opens_by Path a v w = Unit {0}
-Opens_by Pre Miss v w = Unit {0}
-Opens_by mode (Refused c) v w = Unit {0}
-Opens_by mode a v w = IsTrue (w.opened)
+-- an answer that needed the disk store opened it, a bad key does not; a remote store is never opened
+abbrev pub Opens_by : LevelKind → Mode → Answer → Level → Level → Type 0
+Opens_by Remote mode a v w = w.opened ≡ v.opened
+Opens_by Disk Sizes a v w = w ≡ v
+Opens_by Disk Path Miss v w = Unit {0}
+Opens_by Disk Pre Miss v w = Unit {0}
+Opens_by Disk mode (Refused BadKey) v w = w.opened ≡ v.opened
+Opens_by Disk mode (Refused Io) v w = Unit {0}
+Opens_by Disk mode a v w = IsTrue (w.opened)
 
 -- a level is asked
 pub record Asks (s : Setup) (f : LevelFacts) (r : ℕ) (k : List ℕ) (mode : Mode) (a : Answer) (v w : Level) : Type 0 where
   pub later : Later v w
   pub keeps : Keeps_all f.kind v w
   pub answers : Answers s f r k mode a v w
-  pub opens : Opens_by mode a v w
+  pub opens : Opens_by f.kind mode a v w
 
 -- paths of both maps go one by one, each only while all that counts exceeds the capacity
 abbrev pub part_size : Level → ℕ
@@ -228,18 +234,43 @@ abbrev pub room_cause : LevelKind → ℕ → ℕ → ℕ → Option Cause
 room_cause Disk capacity r n = or_cause (nat_lt capacity n) FileTooLarge (or_cause (nat_lt capacity (n + r)) NoRoom None)
 room_cause Remote capacity r n = None
 
+-- causes that are found before the store is opened: the mode of a single store, then the key
+abbrev pub early_cause : Policy → LevelFacts → List ℕ → Option Cause
+early_cause p f k = or_cause (is_single p && reads_only f.configured) (ForReading (read_only_store f f.wrapped)) (or_cause (not (is_store_key k)) BadKey None)
+
 abbrev pub write_cause : Policy → LevelFacts → ℕ → List ℕ → ℕ → Option Cause
 write_cause p f r k n = or_cause (is_single p && reads_only f.configured) (ForReading (read_only_store f f.wrapped)) (or_cause (not (is_store_key k)) BadKey (room_cause f.kind f.capacity r n))
 
-abbrev pub IsRefused : LevelKind → Option Cause → Cause → Level → Level → Type 0
-IsRefused kind expected Io v w = IsFault kind v w Io
-IsRefused kind expected (RemoteRefused k) v w = IsFault kind v w (RemoteRefused k) × Keeps_all kind v w
-IsRefused kind expected c v w = (expected ≡ Some c) × Keeps_all kind v w
+-- the causes of one write: those before its store is opened, and all
+pub record Causes : Type 0 where
+  pub early : Option Cause
+  pub all : Option Cause
+
+abbrev pub causes : Policy → LevelFacts → ℕ → List ℕ → ℕ → Causes
+causes p f r k n = record { early = early_cause p f k; all = write_cause p f r k n }
+
+-- a refusal for mode or key opens nothing; one for size stands at an opened store
+abbrev pub Opens_refused : LevelKind → Cause → Level → Level → Type 0
+Opens_refused Remote c v w = w.opened ≡ v.opened
+Opens_refused Disk FileTooLarge v w = IsTrue (w.opened)
+Opens_refused Disk NoRoom v w = IsTrue (w.opened)
+Opens_refused Disk c v w = w.opened ≡ v.opened
+
+-- a device's fault is told only where the write is refused neither for mode nor for key
+abbrev pub IsRefused : LevelKind → Causes → Cause → Level → Level → Type 0
+IsRefused kind expected Io v w = (expected.early ≡ None) × IsFault kind v w Io
+IsRefused kind expected (RemoteRefused k) v w = (expected.early ≡ None) × IsFault kind v w (RemoteRefused k) × Keeps_all kind v w × (w.opened ≡ v.opened)
+IsRefused kind expected c v w = (expected.all ≡ Some c) × Keeps_all kind v w × Opens_refused kind c v w
+
+-- evictions come only where the size is no cause of a refusal
+abbrev pub Evicts_unless : Option Cause → ℕ → ℕ → Level → Level → Type 0
+Evicts_unless None capacity more v w = (ps : List (Bool × List ℕ)) × Evicts capacity more ps v w
+Evicts_unless (Some c) capacity more v w = (w.main ≡ v.main) × (w.pre ≡ v.pre)
 
 -- a reservation at a disk level: it may evict, and not where it is refused for mode, key or size
-abbrev pub Reserves : ℕ → Option Cause → ℕ → ℕ → Written → Level → Level → Type 0
-Reserves capacity expected r n WriteDone v w = (expected ≡ None) × ((ps : List (Bool × List ℕ)) × Evicts capacity (r + n) ps v w) × IsTrue (w.opened)
-Reserves capacity expected r n (WriteRefused Io) v w = Rose v.faults w.faults × ((ps : List (Bool × List ℕ)) × Evicts capacity (r + n) ps v w)
+abbrev pub Reserves : ℕ → Causes → ℕ → ℕ → Written → Level → Level → Type 0
+Reserves capacity expected r n WriteDone v w = (expected.all ≡ None) × Evicts_unless expected.all capacity (r + n) v w × IsTrue (w.opened)
+Reserves capacity expected r n (WriteRefused Io) v w = (expected.early ≡ None) × Rose v.faults w.faults × Evicts_unless expected.all capacity (r + n) v w
 Reserves capacity expected r n (WriteRefused c) v w = IsRefused Disk expected c v w
 
 abbrev pub same_maps : Level → Level → Type 0
@@ -255,29 +286,39 @@ Commits Disk k b (WriteRefused c) v w = IsFault Disk v w c × same_maps v w
 Commits Remote k b how v w = ⊥
 
 -- a remote's write: the key holds the bytes after it, and others may be found lost
-abbrev pub Puts_remote : LevelKind → Option Cause → List ℕ → List ℕ → Written → Level → Level → Type 0
-Puts_remote Remote expected k b WriteDone v w = IsStoreKey k × (expected ≡ None) × (w.pre ≡ v.pre) × ((w.main ≡ put_file v.main (normalize_key k) b) ⊎ (IsPart w.main (put_file v.main (normalize_key k) b) × (held Remote w k ≡ Some b) × Rose v.losses w.losses))
+abbrev pub Puts_remote : LevelKind → Causes → List ℕ → List ℕ → Written → Level → Level → Type 0
+Puts_remote Remote expected k b WriteDone v w =
+    IsStoreKey k × (expected.all ≡ None) × (w.pre ≡ v.pre) × (w.opened ≡ v.opened)
+    × ((w.main ≡ put_file v.main (normalize_key k) b) ⊎ (IsPart w.main (put_file v.main (normalize_key k) b) × (held Remote w k ≡ Some b) × Rose v.losses w.losses))
 Puts_remote Remote expected k b (WriteRefused c) v w = IsRefused Remote expected c v w × Keeps_all Remote v w
 Puts_remote Disk expected k b how v w = ⊥
 
--- a preprocessor entry at a disk level; at a remote one it is always done, and nothing is kept
-abbrev pub Puts_pre : LevelKind → ℕ → Option Cause → ℕ → List ℕ → List ℕ → Written → Level → Level → Type 0
-Puts_pre Disk capacity expected r k b WriteDone v w =
-    (expected ≡ None) × ((u : Level) × ((ps : List (Bool × List ℕ)) × Evicts capacity (r + length b) ps v u) × (w.main ≡ u.main) × (w.pre ≡ put_file u.pre (normalize_key k) b)) × IsTrue (w.opened)
-Puts_pre Disk capacity expected r k b (WriteRefused Io) v w = Rose v.faults w.faults × ((ps : List (Bool × List ℕ)) × Evicts capacity (r + length b) ps v w)
-Puts_pre Disk capacity expected r k b (WriteRefused c) v w = IsRefused Disk expected c v w
-Puts_pre Remote capacity expected r k b WriteDone v w = Keeps_all Remote v w
-Puts_pre Remote capacity expected r k b (WriteRefused c) v w = ⊥
+-- a preprocessor entry at a disk level
+abbrev pub Puts_pre_disk : ℕ → Causes → ℕ → List ℕ → List ℕ → Written → Level → Level → Type 0
+Puts_pre_disk capacity expected r k b WriteDone v w =
+    (expected.all ≡ None) × ((u : Level) × Evicts_unless expected.all capacity (r + length b) v u × (w.main ≡ u.main) × (w.pre ≡ put_file u.pre (normalize_key k) b)) × IsTrue (w.opened)
+Puts_pre_disk capacity expected r k b (WriteRefused Io) v w = (expected.early ≡ None) × Rose v.faults w.faults × Evicts_unless expected.all capacity (r + length b) v w
+Puts_pre_disk capacity expected r k b (WriteRefused c) v w = IsRefused Disk expected c v w
+
+-- at a remote level it is always done, and nothing is kept; a read-only wrapper refuses it
+abbrev pub Puts_pre_remote : Bool → Written → Level → Level → Type 0
+Puts_pre_remote false WriteDone v w = Keeps_all Remote v w × (w.opened ≡ v.opened)
+Puts_pre_remote true (WriteRefused (ForReading WrapperStore)) v w = w ≡ v
+Puts_pre_remote wrapped how v w = ⊥
+
+abbrev pub Puts_pre : LevelFacts → LevelKind → Causes → ℕ → List ℕ → List ℕ → Written → Level → Level → Type 0
+Puts_pre f Disk expected r k b how v w = Puts_pre_disk f.capacity expected r k b how v w
+Puts_pre f Remote expected r k b how v w = Puts_pre_remote f.wrapped how v w
 
 abbrev pub Wrote_at : Setup → LevelFacts → ℕ → List ℕ → List ℕ → Mode → Written → Level → Level → Type 0
-Wrote_at s f r k b Pre how v w = Puts_pre f.kind f.capacity (write_cause s.policy f r k (length b)) r k b how v w
-Wrote_at s f r k b Whole how v w = Puts_remote f.kind (write_cause s.policy f r k (length b)) k b how v w
+Wrote_at s f r k b Pre how v w = Puts_pre f f.kind (causes s.policy f r k (length b)) r k b how v w
+Wrote_at s f r k b Whole how v w = Puts_remote f.kind (causes s.policy f r k (length b)) k b how v w
 Wrote_at s f r k b _ how v w = ⊥
 
 -- what moves one level by an event there: r are its open reservations before
 abbrev pub MovesLevel : Setup → LevelFacts → ℕ → What → Level → Level → Type 0
 MovesLevel s f r (Asked l k mode a hs) v w = Asks s f r k mode a v w
-MovesLevel s f r (Reserved l k n how) v w = Later v w × Reserves f.capacity (write_cause s.policy f r k n) r n how v w
+MovesLevel s f r (Reserved l k n how) v w = Later v w × Reserves f.capacity (causes s.policy f r k n) r n how v w
 MovesLevel s f r (Filled l k b mark how) v w = Later v w × Fills how v w
 MovesLevel s f r (Committed l k b how) v w = Later v w × Commits f.kind k b how v w
 MovesLevel s f r (Wrote l k b mode mark how) v w = Later v w × Wrote_at s f r k b mode how v w
