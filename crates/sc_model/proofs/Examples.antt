@@ -76,7 +76,8 @@ remote = record { kind = Remote; wrapped = false; configured = ModeReadWrite; mo
 abbrev setup : Setup
 setup = record {
     codec = record { payload = λ g. []; entry = λ os. 1 ∷ []; objects = read_entry };
-    compilers = record { may_read = λ c p. true; may_key = λ c k st. true; color = λ c. ColorAuto; pretty = λ c. codes "/o"; is_note = λ c l. false; is_valid = λ b. true; kind_text = λ t. codes "C/C++"; full_text = λ t. codes "c [gcc]" };
+    compilers = record { reads = λ c. None; keys = λ c k. None; color = λ c. ColorAuto; pretty = λ c. codes "/o"; is_note = λ c l. false; is_valid = λ b. true; kind_text = λ t. codes "C/C++"; full_text = λ t. codes "c [gcc]" };
+    workshop = λ k rs os. None;
     scheduler = record { url = None; retry_text = λ n. [] };
     store = record { location = []; type_name = []; basedirs = []; basedir_texts = []; flag = false; max_size = None };
     levels = remote ∷ []; policy = Single; tokens = 1; limit = 100;
@@ -129,7 +130,7 @@ row_1_count = refl
 
 row_1_lawful : Lawful setup (compile []) (stored_after (compile []) Normal NoDist 0 (asked (compile []) 0 Miss))
 row_1_lawful =
-    ((refl, omega arith), ((refl, refl), ((refl, refl, refl, refl, refl), ((refl, refl), (tt, (tt, ((refl, refl, refl, refl), ((refl, tt), ((refl, omega arith), ((refl, refl), tt))))))))))
+    ((refl, omega arith), ((refl, refl), ((refl, refl, refl, refl, refl), ((refl, refl), (tt, (tt, ((refl, refl, refl, refl), ((refl, tt), ((refl, omega arith), ((refl, tt), tt))))))))))
 
 trace_of : List Own → List Event
 trace_of [] = []
@@ -141,7 +142,7 @@ abbrev hit_row : ℕ → List ℕ → List Own → List Own
 hit_row m b own = At m (Sent (reply (compile []))) ∷ At m (Outcome (CacheHit m) task) ∷ At m (Placed PlaceDone) ∷ own
 
 row_2 : Lawful setup (compile []) (hit_row 0 (1 ∷ []) (asked (compile []) 0 (Hit (1 ∷ []) true)))
-row_2 = ((refl, omega arith), ((refl, refl), (tt, ((refl, refl, refl, refl), ((refl, tt), ((refl, omega arith), ((refl, refl), tt)))))))
+row_2 = ((refl, omega arith), ((refl, refl), (tt, ((refl, refl, refl, refl), ((refl, tt), ((refl, omega arith), ((refl, tt), tt)))))))
 
 row_2_count : length (hit_row 0 (1 ∷ []) (asked (compile []) 0 (Hit (1 ∷ []) true))) ≡ 7
 row_2_count = refl

@@ -182,7 +182,7 @@ module _ (s : Script) where
       by_kind (Began q told) h = inl (stays (began told h))
       by_kind (Keyed first client step) h = inl (stays (ap (λ v. v.levels) h.6))
       by_kind (Placed p) h = inl (stays (placed p h))
-      by_kind (Ran a) h = inl (stays (ap (λ v. v.levels) h.3))
+      by_kind (Ran a) h = inl (stays (ap (λ v. v.levels) h.4))
       by_kind (Dist d) h = inl (stays (ap (λ v. v.levels) h.3))
       by_kind (Outcome v task) h = inl (stays (ended v h))
       by_kind _ h = inl (stays (ap (λ v. v.levels) h))
@@ -248,8 +248,8 @@ module _ (s : Script) where
             let f = level_facts s.setup.levels j in
             let v = level_at w j in
             let a : IsStoreKey i × (held f.kind h.0 i ≡ Some d) =
-                ⊎_elim (λ (e : mode ≡ Whole). let q : Answers_whole s.setup f.kind i (Hit d mark) v h.0 = subst (λ u. Answers s.setup f (z j) i u (Hit d mark) v h.0) e h.1.answers in (q.0, q.1))
-                    (λ (e : mode ≡ Raw). let q : Answers_raw f.kind i (Hit d mark) v h.0 = subst (λ u. Answers s.setup f (z j) i u (Hit d mark) v h.0) e h.1.answers in (q.0, q.1)) y in
+                ⊎_elim (λ (e : mode ≡ Whole). let q : Answers_whole s.setup.codec.objects f.kind i (Hit d mark) v h.0 = subst (λ u. Answers s.setup.codec.objects f (z j) i u (Hit d mark) v h.0) e h.1.answers in (q.0, q.1))
+                    (λ (e : mode ≡ Raw). let q : Answers_raw f.kind i (Hit d mark) v h.0 = subst (λ u. Answers s.setup.codec.objects f (z j) i u (Hit d mark) v h.0) e h.1.answers in (q.0, q.1)) y in
             holds j i d a.0 (keeps_held f.kind v h.0 i d h.1.keeps a.1)
 
         pub rightful_step : (x : What) → Moves s.setup n z x w w2 → Hits s start t x

@@ -1,5 +1,6 @@
 -- The headline holds of every run of the machine.
 use Rattle.std.proofs.Common.{◌≡◌, ℕ, ◌+◌, List, [], ◌∷◌, ◌++◌, length, refl, sym, ap, ◌∙◌, subst, arith, get_or}
+use Rattle.sc_entry.specs.Causes.{IfTold}
 use Rattle.sc_model.proofs.Backs.{BackTie, IsWrite, back_new, pending_writes}
 use Rattle.sc_model.proofs.Claims.{get_map, lawful_finishes, lawful_notes, next_fits}
 use Rattle.sc_model.proofs.Conns.{ConnTie, conn_new, conn_prefix, current_is}
@@ -61,7 +62,8 @@ module _ (s : Script) where
   -- the key and the hit that the phase keeps are the job's
   moves_same : (r : Request) (own : List Own) (p : Phase) (x : What) (z : ℕ → ℕ) (w w2 : World) → Keeps s.setup r own p → Fits s.setup r (due_at s.setup r p) x → Moves s.setup (need_at s.setup r p) z x w w2 → Moves s.setup (need_of s.setup r own) z x w w2
   moves_same r own (AtRun work) (Ran a) z w w2 kp f m =
-      (m.0, m.1, m.2, subst (λ v. w2 ≡ record w { runs = w.runs ++ (v.found.key, a) ∷ []; shop_faults = m.0 }) (sym kp.has.job_is) m.3)
+      (m.0, m.1, m.2, subst (λ v. IfTold (s.setup.workshop v.found.key w.runs v.found.outputs) (λ b. a ≡ b)) (sym kp.has.job_is) m.3,
+       subst (λ v. w2 ≡ record w { runs = w.runs ++ (v.found.key, a) ∷ []; shop_faults = m.0 }) (sym kp.has.job_is) m.4)
   moves_same r own (AtPlace job b d) (Placed p) z w w2 kp f m =
       let n2 : Need → Type 0 = λ v. MovesPlaced s.setup v p w w2 in
       placed p m

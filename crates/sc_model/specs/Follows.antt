@@ -1,5 +1,6 @@
 -- What follows what, for one request or one handed write, read off its own events.
 use Rattle.std.specs.Prelude.{◌≡◌, ℕ, zero, suc, ◌+◌, ◌-◌, ◌^◌, min, ◌<◌, ◌≤◌, Bool, true, false, ◌&&◌, not, if◌then◌else◌, List, [], ◌∷◌, ◌++◌, length, drop, Option, Some, None, Ok, Err, codes, IsTrue, nat_lt}
+use Rattle.sc_entry.specs.Causes.{IfTold}
 use Rattle.sc_model.specs.Job.{At, Own, asked_at, bytes_of, dist_of, finish, is_late, job_of, judge, judged_verdict, miss_of, notes_of, over, put_bytes, refused, run_verdict, sized, stats_of, task_of, work_from}
 use Rattle.sc_model.specs.Plan.{backfills, cause_text, goes_on, handed_by, is_disk, is_none, level_facts, plan, pre_plan, pre_put_result, put_answer, put_result, reads_only}
 use Rattle.sc_model.specs.Script.{Control, Default, Setup, control, counted_task}
@@ -314,7 +315,7 @@ due_back fs h (_ ∷ own) = Over
 
 -- which Began fits the request; the others' events are another matter
 abbrev pub Begins : Setup → Request → Told → Type 0
-Begins s (Compile c) (TellsCompile p) = IsTrue (s.compilers.may_read c p)
+Begins s (Compile c) (TellsCompile p) = IfTold (s.compilers.reads c) (λ q. p ≡ q)
 Begins s (PutPre k b) (TellsValid v) = v ≡ s.compilers.is_valid b
 Begins s GetStats (TellsStats stats) = Unit {0}
 Begins s Shutdown (TellsStats stats) = Unit {0}

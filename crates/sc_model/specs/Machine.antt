@@ -8,7 +8,7 @@ use Rattle.sc_model.specs.Plan.{cause_text, goes_on, note, plan, pre_plan, put_r
 use Rattle.sc_model.specs.Rows.{Direct, by_backfill, count, level_named, level_row, row, zeroes}
 use Rattle.sc_model.specs.Script.{BadFrame, Control, Default, End, ReadsOn, Script, Setup, control, counted_task, input}
 use Rattle.sc_model.specs.Trace.{Given, Open, ends_write, hands, if_too_long, no_request, request, reserved_at, reserved_by, sent_by}
-use Rattle.sc_model.specs.World.{IsWithinBytes, Moves, Need, World, may_of, need_of, placed_of}
+use Rattle.sc_model.specs.World.{IsWithinBytes, Moves, Need, World, keys_of, need_of, placed_of}
 use Rattle.sc_model.specs.declared.event.Answer.{Answer}
 use Rattle.sc_model.specs.declared.event.Answer.TheVariants.{Found as FoundAt, Hit, Refused, Size as SizeIs}
 use Rattle.sc_model.specs.declared.event.DistAnswer.{DistAnswer}
@@ -321,9 +321,9 @@ free_after free _ = free
 
 -- what the job at this phase needs of the parts
 abbrev pub need_at : Setup → Request → Phase → Need
-need_at s r (AtRun work) = record { may = may_of s r; key = work.job.found.key; outputs = []; hit = [] }
-need_at s r (AtPlace job b d) = record { may = may_of s r; key = []; outputs = placed_of job.found.locally_preprocessed job.found.outputs; hit = b }
-need_at s r _ = record { may = may_of s r; key = []; outputs = []; hit = [] }
+need_at s r (AtRun work) = record { keys = keys_of s r; key = work.job.found.key; wanted = work.job.found.outputs; outputs = []; hit = [] }
+need_at s r (AtPlace job b d) = record { keys = keys_of s r; key = []; wanted = []; outputs = placed_of job.found.locally_preprocessed job.found.outputs; hit = b }
+need_at s r _ = record { keys = keys_of s r; key = []; wanted = []; outputs = []; hit = [] }
 
 -- handed writes
 abbrev pub given_of : Pending → Given

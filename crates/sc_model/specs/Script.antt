@@ -6,7 +6,9 @@ use Rattle.sc_model.specs.declared.event.KeyStep.{KeyStep}
 use Rattle.sc_model.specs.declared.event.Language.TheVariants.{C as LanguageC, Cuda}
 use Rattle.sc_entry.specs.declared.object.Object.{Object}
 use Rattle.sc_model.specs.declared.event.Parsed.{Parsed}
+use Rattle.sc_model.specs.declared.event.RunAnswer.{RunAnswer}
 use Rattle.sc_model.specs.declared.event.Task.{Task}
+use Rattle.sc_entry.specs.declared.object.FileObjectSource.{FileObjectSource}
 use Rattle.sc_model.specs.declared.level.LevelFacts.{LevelFacts}
 use Rattle.sc_model.specs.declared.level.Policy.{Policy}
 use Rattle.sc_model.specs.declared.level.Policy.TheVariants.{Levels, Single}
@@ -56,10 +58,10 @@ pub data Control : Type 0 where
 
 -- what the compiler part, the probe and the validity test tell
 pub record Compilers : Type 0 where
-  -- possible readings of a compile's words by the compiler that the probe finds, also its refusal
-  pub may_read : CompileRequest → Parsed → Bool
-  -- possible answers of the key step
-  pub may_key : CompileRequest → Control → KeyStep → Bool
+  -- the reading of a compile's words by the compiler that the probe finds, or why none is found, where these tell it
+  pub reads : CompileRequest → Option Parsed
+  -- the key step's answer, where the compiler tells it
+  pub keys : CompileRequest → Control → Option KeyStep
   pub color : CompileRequest → ColorMode
   pub pretty : CompileRequest → List ℕ
   pub is_note : CompileRequest → List ℕ → Bool
@@ -87,6 +89,8 @@ pub record Setup : Type 0 where
   pub codec : Codec
   pub compilers : Compilers
   pub scheduler : Scheduler
+  -- what the workshop answers under a key, by the runs before and the outputs that are wanted, where it tells that
+  pub workshop : List ℕ → List (List ℕ × RunAnswer) → List FileObjectSource → Option RunAnswer
   pub store : StoreFacts
   pub levels : List LevelFacts
   pub policy : Policy

@@ -47,7 +47,7 @@ use Rattle.std.specs.Cmp.Lexicographic.{slice_cmp}
 use Rattle.std.specs.FinMap.{FinMap, empty as empty_map, entries as entries_map, get as get_map, insert as insert_map, remove as remove_map}
 use Rattle.std.specs.Ordering.{nat_cmp}
 use Rattle.sc_entry.specs.Keys.{IsStoreKey, is_store_key, make_key_path, normalize_key}
-use Rattle.sc_entry.specs.Causes.{Rose}
+use Rattle.sc_entry.specs.Causes.{IfTold, Rose}
 use Rattle.sc_stats.specs.Sums.{sat}
 
 -- bytes under paths
@@ -143,13 +143,13 @@ Spells (Some os) = Unit {0}
 Spells None = ⊥
 
 -- a lookup's answer, by the level's map after it
-abbrev pub Answers_whole : Setup → LevelKind → List ℕ → Answer → Level → Level → Type 0
-Answers_whole s kind k (Hit b mark) v w = IsStoreKey k × (held kind w k ≡ Some b) × Spells (s.codec.objects b)
-Answers_whole s kind k Miss v w = IsStoreKey k × (held kind w k ≡ None)
-Answers_whole s kind k (Refused BadKey) v w = IsStoreKey k → ⊥
-Answers_whole s kind k (Refused BadEntry) v w = IsStoreKey k × ((b : List ℕ) × (held kind w k ≡ Some b) × (s.codec.objects b ≡ None))
-Answers_whole s kind k (Refused c) v w = IsStoreKey k × IsFault kind v w c
-Answers_whole s kind k _ v w = ⊥
+abbrev pub Answers_whole : (List ℕ → Option (List Object)) → LevelKind → List ℕ → Answer → Level → Level → Type 0
+Answers_whole objects kind k (Hit b mark) v w = IsStoreKey k × (held kind w k ≡ Some b) × Spells (objects b)
+Answers_whole objects kind k Miss v w = IsStoreKey k × (held kind w k ≡ None)
+Answers_whole objects kind k (Refused BadKey) v w = IsStoreKey k → ⊥
+Answers_whole objects kind k (Refused BadEntry) v w = IsStoreKey k × ((b : List ℕ) × (held kind w k ≡ Some b) × (objects b ≡ None))
+Answers_whole objects kind k (Refused c) v w = IsStoreKey k × IsFault kind v w c
+Answers_whole objects kind k _ v w = ⊥
 
 abbrev pub Answers_raw : LevelKind → List ℕ → Answer → Level → Level → Type 0
 Answers_raw kind k (Hit b mark) v w = IsStoreKey k × (held kind w k ≡ Some b)
@@ -185,12 +185,12 @@ abbrev pub Answers_size : LevelKind → ℕ → Answer → Level → Type 0
 Answers_size kind r (SizeIs n c) w = n ≡ level_size kind w r
 Answers_size kind r _ w = ⊥
 
-abbrev pub Answers : Setup → LevelFacts → ℕ → List ℕ → Mode → Answer → Level → Level → Type 0
-Answers s f r k Whole a v w = Answers_whole s f.kind k a v w
-Answers s f r k Raw a v w = Answers_raw f.kind k a v w
-Answers s f r k Path a v w = Answers_path f k a v w
-Answers s f r k Pre a v w = Answers_pre f.kind k a v w
-Answers s f r k Sizes a v w = Answers_size f.kind r a w
+abbrev pub Answers : (List ℕ → Option (List Object)) → LevelFacts → ℕ → List ℕ → Mode → Answer → Level → Level → Type 0
+Answers objects f r k Whole a v w = Answers_whole objects f.kind k a v w
+Answers objects f r k Raw a v w = Answers_raw f.kind k a v w
+Answers objects f r k Path a v w = Answers_path f k a v w
+Answers objects f r k Pre a v w = Answers_pre f.kind k a v w
+Answers objects f r k Sizes a v w = Answers_size f.kind r a w
 
 -- an answer that needed the disk store opened it, a bad key does not; a remote store is never opened
 abbrev pub Opens_by : LevelKind → Mode → Answer → Level → Level → Type 0
@@ -203,10 +203,10 @@ Opens_by Disk mode (Refused Io) v w = Unit {0}
 Opens_by Disk mode a v w = IsTrue (w.opened)
 
 -- a level is asked
-pub record Asks (s : Setup) (f : LevelFacts) (r : ℕ) (k : List ℕ) (mode : Mode) (a : Answer) (v w : Level) : Type 0 where
+pub record Asks (objects : List ℕ → Option (List Object)) (f : LevelFacts) (r : ℕ) (k : List ℕ) (mode : Mode) (a : Answer) (v w : Level) : Type 0 where
   pub later : Later v w
   pub keeps : Keeps_all f.kind v w
-  pub answers : Answers s f r k mode a v w
+  pub answers : Answers objects f r k mode a v w
   pub opens : Opens_by f.kind mode a v w
 
 -- paths of both maps go one by one, each only while all that counts exceeds the capacity
@@ -310,18 +310,18 @@ abbrev pub Puts_pre : LevelFacts → LevelKind → Causes → ℕ → List ℕ �
 Puts_pre f Disk expected r k b how v w = Puts_pre_disk f.capacity expected r k b how v w
 Puts_pre f Remote expected r k b how v w = Puts_pre_remote f.wrapped how v w
 
-abbrev pub Wrote_at : Setup → LevelFacts → ℕ → List ℕ → List ℕ → Mode → Written → Level → Level → Type 0
-Wrote_at s f r k b Pre how v w = Puts_pre f f.kind (causes s.policy f r k (length b)) r k b how v w
-Wrote_at s f r k b Whole how v w = Puts_remote f.kind (causes s.policy f r k (length b)) k b how v w
-Wrote_at s f r k b _ how v w = ⊥
+abbrev pub Wrote_at : Policy → LevelFacts → ℕ → List ℕ → List ℕ → Mode → Written → Level → Level → Type 0
+Wrote_at policy f r k b Pre how v w = Puts_pre f f.kind (causes policy f r k (length b)) r k b how v w
+Wrote_at policy f r k b Whole how v w = Puts_remote f.kind (causes policy f r k (length b)) k b how v w
+Wrote_at policy f r k b _ how v w = ⊥
 
 -- what moves one level by an event there: r are its open reservations before
 abbrev pub MovesLevel : Setup → LevelFacts → ℕ → What → Level → Level → Type 0
-MovesLevel s f r (Asked l k mode a hs) v w = Asks s f r k mode a v w
+MovesLevel s f r (Asked l k mode a hs) v w = Asks s.codec.objects f r k mode a v w
 MovesLevel s f r (Reserved l k n how) v w = Later v w × Reserves f.capacity (causes s.policy f r k n) r n how v w
 MovesLevel s f r (Filled l k b mark how) v w = Later v w × Fills how v w
 MovesLevel s f r (Committed l k b how) v w = Later v w × Commits f.kind k b how v w
-MovesLevel s f r (Wrote l k b mode mark how) v w = Later v w × Wrote_at s f r k b mode how v w
+MovesLevel s f r (Wrote l k b mode mark how) v w = Later v w × Wrote_at s.policy f r k b mode how v w
 MovesLevel s f r _ v w = w ≡ v
 
 -- that level alone moves, and all else stays
@@ -340,9 +340,9 @@ gives_client Made = true
 gives_client _ = false
 
 -- a kept message is answered once
-abbrev pub Tells_client : ℕ → Container → Bool → Bool → KeyStep → Container → Type 0
-Tells_client now (FailWithMessage text) may client step after = (client ≡ false) × (step ≡ KeyFault (text ∷ [])) × (after ≡ RetryCreateAt now)
-Tells_client now c may client step after = (may ≡ true) × (client ≡ gives_client c) × (after ≡ c)
+abbrev pub Tells_client : ℕ → Container → Option KeyStep → Bool → KeyStep → Container → Type 0
+Tells_client now (FailWithMessage text) told client step after = (client ≡ false) × (step ≡ KeyFault (text ∷ [])) × (after ≡ RetryCreateAt now)
+Tells_client now c told client step after = IfTold told (λ k. step ≡ k) × (client ≡ gives_client c) × (after ≡ c)
 
 abbrev pub reset : ℕ → Container → Container
 reset now Disabled = Disabled
@@ -368,10 +368,12 @@ abbrev pub DistCause : DistAnswer → ℕ → ℕ → Type 0
 DistCause (DistDone server out) f g = IsBrokenRun out → Rose f g
 DistCause _ f g = Rose f g
 
--- what an event needs of its job: its key, its outputs that are placed, its hit, and what the compiler part may answer
+-- what an event needs of its job: what the compiler tells of its key step, its key, the outputs that a run is asked for,
+-- those that a hit places, and the hit
 pub record Need : Type 0 where
-  pub may : Bool → KeyStep → Bool
+  pub keys : Bool → Option KeyStep
   pub key : List ℕ
+  pub wanted : List FileObjectSource
   pub outputs : List FileObjectSource
   pub hit : List ℕ
 
@@ -383,12 +385,12 @@ abbrev pub placed_of : Bool → List FileObjectSource → List FileObjectSource
 placed_of locally [] = []
 placed_of locally (o ∷ os) = if is_placed locally o then o ∷ placed_of locally os else placed_of locally os
 
-abbrev pub may_of : Setup → Request → Bool → KeyStep → Bool
-may_of s (Compile c) first step = s.compilers.may_key c (control (Compile c) first) step
-may_of s _ first step = false
+abbrev pub keys_of : Setup → Request → Bool → Option KeyStep
+keys_of s (Compile c) first = s.compilers.keys c (control (Compile c) first)
+keys_of s _ first = None
 
 abbrev pub need_of : Setup → Request → List Own → Need
-need_of s r own = record { may = may_of s r; key = (job_of own).found.key; outputs = placed_of (job_of own).found.locally_preprocessed (job_of own).found.outputs; hit = hit_of own }
+need_of s r own = record { keys = keys_of s r; key = (job_of own).found.key; wanted = (job_of own).found.outputs; outputs = placed_of (job_of own).found.locally_preprocessed (job_of own).found.outputs; hit = hit_of own }
 
 abbrev pub lacks : Option (List Object) → List ℕ → Bool
 lacks None name = true
@@ -424,10 +426,10 @@ MovesBegan s _ w w2 = w2 ≡ w
 -- how an event of a request or a handed write moves the world; r: a level's open reservations before
 abbrev pub Moves : Setup → Need → (ℕ → ℕ) → What → World → World → Type 0
 Moves s n r (Began q told) w w2 = MovesBegan s told w w2
-Moves s n r (Keyed first client step) w w2 = (c d : Container) × (f : ℕ) × (w.maker_faults ≤ f) × Renews w.moment w.container c w.maker_faults f × Tells_client w.moment c (n.may first step) client step d × (w2 ≡ record w { container = d; maker_faults = f })
+Moves s n r (Keyed first client step) w w2 = (c d : Container) × (f : ℕ) × (w.maker_faults ≤ f) × Renews w.moment w.container c w.maker_faults f × Tells_client w.moment c (n.keys first) client step d × (w2 ≡ record w { container = d; maker_faults = f })
 Moves s n r (Asked l k mode a hs) w w2 = MovesAt s l (r l) (Asked l k mode a hs) w w2
 Moves s n r (Placed p) w w2 = MovesPlaced s n p w w2
-Moves s n r (Ran a) w w2 = (f : ℕ) × (w.shop_faults ≤ f) × RunCause a w.shop_faults f × (w2 ≡ record w { runs = w.runs ++ (n.key, a) ∷ []; shop_faults = f })
+Moves s n r (Ran a) w w2 = (f : ℕ) × (w.shop_faults ≤ f) × RunCause a w.shop_faults f × IfTold (s.workshop n.key w.runs n.wanted) (λ b. a ≡ b) × (w2 ≡ record w { runs = w.runs ++ (n.key, a) ∷ []; shop_faults = f })
 Moves s n r (Dist d) w w2 = (f : ℕ) × (w.dist_faults ≤ f) × DistCause d w.dist_faults f × (w2 ≡ record w { dist_faults = f })
 Moves s n r (Outcome v task) w w2 = MovesOutcome v w w2
 Moves s n r (Reserved l k z how) w w2 = MovesAt s l (r l) (Reserved l k z how) w w2
