@@ -1,5 +1,6 @@
 -- One connection: its requests one after the other.
 use Rattle.std.proofs.Common.{◌≡◌, ℕ, zero, suc, ◌+◌, ◌<◌, ◌≤◌, ◌⊎◌, ⊎_elim, cond, List, [], ◌∷◌, ◌++◌, length, take, drop, refl, sym, ap, ◌∙◌, subst, arith, append_assoc, length-append, get_or}
+use Rattle.sc_model.specs.declared.message.Response.{Response}
 use Rattle.sc_model.proofs.Keeping.{Ties, ties_new, ties_step}
 use Rattle.sc_model.proofs.Owed.{frames_are, owed}
 use Rattle.sc_model.specs.Follows.{Fits, Lawful, Over, due, kind_at, start_write}
@@ -9,8 +10,8 @@ use Rattle.sc_model.specs.Job.{At, Own}
 use Rattle.sc_model.specs.Machine.{Conn, advanced, after, current, due_at, long_after, more, new_conn, outcome_after, reserved_after, settle, shut, told_by}
 use Rattle.sc_model.specs.Next.{IsFirst, due_of}
 use Rattle.sc_model.specs.Rows.{last_at, outcome_at, reserved_since}
-use Rattle.sc_model.specs.Script.{ReadsOn, Script, input}
-use Rattle.sc_model.specs.Trace.{Came, Did, Mine, Shut, came, is_closed, no_request, owned, request, sent, sent_by, sent_of, taken, too_long}
+use Rattle.sc_model.specs.Script.{ReadsOn, Script, Setup, input}
+use Rattle.sc_model.specs.Trace.{frame_bytes, frame_of, Came, Did, Mine, Shut, came, is_closed, no_request, owned, request, sent, sent_by, sent_of, taken, too_long}
 use Rattle.sc_model.specs.declared.event.What.{What}
 use Rattle.sc_model.specs.declared.event.What.TheVariants.{Outcome, Reserved, TooLong}
 use Rattle.sc_model.specs.declared.event.Written.TheVariants.{Done as WriteDone, Refused as WriteRefused}
@@ -58,6 +59,10 @@ drop_suc zero (x ∷ xs) = refl
 drop_suc (suc n) [] = refl
 drop_suc (suc n) (x ∷ xs) = drop_suc n xs
 
+pub frame_bytes-append : (s : Setup) (gs hs : List Response) → frame_bytes s (gs ++ hs) ≡ frame_bytes s gs ++ frame_bytes s hs
+frame_bytes-append s [] hs = refl
+frame_bytes-append s (g ∷ gs) hs = ap (λ v. frame_of (s.codec.payload g) ++ v) (frame_bytes-append s gs hs) ∙ sym (append_assoc (frame_of (s.codec.payload g)) (frame_bytes s gs) (frame_bytes s hs))
+
 module _ (s : Script) where
   abbrev pub reqs : List Mine → List Request
   reqs t = s.reader.requests (taken t)
@@ -92,7 +97,7 @@ module _ (s : Script) where
     pub rest : s.reader.rest (taken t) ≡ k.rest
     pub got : length (taken t) ≡ k.got
     pub closed : is_closed t ≡ k.closed
-    pub replies : sent t ≡ k.replies
+    pub out : frame_bytes s.setup (sent t) ≡ k.out
     pub long : too_long t ≡ k.long
     pub last : last_at (owned k.at t) ≡ k.last
     pub outcome : outcome_at (owned k.at t) ≡ k.outcome
@@ -104,7 +109,7 @@ module _ (s : Script) where
   conn_new on input =
       let none : (m : ℕ) → Lawful s.setup (request (s.reader.requests input) m) [] = λ m. tt in
       record {
-          left = input; bytes = refl; queue = on.none; rest = on.nothing; got = refl; closed = refl; replies = refl; long = refl; last = refl; outcome = refl; reserved = refl; unfinished = λ r e. (cc);
+          left = input; bytes = refl; queue = on.none; rest = on.nothing; got = refl; closed = refl; out = refl; long = refl; last = refl; outcome = refl; reserved = refl; unfinished = λ r e. (cc);
           holds = record {
               following = s.reader.requests (s.reader.rest [] ++ input); comes = sym (on.requests [] input); within = omega arith; ties = ties_new s.setup _; before = λ m l. absurd (omega arith);
               later = λ m l. refl; absent = λ m l. refl; sends = refl; lawful = none;
@@ -125,7 +130,7 @@ module _ (s : Script) where
           queue = ap (drop k.at) grown ∙ drop_append k.at (reqs t) (s.reader.requests (k.rest ++ bytes)) h.within ∙ ap (λ v. v ++ s.reader.requests (k.rest ++ bytes)) c.queue;
           rest = on.rest (taken t) bytes ∙ ap (λ v. s.reader.rest (v ++ bytes)) c.rest;
           got = omega (arith, length-append (taken t) bytes, c.got);
-          closed = c.closed; replies = c.replies; long = c.long; last = c.last; outcome = c.outcome; reserved = c.reserved; unfinished = c.unfinished;
+          closed = c.closed; out = c.out; long = c.long; last = c.last; outcome = c.outcome; reserved = c.reserved; unfinished = c.unfinished;
           holds = record {
               following = s.reader.requests (s.reader.rest (taken t ++ bytes) ++ drop n c.left);
               comes = sym (on.requests (taken t ++ bytes) (drop n c.left)) ∙ ap s.reader.requests whole;
@@ -142,7 +147,7 @@ module _ (s : Script) where
   conn_shut input t k c =
       let h = c.holds in
       record {
-          left = c.left; bytes = c.bytes; queue = c.queue; rest = c.rest; got = c.got; closed = refl; replies = c.replies; long = c.long; last = c.last; outcome = c.outcome; reserved = c.reserved; unfinished = c.unfinished;
+          left = c.left; bytes = c.bytes; queue = c.queue; rest = c.rest; got = c.got; closed = refl; out = c.out; long = c.long; last = c.last; outcome = c.outcome; reserved = c.reserved; unfinished = c.unfinished;
           holds = record {
               following = h.following; comes = h.comes; within = h.within; ties = h.ties; before = h.before; later = h.later; absent = h.absent;
               sends = h.sends ∙ ap (λ v. v ++ sent_of (owned k.at t)) (sym (upto_same (s.reader.requests input) k.at t (Shut ∷ t) (λ m l. refl))); lawful = h.lawful;
@@ -203,20 +208,20 @@ module _ (s : Script) where
     rest : s.reader.rest (taken t) ≡ k.rest
     got : length (taken t) ≡ k.got
     closed : is_closed t ≡ k.closed
-    replies : sent t ≡ k.replies
+    out : frame_bytes s.setup (sent t) ≡ k.out
     long : too_long t ≡ k.long
     last : last_at (owned k.at t) ≡ k.last
     outcome : outcome_at (owned k.at t) ≡ k.outcome
     reserved : reserved_since (owned k.at t) ≡ k.reserved
 
   stays : (input : List ℕ) (t : List Mine) (k : Conn) (q : Phase) → Before input t k → Holds (s.reader.requests input) t k.at q → ((r : Request) → due_at s.setup r q ≡ Over → ⊥) → ConnTie input t (record k { phase = q })
-  stays input t k q b h u = record { left = b.left; bytes = b.bytes; queue = b.queue; rest = b.rest; got = b.got; closed = b.closed; replies = b.replies; long = b.long; last = b.last; outcome = b.outcome; reserved = b.reserved; holds = h; unfinished = u }
+  stays input t k q b h u = record { left = b.left; bytes = b.bytes; queue = b.queue; rest = b.rest; got = b.got; closed = b.closed; out = b.out; long = b.long; last = b.last; outcome = b.outcome; reserved = b.reserved; holds = h; unfinished = u }
 
   settle_tie : (input : List ℕ) (t : List Mine) (k : Conn) (q : Phase) → k.at < length (reqs t) → Before input t k → Holds (s.reader.requests input) t k.at q → ConnTie input t (settle k q)
   settle_tie input t k AtOver l b h =
       let none = h.later (suc k.at) (omega arith) in
       record {
-          left = b.left; bytes = b.bytes; queue = sym (drop_suc k.at (reqs t)) ∙ ap (drop 1) b.queue; rest = b.rest; got = b.got; closed = b.closed; replies = b.replies; long = b.long;
+          left = b.left; bytes = b.bytes; queue = sym (drop_suc k.at (reqs t)) ∙ ap (drop 1) b.queue; rest = b.rest; got = b.got; closed = b.closed; out = b.out; long = b.long;
           last = ap last_at none; outcome = ap outcome_at none; reserved = ap reserved_since none;
           holds = over_holds (s.reader.requests input) t k.at l h; unfinished = λ r e. (cc);
       }
@@ -246,9 +251,9 @@ module _ (s : Script) where
       let f2 = subst (λ v. Fits s.setup v (due_at s.setup v k.phase) x) r f in
       let h = holds_did (s.reader.requests input) t k.at k.phase z x w c.holds f2 in
       let same = owned_same k.at z x t in
-      settle_tie input (Did k.at z x ∷ t) (told_by k z x) (after s.setup (current k) k.phase z x) w
+      settle_tie input (Did k.at z x ∷ t) (told_by s.setup k z x) (after s.setup (current k) k.phase z x) w
           (record {
-              left = c.left; bytes = c.bytes; queue = c.queue; rest = c.rest; got = c.got; closed = c.closed; replies = ap (λ v. v ++ sent_by x) c.replies; long = long_same k.at z x t ∙ ap (λ v. long_after v x) c.long;
+              left = c.left; bytes = c.bytes; queue = c.queue; rest = c.rest; got = c.got; closed = c.closed; out = frame_bytes-append s.setup (sent t) (sent_by x) ∙ ap (λ v. v ++ frame_bytes s.setup (sent_by x)) c.out; long = long_same k.at z x t ∙ ap (λ v. long_after v x) c.long;
               last = ap last_at same; outcome = ap outcome_at same ∙ outcome_same z x (owned k.at t) ∙ ap (λ v. outcome_after v z x) c.outcome;
               reserved = ap reserved_since same ∙ reserved_same z x (owned k.at t) ∙ ap (λ v. reserved_after v z x) c.reserved;
           })

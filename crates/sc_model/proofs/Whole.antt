@@ -1,5 +1,5 @@
 -- The headline holds of every run of the machine.
-use Rattle.std.proofs.Common.{◌≡◌, ℕ, ◌+◌, List, [], ◌∷◌, ◌++◌, length, refl, sym, ap, ◌∙◌, subst, arith, get_or}
+use Rattle.std.proofs.Common.{◌≡◌, ℕ, ◌+◌, List, [], ◌∷◌, ◌++◌, length, refl, sym, ap, ◌∙◌, subst, arith, get_or, Bool, true, false, cond}
 use Rattle.sc_entry.specs.Causes.{IfTold}
 use Rattle.sc_model.proofs.Backs.{BackTie, IsWrite, back_new, pending_writes}
 use Rattle.sc_model.proofs.Claims.{get_map, lawful_finishes, lawful_notes, next_fits}
@@ -11,14 +11,19 @@ use Rattle.sc_model.proofs.Steps.{start_is}
 use Rattle.sc_model.specs.Follows.{Fits, Lawful, kind_at}
 use Rattle.sc_model.specs.Headline.{Begins_in_order, BytesWithin, Each, Finishes, Headline, IsFinished, IsInOrder, IsRightful, IsStoredFirst, RunsWithin, StoresBefore}
 use Rattle.sc_model.specs.Job.{Own}
-use Rattle.sc_model.specs.Machine.{Conn, Does, DoesBack, DoesPass, DoesRead, DoesServe, DoesStep, IsIdle, Machine, Runs, conn, due_at, end_at, need_at, new_conn, result_of_run}
+use Rattle.sc_model.specs.Machine.{Conn, Does, DoesBack, DoesPass, DoesRead, DoesServe, DoesStep, IsIdle, Machine, Runs, conn, due_at, end_at, need_at, new_conn, result_of_run, shown_levels}
 use Rattle.sc_model.specs.Next.{Leads, NextStep, at_moment, ticked}
 use Rattle.sc_model.specs.Plan.{background}
-use Rattle.sc_model.specs.Script.{IsOpen, ReadsOn, Script, input}
+use Rattle.sc_model.specs.Script.{IsOpen, ReadsOn, Script, input, is_single}
 use Rattle.sc_entry.specs.Tally.{counted}
 use Rattle.sc_model.specs.Trace.{about, all, if_too_long, no_request, own_of, owned, request, request_of, reservations, reserved_at, taken, too_long, written}
-use Rattle.sc_model.specs.World.{IsWithinBytes, Moves, MovesPlaced, Need, World, first_missing, need_of, placed_of}
+use Rattle.sc_model.specs.World.{and_one, IsWithinBytes, Moves, MovesPlaced, Need, World, first_missing, need_of, placed_of}
 use Rattle.sc_model.specs.declared.event.Event.{Event}
+use Rattle.sc_model.specs.declared.level.LevelFacts.{LevelFacts}
+use Rattle.sc_model.specs.declared.level.Policy.{Policy}
+use Rattle.sc_model.specs.declared.level.Policy.TheVariants.{Levels, Single}
+use Rattle.sc_stats.specs.declared.counters.LevelStats.{LevelStats}
+use Rattle.std.proofs.lemmas.List.{length-map}
 use Rattle.sc_model.specs.declared.event.Owner.{Owner}
 use Rattle.sc_model.specs.declared.event.Owner.TheVariants.{Nobody, Request as OfRequest, Write as OfWrite}
 use Rattle.sc_model.specs.declared.event.Placing.{Placing}
@@ -33,6 +38,14 @@ use Rattle.sc_model.specs.declared.phase.Job.{Job}
 use Rattle.sc_model.specs.declared.phase.Phase.{Phase}
 use Rattle.sc_model.specs.declared.phase.Phase.TheVariants.{AtPlace, AtRun, AtWrite, PrePut}
 use Rattle.sc_stats.specs.Sums.{no_level_stats, sat}
+
+shown_is : (p : Policy) (ls : List LevelStats) → is_single p ≡ false → shown_levels p ls ≡ ls
+shown_is Single ls e = (cc)
+shown_is (Levels ps) ls e = refl
+
+shown_count : (p : Policy) (ls : List LevelStats) (fs : List LevelFacts) → length ls ≡ length fs → length (shown_levels p ls) ≡ cond (is_single p) 0 (length fs)
+shown_count Single ls fs e = refl
+shown_count (Levels ps) ls fs e = e
 
 module _ (s : Script) where
   module _ (t : List Event) (lawful : (c n : ℕ) → Lawful s.setup (request (all s c) n) (owned n (about c t))) (p : Step) where
@@ -63,7 +76,7 @@ module _ (s : Script) where
   moves_same : (r : Request) (own : List Own) (p : Phase) (x : What) (z : ℕ → ℕ) (w w2 : World) → Keeps s.setup r own p → Fits s.setup r (due_at s.setup r p) x → Moves s.setup (need_at s.setup r p) z x w w2 → Moves s.setup (need_of s.setup r own) z x w w2
   moves_same r own (AtRun work) (Ran a) z w w2 kp f m =
       (m.0, m.1, m.2, subst (λ v. IfTold (s.setup.workshop v.found.key w.runs v.found.outputs) (λ b. a ≡ b)) (sym kp.has.job_is) m.3,
-       subst (λ v. w2 ≡ record w { runs = w.runs ++ (v.found.key, a) ∷ []; shop_faults = m.0 }) (sym kp.has.job_is) m.4)
+       subst (λ v. w2 ≡ record w { runs = and_one w.runs (v.found.key, a); shop_faults = m.0 }) (sym kp.has.job_is) m.4)
   moves_same r own (AtPlace job b d) (Placed p) z w w2 kp f m =
       let n2 : Need → Type 0 = λ v. MovesPlaced s.setup v p w w2 in
       placed p m
@@ -72,8 +85,8 @@ module _ (s : Script) where
       placed (Missing name) h = (ap (λ v. first_missing (s.setup.codec.objects v) (need_of s.setup r own).outputs) kp.1 ∙ ap (λ (v : Job). first_missing (s.setup.codec.objects b) (placed_of v.found.locally_preprocessed v.found.outputs)) kp.0.job_is ∙ h.0, h.1)
       placed PlaceDone h =
           (ap (λ v. first_missing (s.setup.codec.objects v) (need_of s.setup r own).outputs) kp.1 ∙ ap (λ (v : Job). first_missing (s.setup.codec.objects b) (placed_of v.found.locally_preprocessed v.found.outputs)) kp.0.job_is ∙ h.0,
-           h.1 ∙ ap (λ (v : Job). record w { placings = w.placings ++ (record { outputs = placed_of v.found.locally_preprocessed v.found.outputs; bytes = b }) ∷ [] }) (sym kp.0.job_is)
-               ∙ ap (λ (v : List ℕ). record w { placings = w.placings ++ (record { outputs = (need_of s.setup r own).outputs; bytes = v }) ∷ [] }) (sym kp.1))
+           h.1 ∙ ap (λ (v : Job). record w { placings = and_one w.placings (record { outputs = placed_of v.found.locally_preprocessed v.found.outputs; bytes = b }) }) (sym kp.0.job_is)
+               ∙ ap (λ (v : List ℕ). record w { placings = and_one w.placings (record { outputs = (need_of s.setup r own).outputs; bytes = v }) }) (sym kp.1))
       placed (PlaceFault chain) h = (ap (λ v. first_missing (s.setup.codec.objects v) (need_of s.setup r own).outputs) kp.1 ∙ ap (λ (v : Job). first_missing (s.setup.codec.objects b) (placed_of v.found.locally_preprocessed v.found.outputs)) kp.0.job_is ∙ h.0, h.1)
   moves_same r own (AtWrite b (l ∷ ls) g ending) (Ran a) z w w2 kp f m = absurd (start_is s.setup r (kind_at s.setup.levels l) l b (Ran a) f)
   moves_same r own (AtWrite b [] g ending) (Ran a) z w w2 kp f m = absurd f
@@ -195,8 +208,11 @@ module _ (s : Script) where
               ∙ ap (λ v. if_too_long (too_long (about c t)) (s.reader.ends v (conn m c).closed)) (sym (g.tie.conns c).rest)
               ∙ ap (λ v. if_too_long (too_long (about c t)) v) (sym (on.ends (taken (about c t)) (conn m c).closed))
               ∙ ap (λ v. if_too_long (too_long (about c t)) (s.reader.ends (taken (about c t)) v)) (sym (g.tie.conns c).closed);
-          replies = λ c l. get_map (λ (k : Conn). k.replies) m.conns c new_conn [] (omega (arith, l, g.tie.same_count)) ∙ sym (g.tie.conns c).replies;
+          replies = λ c l. get_map (λ (k : Conn). k.out) m.conns c new_conn [] (omega (arith, l, g.tie.same_count)) ∙ sym (g.tie.conns c).out;
+          each_connection = (length-map m.conns (end_at s) ∙ g.tie.same_count, length-map m.conns (λ (k : Conn). k.out) ∙ g.tie.same_count);
+          each_level = shown_count s.setup.policy m.level_stats s.setup.levels g.tie.levels.same_length;
           sends = λ c. conn_prefix s (input s c) (about c t) (conn m c) (g.tie.conns c);
           in_order = g.ordered; finished = g.finished; rightful = g.rightful; stored_first = g.stored; bytes_within = g.bytes; runs_within = g.within;
-          counted = g.tie.stats; levels_counted = λ p l q. g.tie.levels.is p l; background = g.tie.back.same;
+          counted = g.tie.stats;
+          levels_counted = λ p l q. ap (λ v. get_or v l no_level_stats) (shown_is s.setup.policy m.level_stats p) ∙ g.tie.levels.is p l; background = g.tie.back.same;
       }

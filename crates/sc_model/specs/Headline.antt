@@ -1,5 +1,5 @@
 -- The headline, of a whole run.
-use Rattle.std.specs.Prelude.{◌≡◌, ℕ, zero, suc, ◌+◌, ◌<◌, ◌≤◌, false, List, [], ◌∷◌, ◌++◌, length, slice_index_or, ◌⊎◌}
+use Rattle.std.specs.Prelude.{if◌then◌else◌, ◌≡◌, ℕ, zero, suc, ◌+◌, ◌<◌, ◌≤◌, false, List, [], ◌∷◌, ◌++◌, length, slice_index_or, ◌⊎◌}
 use Rattle.sc_model.specs.Follows.{Over, left}
 use Rattle.sc_model.specs.Frames.{frames}
 use Rattle.sc_model.specs.Job.{At, Own, finish, finish_fatal, finish_hit, finish_http, finish_output, job_of}
@@ -7,7 +7,7 @@ use Rattle.sc_model.specs.Next.{Leads, due_of}
 use Rattle.sc_model.specs.Origin.{Origin}
 use Rattle.sc_model.specs.Rows.{level_total, total}
 use Rattle.sc_model.specs.Script.{End, IsOpen, Script, Setup, input, is_single}
-use Rattle.sc_model.specs.Trace.{Given, Mine, about, all, came, end_of, left_writes, open_runs, owned, request, reservations, sent, taken}
+use Rattle.sc_model.specs.Trace.{frame_bytes, Given, Mine, about, all, came, end_of, left_writes, open_runs, owned, request, reservations, sent, taken}
 use Rattle.sc_model.specs.World.{IsWithinBytes, World}
 use Rattle.sc_model.specs.declared.event.Answer.TheVariants.{Hit}
 use Rattle.sc_model.specs.declared.event.DistAnswer.TheVariants.{Done as DistDone, Http as DistHttp, TooLarge as DistTooLarge}
@@ -142,7 +142,12 @@ pub record Result_of_run : Type 0 where
   pub level_stats : List LevelStats
   pub background : List Given
   pub ends : List End
-  pub replies : List (List Response)
+  -- the bytes that each connection was sent
+  pub out : List (List ℕ)
+
+-- how many levels have counters: a single store has none
+abbrev pub counted_levels : Setup → ℕ
+counted_levels s = if is_single s.policy then 0 else length s.levels
 
 pub record Headline (s : Script) (start : World) (steps : List Step) (t : List Event) (end : World) (last : Result_of_run) : Type 0 where
   -- one event for each step, each one that may come next, and the worlds moved by them
@@ -150,8 +155,9 @@ pub record Headline (s : Script) (start : World) (steps : List Step) (t : List E
   -- each connection's taken bytes are a prefix of its input, and its end is theirs
   pub taken_bytes : (c : ℕ) → IsPrefixOf (taken (about c t)) (input s c)
   pub ends : (c : ℕ) → c < length s.inputs → slice_index_or last.ends c IsOpen ≡ end_of s (about c t)
+  pub each_connection : (length last.ends ≡ length s.inputs) × (length last.out ≡ length s.inputs)
   -- each connection was sent a prefix of what its requests are owed, one request after the other
-  pub replies : (c : ℕ) → c < length s.inputs → slice_index_or last.replies c [] ≡ sent (about c t)
+  pub replies : (c : ℕ) → c < length s.inputs → slice_index_or last.out c [] ≡ frame_bytes s.setup (sent (about c t))
   pub sends : (c : ℕ) → IsPrefixOf (sent (about c t)) (frames_upto s.setup (all s c) (length (came s c t)) (about c t))
   pub in_order : Each (IsInOrder s) t
   -- each finished compile carries its own run's output, its hit's under its key, or a fault's text; each hit is rightful
@@ -163,5 +169,6 @@ pub record Headline (s : Script) (start : World) (steps : List Step) (t : List E
   -- the counters are the sums of the rows
   pub counted : last.stats ≡ total s t
   pub levels_counted : is_single s.setup.policy ≡ false → (l : ℕ) → l < length s.setup.levels → slice_index_or last.level_stats l no_level_stats ≡ level_total s t l
+  pub each_level : length last.level_stats ≡ counted_levels s.setup
   -- the writes handed and not done, in order
   pub background : last.background ≡ left_writes t

@@ -7,7 +7,7 @@ use Rattle.sc_model.specs.Next.{Ended, at_moment, ticked}
 use Rattle.sc_model.specs.Plan.{cause_text, goes_on, note, plan, pre_plan, put_result}
 use Rattle.sc_model.specs.Rows.{Direct, by_backfill, count, level_named, level_row, row, zeroes}
 use Rattle.sc_model.specs.Script.{BadFrame, Control, Default, End, ReadsOn, Script, Setup, control, counted_task, input}
-use Rattle.sc_model.specs.Trace.{Given, Open, ends_write, hands, if_too_long, no_request, request, reserved_at, reserved_by, sent_by}
+use Rattle.sc_model.specs.Trace.{Given, Open, ends_write, hands, if_too_long, no_request, request, reserved_at, reserved_by, sent_by, frame_bytes}
 use Rattle.sc_model.specs.World.{IsWithinBytes, Moves, Need, World, keys_of, need_of, placed_of}
 use Rattle.sc_model.specs.declared.event.Answer.{Answer}
 use Rattle.sc_model.specs.declared.event.Answer.TheVariants.{Found as FoundAt, Hit, Refused, Size as SizeIs}
@@ -250,7 +250,7 @@ after s r p m (TooLong n) = stopped (due_at s r p)
 after s r p m x = p
 
 -- a connection: the requests that wait, the one that is served first, and the bytes that spell none yet;
--- the moments of that one's last event, last outcome and last reservation; all replies
+-- the moments of that one's last event, last outcome and last reservation; the bytes that it was sent
 pub record Conn : Type 0 where
   pub queue : List Request
   pub rest : List ℕ
@@ -261,12 +261,12 @@ pub record Conn : Type 0 where
   pub last : ℕ
   pub outcome : ℕ
   pub reserved : ℕ
-  pub replies : List Response
+  pub out : List ℕ
   -- the reply that was too long
   pub long : Option ℕ
 
 abbrev pub new_conn : Conn
-new_conn = record { queue = []; rest = []; got = 0; closed = false; at = 0; phase = AtBegin; last = 0; outcome = 0; reserved = 0; replies = []; long = None }
+new_conn = record { queue = []; rest = []; got = 0; closed = false; at = 0; phase = AtBegin; last = 0; outcome = 0; reserved = 0; out = []; long = None }
 
 pub record Machine : Type 0 where
   pub conns : List Conn
@@ -301,11 +301,11 @@ abbrev pub long_after : Option ℕ → What → Option ℕ
 long_after old (TooLong n) = Some n
 long_after old _ = old
 
-abbrev pub told_by : Conn → ℕ → What → Conn
-told_by k m x = record k { last = m; outcome = outcome_after k.outcome m x; reserved = reserved_after k.reserved m x; replies = k.replies ++ sent_by x; long = long_after k.long x }
+abbrev pub told_by : Setup → Conn → ℕ → What → Conn
+told_by s k m x = record k { last = m; outcome = outcome_after k.outcome m x; reserved = reserved_after k.reserved m x; out = k.out ++ frame_bytes s (sent_by x); long = long_after k.long x }
 
 abbrev pub advanced : Setup → Conn → ℕ → What → Conn
-advanced s k m x = settle (told_by k m x) (after s (current k) k.phase m x)
+advanced s k m x = settle (told_by s k m x) (after s (current k) k.phase m x)
 
 -- more bytes come
 abbrev pub more : Script → Conn → List ℕ → Conn
@@ -473,8 +473,13 @@ pub record IsIdle (s : Script) (m : Machine) : Type 0 where
 abbrev pub end_at : Script → Conn → End
 end_at s k = if_too_long k.long (s.reader.ends k.rest k.closed)
 
+-- a single store has no level statistics
+abbrev pub shown_levels : Policy → List LevelStats → List LevelStats
+shown_levels Single ls = []
+shown_levels (Levels ps) ls = ls
+
 abbrev pub result_of_run : Script → Machine → Result_of_run
 result_of_run s m = record {
-    stats = m.stats; level_stats = m.level_stats; background = map given_of m.background;
-    ends = map (end_at s) m.conns; replies = map (λ k. k.replies) m.conns;
+    stats = m.stats; level_stats = shown_levels s.setup.policy m.level_stats; background = map given_of m.background;
+    ends = map (end_at s) m.conns; out = map (λ k. k.out) m.conns;
 }

@@ -90,7 +90,7 @@ pub record Setup : Type 0 where
   pub compilers : Compilers
   pub scheduler : Scheduler
   -- what the workshop answers under a key, by the runs before and the outputs that are wanted, where it tells that
-  pub workshop : List ℕ → List (List ℕ × RunAnswer) → List FileObjectSource → Option RunAnswer
+  pub workshop : List ℕ → Option (List (List ℕ × RunAnswer)) → List FileObjectSource → Option RunAnswer
   pub store : StoreFacts
   pub levels : List LevelFacts
   pub policy : Policy

@@ -1,7 +1,8 @@
 -- What happened, the newest event first, and what is read off it by filters and sums.
 use Rattle.std.specs.Prelude.{ℕ, suc, ◌+◌, Bool, true, false, ◌==◌, ◌&&◌, if◌then◌else◌, List, [], ◌∷◌, ◌++◌, length, Option, Some, None, slice_index_or}
+use Rattle.std.specs.Int.{to_be_bytes, w32}
 use Rattle.sc_model.specs.Job.{At, Own}
-use Rattle.sc_model.specs.Script.{End, ReplyTooLong, Script, input}
+use Rattle.sc_model.specs.Script.{End, ReplyTooLong, Script, Setup, input}
 use Rattle.sc_model.specs.declared.event.Event.{Event}
 use Rattle.sc_model.specs.declared.event.Owner.{Owner}
 use Rattle.sc_model.specs.declared.event.Owner.TheVariants.{Nobody, Request as OfRequest, Write as OfWrite}
@@ -62,6 +63,15 @@ too_long (_ ∷ t) = too_long t
 abbrev pub sent_by : What → List Response
 sent_by (Sent reply) = reply ∷ []
 sent_by _ = []
+
+-- a frame: its payload's length in four bytes, the greatest first, and the payload
+abbrev pub frame_of : List ℕ → List ℕ
+frame_of payload = to_be_bytes w32 (length payload) ++ payload
+
+-- the bytes of frames, one after the other
+abbrev pub frame_bytes : Setup → List Response → List ℕ
+frame_bytes s [] = []
+frame_bytes s (g ∷ gs) = frame_of (s.codec.payload g) ++ frame_bytes s gs
 
 -- the frames that one request's events sent, in order
 abbrev pub sent_of : List Own → List Response

@@ -88,11 +88,17 @@ pub record Place : Type 0 where
   pub outputs : List FileObjectSource
   pub bytes : List ℕ
 
+-- one more of what is told; what isn't told stays so
+abbrev pub and_one : {A : Type 0} → Option (List A) → A → Option (List A)
+and_one None x = None
+and_one (Some xs) x = Some (xs ++ x ∷ [])
+
 pub record World : Type 0 where
   pub moment : ℕ
   pub levels : List Level
-  pub runs : List (List ℕ × RunAnswer)
-  pub placings : List Place
+  -- the workshop's runs and placings, where it tells them
+  pub runs : Option (List (List ℕ × RunAnswer))
+  pub placings : Option (List Place)
   pub shop_faults : ℕ
   pub dist_faults : ℕ
   pub maker_faults : ℕ
@@ -412,7 +418,7 @@ first_missing os (o ∷ rest) = if not o.optional && not (holds_name os o.key) t
 
 abbrev pub MovesPlaced : Setup → Need → Placing → World → World → Type 0
 MovesPlaced s n (Missing name) w w2 = (first_missing (s.codec.objects n.hit) n.outputs ≡ Some name) × (w2 ≡ w)
-MovesPlaced s n PlaceDone w w2 = (first_missing (s.codec.objects n.hit) n.outputs ≡ None) × (w2 ≡ record w { placings = w.placings ++ (record { outputs = n.outputs; bytes = n.hit }) ∷ [] })
+MovesPlaced s n PlaceDone w w2 = (first_missing (s.codec.objects n.hit) n.outputs ≡ None) × (w2 ≡ record w { placings = and_one w.placings (record { outputs = n.outputs; bytes = n.hit }) })
 MovesPlaced s n (PlaceFault chain) w w2 = (first_missing (s.codec.objects n.hit) n.outputs ≡ None) × ((f : ℕ) × Rose w.shop_faults f × (w.shop_faults ≤ f) × (w2 ≡ record w { shop_faults = f }))
 
 abbrev pub MovesOutcome : Verdict → World → World → Type 0
@@ -429,7 +435,7 @@ Moves s n r (Began q told) w w2 = MovesBegan s told w w2
 Moves s n r (Keyed first client step) w w2 = (c d : Container) × (f : ℕ) × (w.maker_faults ≤ f) × Renews w.moment w.container c w.maker_faults f × Tells_client w.moment c (n.keys first) client step d × (w2 ≡ record w { container = d; maker_faults = f })
 Moves s n r (Asked l k mode a hs) w w2 = MovesAt s l (r l) (Asked l k mode a hs) w w2
 Moves s n r (Placed p) w w2 = MovesPlaced s n p w w2
-Moves s n r (Ran a) w w2 = (f : ℕ) × (w.shop_faults ≤ f) × RunCause a w.shop_faults f × IfTold (s.workshop n.key w.runs n.wanted) (λ b. a ≡ b) × (w2 ≡ record w { runs = w.runs ++ (n.key, a) ∷ []; shop_faults = f })
+Moves s n r (Ran a) w w2 = (f : ℕ) × (w.shop_faults ≤ f) × RunCause a w.shop_faults f × IfTold (s.workshop n.key w.runs n.wanted) (λ b. a ≡ b) × (w2 ≡ record w { runs = and_one w.runs (n.key, a); shop_faults = f })
 Moves s n r (Dist d) w w2 = (f : ℕ) × (w.dist_faults ≤ f) × DistCause d w.dist_faults f × (w2 ≡ record w { dist_faults = f })
 Moves s n r (Outcome v task) w w2 = MovesOutcome v w w2
 Moves s n r (Reserved l k z how) w w2 = MovesAt s l (r l) (Reserved l k z how) w w2
