@@ -1,3 +1,5 @@
 pub mod Causes
+pub mod Failing
 pub mod Keys
+pub mod Streams
 pub mod Tally

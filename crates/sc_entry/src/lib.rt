@@ -3,16 +3,30 @@
 #![tactic(auto)]
 
 mod byte_text;
+mod calls;
 mod counts;
 mod items;
+mod mem_sink;
+mod mem_source;
 mod memory;
 mod object;
 mod orders;
+mod real_streams;
+mod sink;
+mod source;
+mod stream_error;
 mod text;
 
 pub use byte_text::ByteText;
+pub use calls::Calls;
 pub use counts::Counts;
 pub use items::Items;
+pub use mem_sink::MemSink;
+pub use mem_source::MemSource;
 pub use memory::NoMemory;
 pub use object::{FileObjectSource, Object};
+pub use real_streams::{ReaderSource, WriterSink};
+pub use sink::{Sink, write_all};
+pub use source::{Source, read_to_end};
+pub use stream_error::{ReadError, ReadFault, WriteError};
 pub use text::Text;
