@@ -3,14 +3,18 @@
 #![tactic(auto)]
 
 mod byte_text;
+mod cache_read;
 mod calls;
 mod counts;
+mod entry_error;
+mod held;
 mod items;
 mod mem_sink;
 mod mem_source;
 mod memory;
 mod object;
 mod orders;
+mod reader;
 mod real_streams;
 mod sink;
 mod source;
@@ -18,8 +22,10 @@ mod stream_error;
 mod text;
 
 pub use byte_text::ByteText;
+pub use cache_read::CacheRead;
 pub use calls::Calls;
 pub use counts::Counts;
+pub use entry_error::{DecompressionFailure, GetError, PutError, ReadEntryError};
 pub use items::Items;
 pub use mem_sink::MemSink;
 pub use mem_source::MemSource;
