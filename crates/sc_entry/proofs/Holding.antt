@@ -13,7 +13,7 @@ use Rattle.std.proofs.lemmas.List.{length-take, take-append-drop, drop_at, take_
 use Rattle.sc_entry.specs.declared.object.Object.{Object}
 use Rattle.sc_entry.specs.declared.held.Held.{Held}
 use Rattle.sc_entry.specs.Entries.{spell_number, spell_mode, find_object, has_name, spell_object, read_object, read_objects, objects, listed, ◌>>=◌, read_number}
-use Rattle.sc_entry.specs.Held.{IsHeld, IsIndexOf, IsReadEntry, IndexAnswer}
+use Rattle.sc_entry.specs.Held.{IsHeld, IsIndexOf, IndexAnswer}
 use Rattle.sc_entry.proofs.EntryLaws.{takes_object, TookObject, takes_number, TookNumber}
 
 differs : (b ne : Bool) → b ≡ true → ne ≡ not b → ne ≡ true → ⊥

@@ -1,5 +1,5 @@
 -- What the calls on entries answer, and why.
-use Rattle.std.specs.Prelude.{◌≡◌, ℕ, cond, List, [], length, nat_lt, Option, Some, None, Result, Ok, Err}
+use Rattle.std.specs.Prelude.{◌≡◌, ℕ, cond, List, [], ◌∷◌, length, nat_lt, Option, Some, None, Result, Ok, Err}
 use Rattle.sc_entry.specs.Causes.{Rose, Told}
 use Rattle.sc_entry.specs.Streams.{WritesAll, WritesFront}
 use Rattle.sc_entry.specs.Entries.{is_object_name, has_name}
@@ -59,3 +59,13 @@ abbrev pub GetCause : ℕ → ℕ → Result (Option ℕ) GetError → Type 0
 GetCause before now (Ok mode) = now ≡ before
 GetCause before now (Err get_errors.WriteFault) = Rose before now
 GetCause before now (Err error) = now ≡ before
+
+-- the object of what a compiler wrote to a stream; none where it wrote nothing
+abbrev pub stream_object : List ℕ → List ℕ → List Object
+stream_object name [] = []
+stream_object name (b ∷ bytes) = record { name = name; mode = None; bytes = b ∷ bytes } ∷ []
+
+-- why it isn't put; nothing is always put
+abbrev pub stream_refusal : List ℕ → List ℕ → List Object → Option PutError
+stream_refusal name [] os = None
+stream_refusal name (b ∷ bytes) os = put_refusal name os

@@ -6,3 +6,4 @@ pub mod Held
 pub mod Keys
 pub mod Streams
 pub mod Tally
+pub mod Writing

@@ -4,9 +4,11 @@
 
 mod byte_text;
 mod cache_read;
+mod cache_write;
 mod calls;
 mod counts;
 mod entry_error;
+mod entry_laws;
 mod held;
 mod items;
 mod mem_sink;
@@ -23,9 +25,11 @@ mod text;
 
 pub use byte_text::ByteText;
 pub use cache_read::CacheRead;
+pub use cache_write::CacheWrite;
 pub use calls::Calls;
 pub use counts::Counts;
 pub use entry_error::{DecompressionFailure, GetError, PutError, ReadEntryError};
+pub use entry_laws::{reading_is_spelled, spelling_is_read_again};
 pub use items::Items;
 pub use mem_sink::MemSink;
 pub use mem_source::MemSource;

@@ -1,4 +1,4 @@
-use Rattle.std.proofs.Common.{◌≡◌, ◌-◌, ℕ, length, ap, arith}
+use Rattle.std.proofs.Common.{◌-◌, ℕ, length, ap, arith}
 use Rattle.sc_entry.specs.declared.object.Object.{Object}
 use Rattle.sc_entry.proofs.Holding.{none_held, held_none, object_missing, object_within, name_taken, object_held, held_all, bytes_over}
 use Rattle.sc_entry.proofs.cache_read.index_of.Goals as goal

@@ -1,4 +1,4 @@
-use Rattle.std.proofs.Common.{◌≡◌, ◌≤◌, ◌++◌, length, List, ℕ}
+use Rattle.std.proofs.Common.{◌≡◌, length}
 use Rattle.sc_entry.specs.Causes.{Told}
 use Rattle.sc_entry.proofs.Telling.{WrittenSoFar}
 use Rattle.sc_entry.proofs.sink.write_all.Given as goal

@@ -1,4 +1,4 @@
-use Rattle.std.proofs.Common.{◌≡◌, ℕ, List, subst, ◌∙◌}
+use Rattle.std.proofs.Common.{subst, ◌∙◌}
 use Rattle.std.specs.BTreeSet.{IsFromIterResult}
 use Rattle.std.specs.Ordering.{nat_cmp}
 use Rattle.std.proofs.IntoIterSteps.{All-taken}
