@@ -6,6 +6,11 @@ mod level;
 mod message;
 mod phase;
 
+pub use message::{
+    CacheMode, ColorMode, Compile, CompileFinished, CompileResponse, GetPathResult, Request,
+    Response, StorageHandshakeInfo, Variable,
+};
+
 ghost use Rattle.std.specs.Prelude.{List};
 ghost use Rattle.sc_model.specs.declared.event.Event.{Event};
 ghost use Rattle.sc_model.specs.declared.event.Step.{Step};
