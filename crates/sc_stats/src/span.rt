@@ -1,8 +1,10 @@
-ghost use Rattle.std.specs.Prelude.{◌≡◌, ◌/◌, ◌%◌};
+ghost use Rattle.std.specs.Prelude.{◌≡◌, ◌+◌, ◌*◌, ◌<◌, ◌/◌, ◌%◌};
 ghost use Rattle.sc_stats.specs.Spans.{more_time};
 
 use std::alloc::AllocError;
 use std::marker::Model;
+
+const SECOND: u128 = 1_000_000_000;
 
 /// The longest span: u64's greatest number of seconds, and 999,999,999 nanoseconds.
 const LONGEST: u128 = 18_446_744_073_709_551_616_000_000_000 - 1;
@@ -39,6 +41,31 @@ impl Span {
         Span {
             nanoseconds: nanoseconds as u128,
         }
+    }
+
+    /// Whole seconds, and nanoseconds below a second.
+    pub fn new(seconds: u64, nanoseconds: u32) -> Span
+        requires { nanoseconds < 1_000_000_000 }
+        ensures { result ≡ seconds * 1_000_000_000 + nanoseconds }
+    {
+        Span {
+            nanoseconds: seconds as u128 * SECOND + nanoseconds as u128,
+        }
+    }
+
+    /// The whole seconds.
+    pub fn as_secs(&self) -> u64
+        ensures { result ≡ self.now / 1_000_000_000 }
+    {
+        (self.nanoseconds / SECOND) as u64
+    }
+
+    /// The nanoseconds beyond the whole seconds.
+    pub fn subsec_nanos(&self) -> u32
+        ensures value { result ≡ self.now % 1_000_000_000 }
+        ensures below_second { result < 1_000_000_000 }
+    {
+        (self.nanoseconds % SECOND) as u32
     }
 
     /// The nanoseconds of the whole span.
