@@ -14,6 +14,10 @@ tally_code = map.code (coded_list coded_ℕ) coded_ℕ
 abbrev pub tally_of : List (List ℕ × ℕ) → Tally
 tally_of entries = map.from_entries entries
 
+-- each text with its count, the texts ascending by their bytes
+abbrev pub entries_of : Tally → List (List ℕ × ℕ)
+entries_of tally = map.entries tally
+
 -- a text's count
 abbrev pub count_of : Tally → List ℕ → ℕ
 count_of tally text = unwrap_or (map.get tally text) 0

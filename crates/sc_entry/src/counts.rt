@@ -1,7 +1,8 @@
-ghost use Rattle.std.specs.Prelude.{◌≡◌, OnOk, OnErr};
+ghost use Rattle.std.specs.Prelude.{◌≡◌, IfOk, OnOk, OnErr};
 ghost use Rattle.std.specs.FinMap as map;
-ghost use Rattle.sc_entry.specs.Tally.{count_of, counted};
+ghost use Rattle.sc_entry.specs.Tally.{count_of, counted, entries_of, tally_of};
 
+use crate::items::Items;
 use crate::memory::NoMemory;
 use crate::text::Text;
 use std::alloc::{AllocError, Global};
@@ -32,6 +33,26 @@ impl Counts {
         Counts {
             by_text: BTreeMap::new(alloc),
         }
+    }
+
+    /// The counts of a list; of a text that stands twice the first count.
+    pub fn from_entries(alloc: Global, entries: Items<(Text, u64)>) -> Result<Counts, NoMemory>
+        ensures { IfOk result (λ c. c ≡ tally_of entries) }
+    {
+        let mut left = entries.into_vec();
+        let mut by_text = BTreeMap::new(alloc);
+        while let Some((text, count)) = left.pop() {
+            by_text.insert(text, count)?;
+        }
+        Ok(Counts { by_text })
+    }
+
+    /// Each text with its count, in the order of the texts' bytes.
+    pub fn by_text(&self) -> &BTreeMap<Text, u64>
+        ensures { result.now.entries ≡ entries_of self.now }
+    {
+        let _ordered = self.by_text.len();
+        &self.by_text
     }
 
     /// A text's count, 0 where it was never counted.
