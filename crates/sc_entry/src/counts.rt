@@ -1,6 +1,6 @@
-ghost use Rattle.std.specs.Prelude.{◌≡◌, IfOk, OnOk, OnErr};
+ghost use Rattle.std.specs.Prelude.{◌≡◌, IfOk, OnOk, OnErr, IsOk};
 ghost use Rattle.std.specs.FinMap as map;
-ghost use Rattle.sc_entry.specs.Tally.{count_of, counted, entries_of, tally_of};
+ghost use Rattle.sc_entry.specs.Tally.{IsPartSum, add_counts, count_of, counted, entries_of, tally_of, total_count};
 
 use crate::items::Items;
 use crate::memory::NoMemory;
@@ -62,6 +62,24 @@ impl Counts {
         self.by_text.get(text).copied().unwrap_or(0)
     }
 
+    /// A text's count, where it was counted.
+    pub fn find(&self, text: &Text) -> Option<u64>
+        ensures { result ≡ map.get self.now text.now }
+    {
+        self.by_text.get(text).copied()
+    }
+
+    /// All counts together; the sum stops at the end of `u64`.
+    pub fn total(&self) -> u64
+        ensures { result ≡ total_count self.now }
+    {
+        let mut total: u64 = 0;
+        for (_, n) in self.by_text.iter() {
+            total = total.saturating_add(*n);
+        }
+        total
+    }
+
     /// Counts a text `n` times more; the count stops at the end of `u64`.
     pub fn add(&mut self, text: &Text, n: u64) -> Result<(), NoMemory>
         ensures ok { OnOk result (self.new ≡ counted self.old text.now n) }
@@ -70,6 +88,19 @@ impl Counts {
         let more = self.get(text).saturating_add(n);
         let text = text.clone()?;
         self.by_text.insert(text, more)?;
+        Ok(())
+    }
+
+    /// Counts each text of another as often again as it stands there. Without memory a front part of them,
+    /// in the order of their texts, is counted.
+    pub fn add_all(&mut self, other: &Counts) -> Result<(), NoMemory>
+        ensures ok { OnOk result (self.new ≡ add_counts self.old other.now) }
+        ensures err { OnErr result (IsPartSum self.old other.now self.new) }
+        ensures nothing { other.now ≡ map.empty → IsOk result }
+    {
+        for (text, n) in other.by_text.iter() {
+            self.add(text, *n)?;
+        }
         Ok(())
     }
 }

@@ -1,8 +1,8 @@
 ghost use Rattle.std.specs.Prelude.{◌≡◌};
 
-use std::alloc::AllocError;
 use crate::byte_text::ByteText;
 use crate::text::Text;
+use std::alloc::AllocError;
 
 /// An object of an entry: an output file, or what a compiler wrote to a stream.
 #[derive(Drop)]
