@@ -6,10 +6,19 @@ mod level;
 mod message;
 mod phase;
 
+pub use event::{
+    Answer, CCompilerKind, CompilerKind, DistAnswer, DistType, Event, KeyFound, KeyStep, Language,
+    MissType, Mode, Objects, Output, Owner, Parsed, Placing, RunAnswer, RunOutput, Status, Step,
+    Task, Told, Verdict, What, Written,
+};
+pub use level::{
+    Cause, Container, Handed, LevelFacts, LevelKind, LevelPolicy, Policy, Put, RemoteFault, Store,
+};
 pub use message::{
     CacheMode, ColorMode, Compile, CompileFinished, CompileResponse, GetPathResult, Request,
     Response, StorageHandshakeInfo, Variable,
 };
+pub use phase::{Bytes, Ending, Job, Pending, Phase, Refusal, Sized, Stage, Work};
 
 ghost use Rattle.std.specs.Prelude.{List};
 ghost use Rattle.sc_model.specs.declared.event.Event.{Event};
