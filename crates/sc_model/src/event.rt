@@ -104,8 +104,8 @@ pub struct KeyFound {
 
 #[derive(Clone, Copy)]
 pub enum Status {
-    Code(u64),
-    Signal(u64),
+    Code(u8),
+    Signal(u8),
     Neither,
 }
 

@@ -3,7 +3,7 @@ use crate::event::{DistType, KeyFound, MissType, Task, Verdict};
 use crate::level::{Cause, Handed};
 use crate::message::{CompileFinished, Response};
 use sc_stats::ServerStats;
-use sc_entry::{ByteText, Items, Text};
+use sc_entry::{ByteText, Items, Queue, Text};
 
 /// A job whose key was found.
 #[derive(Drop)]
@@ -35,7 +35,7 @@ pub struct Bytes {
 /// What is still to be sent.
 #[derive(Drop)]
 pub struct Ending {
-    pub notes: Items<ByteText>,
+    pub notes: Queue<ByteText>,
     pub last: CompileFinished,
 }
 
@@ -59,14 +59,14 @@ pub enum Phase {
     AtRun(Work),
     AtEnd(Verdict, Task, Ending),
     AtStore(Verdict, Task, Bytes, Ending),
-    AtWrite(Bytes, Items<u64>, Refusal, Option<Ending>),
-    AtFill(Bytes, u64, Items<u64>, Refusal, Option<Ending>),
-    AtCommit(Bytes, u64, Items<u64>, Refusal, Option<Ending>),
-    AtFinish(Items<ByteText>, CompileFinished),
+    AtWrite(Bytes, Queue<u64>, Refusal, Option<Ending>),
+    AtFill(Bytes, u64, Queue<u64>, Refusal, Option<Ending>),
+    AtCommit(Bytes, u64, Queue<u64>, Refusal, Option<Ending>),
+    AtFinish(Queue<ByteText>, CompileFinished),
     RawAsk(u64, Text),
     PathAsk(Text),
     PreAsk(u64, Text),
-    PrePut(Bytes, Items<u64>, Refusal),
+    PrePut(Bytes, Queue<u64>, Refusal),
     SizeAsk(u64, ServerStats, Items<Sized>),
     AtEnded(Items<Response>),
     AtOver,
