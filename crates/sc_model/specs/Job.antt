@@ -1,5 +1,7 @@
 -- What a request's own events tell of its job, the newest event first. 
 use Rattle.std.specs.Prelude.{ℕ, zero, suc, ◌+◌, ◌-◌, Bool, true, false, ◌==◌, if◌then◌else◌, List, [], ◌∷◌, ◌++◌, Option, Some, None, codes, bytes_eq, pos, negsuc, ℤ, nat_lt}
+use Rattle.sc_entry.specs.Entries.{find_object}
+use Rattle.sc_entry.specs.EntryAnswers.{bytes_of as data_of, stream_object}
 use Rattle.sc_model.specs.Plan.{note}
 use Rattle.sc_model.specs.Script.{Control, Default, ForceNoCache, ForceRecache, Setup, control, no_task}
 use Rattle.sc_model.specs.declared.event.Answer.{Answer}
@@ -236,13 +238,9 @@ finish_fatal s r chain = record { retcode = Some (negsuc 1); signal = None; stdo
 abbrev pub finish_http : Setup → Request → List ℕ → CompileFinished
 finish_http s r text = record { retcode = Some (pos 1); signal = None; stdout = []; stderr = codes "[\"" ++ pretty_of s r ++ codes "\"] http error status: " ++ text; color_mode = color_of s r }
 
-abbrev pub object_bytes : List ℕ → List Object → List ℕ
-object_bytes name [] = []
-object_bytes name (o ∷ os) = if bytes_eq o.name name then o.bytes else object_bytes name os
-
 abbrev pub stored_bytes : Option (List Object) → List ℕ → List ℕ
 stored_bytes None name = []
-stored_bytes (Some os) name = object_bytes name os
+stored_bytes (Some os) name = data_of (find_object name os)
 
 -- what a hit's entry holds
 abbrev pub finish_hit : Setup → Request → List ℕ → CompileFinished
@@ -282,16 +280,12 @@ finish s r (At m (Keyed first client step) ∷ own) = finish_key s r step
 finish s r (_ ∷ own) = finish s r own
 
 -- what is put: a put-raw's bytes, or the entry of the run
-abbrev pub stream : List ℕ → List ℕ → List Object
-stream name [] = []
-stream name (b ∷ bs) = record { name = name; mode = None; bytes = b ∷ bs } ∷ []
-
 abbrev pub objects_of : Objects → List Object
 objects_of (Collected os) = os
 objects_of (Broken chain) = []
 
 abbrev pub entry_of : Setup → RunOutput → List ℕ
-entry_of s out = s.codec.entry (objects_of out.objects ++ stream (codes "stdout") out.output.stdout ++ stream (codes "stderr") out.output.stderr)
+entry_of s out = s.codec.entry (objects_of out.objects ++ stream_object (codes "stdout") out.output.stdout ++ stream_object (codes "stderr") out.output.stderr)
 
 abbrev pub put_bytes : Request → Bytes
 put_bytes (PutRaw k b) = record { key = k; bytes = b; run = false }

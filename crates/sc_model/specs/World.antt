@@ -1,5 +1,6 @@
 -- What the parts hold, and how an event of a request or a handed write moves it.
 use Rattle.std.specs.Prelude.{◌≡◌, ℕ, ◌+◌, ◌-◌, ◌^◌, min, ◌<◌, ◌≤◌, Bool, true, false, ◌==◌, ◌&&◌, ◌||◌, not, if◌then◌else◌, List, [], ◌∷◌, ◌++◌, length, take, drop, Option, Some, None, slice_index_or, slice_set, ◌⊎◌, codes, bytes_eq, IsTrue, nat_lt}
+use Rattle.sc_entry.specs.Entries.{has_name}
 use Rattle.sc_model.specs.Follows.{kind_at}
 use Rattle.sc_model.specs.Job.{Own, hit_of, job_of}
 use Rattle.sc_model.specs.Plan.{is_disk, level_facts, reads_only}
@@ -403,13 +404,9 @@ lacks None name = true
 lacks (Some []) name = true
 lacks (Some (o ∷ os)) name = false
 
-abbrev pub has_name : List Object → List ℕ → Bool
-has_name [] name = false
-has_name (o ∷ os) name = bytes_eq o.name name || has_name os name
-
 abbrev pub holds_name : Option (List Object) → List ℕ → Bool
 holds_name None name = false
-holds_name (Some os) name = has_name os name
+holds_name (Some os) name = has_name name os
 
 -- the first required output that the entry lacks
 abbrev pub first_missing : Option (List Object) → List FileObjectSource → Option (List ℕ)
