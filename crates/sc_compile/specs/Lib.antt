@@ -1,0 +1,5 @@
+pub mod Commands
+pub mod Names
+pub mod Plain
+pub mod Tools
+pub mod Words

@@ -1,0 +1,72 @@
+-- What a table of tools answers on a path, and what compilers behind such a table tell.
+use Rattle.std.specs.Prelude.{◌≡◌, ℕ, Bool, true, false, ◌==◌, if◌then◌else◌, List, [], ◌∷◌, Option, Some, None, codes, slice_index_or, option_map}
+use Rattle.std.specs.Str.{bytes_eq}
+use Rattle.sc_model.specs.Script.{Compilers}
+use Rattle.sc_model.specs.declared.event.CompilerKind.{CompilerKind}
+use Rattle.sc_model.specs.declared.event.KeyStep.{KeyStep}
+use Rattle.sc_model.specs.declared.event.KeyStep.TheVariants.{Key}
+use Rattle.sc_model.specs.declared.event.Parsed.{Parsed}
+use Rattle.sc_model.specs.declared.event.Parsed.TheVariants.{Unsupported}
+use Rattle.sc_model.specs.declared.message.ColorMode.TheVariants.{Auto}
+use Rattle.sc_model.specs.declared.message.Compile.{Compile}
+use Rattle.sc_compile.specs.Plain.{PlainArguments, arguments, is_note, plain_key, plain_parsed, plain_pretty}
+use Rattle.sc_compile.specs.declared.tool.Detected.{Detected}
+use Rattle.sc_compile.specs.declared.tool.Detected.TheVariants.{Compiler as Found, Refused}
+use Rattle.sc_compile.specs.declared.tool.Tool.{Tool}
+use Rattle.sc_compile.specs.declared.tool.ToolKind.{ToolKind}
+use Rattle.sc_compile.specs.declared.tool.ToolKind.TheVariants.{Compiler, NotACompiler}
+
+-- the first tool of a path
+abbrev pub tool_at : List Tool → List ℕ → Option Tool
+tool_at [] path = None
+tool_at (t ∷ ts) path = if bytes_eq t.path path then Some t else tool_at ts path
+
+-- when the file of a path was changed, where there is one
+abbrev pub moment_of : List Tool → List ℕ → Option ℕ
+moment_of tools path = option_map (λ t. t.moment) (tool_at tools path)
+
+abbrev pub detected_as : ToolKind → Detected
+detected_as (Compiler kind) = Found kind
+detected_as NotACompiler = Refused (codes "not a compiler")
+
+abbrev pub detected_by : Option Tool → Detected
+detected_by None = Refused (codes "compiler not found")
+detected_by (Some t) = detected_as t.kind
+
+-- what a path's tool is
+abbrev pub detected_of : List Tool → List ℕ → Detected
+detected_of tools path = detected_by (tool_at tools path)
+
+abbrev pub read_as : Compile → Detected → Parsed
+read_as c (Found kind) = plain_parsed kind c
+read_as c (Refused text) = Unsupported text
+
+-- What a compile is by a table: the reading of its words by the compiler at its path, or why there is none.
+abbrev pub reading : Option (List Tool) → Compile → Option Parsed
+reading None c = None
+reading (Some tools) c = Some (read_as c (detected_of tools c.exe))
+
+abbrev pub key_told : Compile → Option PlainArguments → Option KeyStep
+key_told c None = None
+key_told c (Some a) = Some (Key (plain_key c))
+
+-- the key step's answer, where the words are good
+abbrev pub told_key : Compile → Option KeyStep
+told_key c = key_told c (arguments c.args)
+
+-- a preprocessor entry is valid where its first byte is `P`
+abbrev pub begins_with_p : List ℕ → Bool
+begins_with_p bytes = slice_index_or bytes 0 0 == 80
+
+-- What plain compilers behind a table tell.
+abbrev pub plain_compilers : Option (List Tool) → Compilers
+plain_compilers table = record {
+  reads = λ c. reading table c;
+  keys = λ c control. told_key c;
+  color = λ c. Auto;
+  pretty = λ c. plain_pretty c;
+  is_note = λ c line. is_note line;
+  is_valid = begins_with_p;
+  kind_text = λ task. codes "C/C++";
+  full_text = λ task. codes "c [gcc]";
+}

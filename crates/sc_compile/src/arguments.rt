@@ -1,0 +1,136 @@
+//! The arguments of a plain compiler.
+
+ghost use Rattle.std.specs.Prelude.{◌≡◌, ◌++◌, ◌∷◌, [], IfOk, length, string_bytes, List, ℕ};
+ghost use Rattle.std.specs.Option.{option_map};
+ghost use Rattle.std.specs.Str.{is_utf8};
+ghost use Rattle.sc_compile.specs.Words.{Means, MeansBy, Reads, only_if};
+ghost use Rattle.sc_compile.specs.Plain.{arguments_of, is_output_name, is_stream, is_new_name, output_of, outputs_onto};
+ghost use Rattle.sc_compile.specs.Names.{HasNames};
+
+use crate::words::{Words, cut};
+use crate::words_error::WordsError;
+use sc_entry::{ByteText, FileObjectSource, Items, Text};
+use std::alloc::Global;
+use std::collections::BTreeSet;
+use std::marker::Model;
+
+/// What the words of a compile say.
+#[derive(Drop)]
+pub struct Arguments<'a> {
+    pub key: Text,
+    /// The required objects, each with its path as it was given.
+    pub outputs: Items<FileObjectSource>,
+    /// The words for the compiler.
+    pub words: &'a [ByteText],
+}
+
+impl<'a> Model for Arguments<'a> {
+    ghost use Rattle.sc_compile.specs.Plain.{PlainArguments};
+
+    ghost Value = { PlainArguments };
+
+    ghost view = { λ a. record { key = a.key; outputs = a.outputs; words = a.words.now } };
+}
+
+/// The bytes as text, where they are UTF-8.
+fn text_of(bytes: &[u8]) -> Result<&str, WordsError>
+    ensures { MeansBy (λ t. t.now) (only_if (is_utf8 bytes.now) bytes.now) result }
+{
+    match std::str::from_utf8(bytes) {
+        Ok(text) => Ok(text),
+        Err(_) => Err(WordsError::Malformed),
+    }
+}
+
+fn is_stream(name: &[u8]) -> bool
+    ensures { result ≡ is_stream name.now }
+{
+    name == b"stdout".as_slice() || name == b"stderr".as_slice()
+}
+
+/// The bytes as the name of an output.
+fn output_name(bytes: &[u8]) -> Result<&str, WordsError>
+    ensures { MeansBy (λ t. t.now) (only_if (is_output_name bytes.now) bytes.now) result }
+{
+    if bytes.is_empty() || bytes.len() > 65535 || is_stream(bytes) {
+        return Err(WordsError::Malformed);
+    }
+    let name = text_of(bytes)?;
+    Ok(name)
+}
+
+/// The bytes as the name of one more output, behind some outputs with these names.
+fn new_name<'a>(
+    outputs: &Items<FileObjectSource>,
+    names: &BTreeSet<String>,
+    bytes: &'a [u8],
+) -> Result<&'a str, WordsError>
+    requires { HasNames outputs.now names.now }
+    ensures { MeansBy (λ t. t.now) (only_if (is_new_name outputs.now bytes.now) bytes.now) result }
+{
+    let name = output_name(bytes)?;
+    if names.contains(name) || outputs.len() >= 65532 {
+        return Err(WordsError::Malformed);
+    }
+    Ok(name)
+}
+
+/// One more output, and its name among those before.
+fn output(
+    alloc: Global,
+    outputs: &Items<FileObjectSource>,
+    names: &mut BTreeSet<String>,
+    word: &[u8],
+) -> Result<FileObjectSource, WordsError>
+    requires { HasNames outputs.now names.old }
+    ensures value { Means (output_of outputs.now word.now) result }
+    ensures named { IfOk result (λ o. HasNames (outputs.now ++ o ∷ []) names.new) }
+{
+    let Some((name, path)) = cut(word, b'=') else {
+        return Err(WordsError::Malformed);
+    };
+    let name = new_name(outputs, names, name)?;
+    let key = Text::from_str(alloc, name)?;
+    let path = ByteText::from_slice(alloc, path)?;
+    names.insert(String::from_str(alloc, name)?)?;
+    Ok(FileObjectSource {
+        key,
+        path,
+        optional: false,
+    })
+}
+
+/// The outputs, up to the word `--`, which is taken too.
+fn outputs(alloc: Global, words: &mut Words<'_>) -> Result<Items<FileObjectSource>, WordsError>
+    ensures { Reads (outputs_onto [] words.old) result words.new }
+{
+    let mut outputs = Items::new(alloc);
+    let mut names = BTreeSet::new(alloc);
+    while let Some(word) = words.next() {
+        if word.as_slice() == b"--".as_slice() {
+            return Ok(outputs);
+        }
+        if word.as_slice() != b"--out".as_slice() {
+            return Err(WordsError::Malformed);
+        }
+        let pair = words.word()?;
+        outputs.push(output(alloc, &outputs, &mut names, pair.as_slice())?)?;
+    }
+    Err(WordsError::Malformed)
+}
+
+/// What stands behind the first word.
+#[tactic(auto, unfolding(crate::specs::Plain::arguments_of))]
+pub fn read_arguments<'a>(alloc: Global, words: &'a [ByteText]) -> Result<Arguments<'a>, WordsError>
+    ensures { Means (arguments_of words.now) result }
+{
+    let mut words = Words::new(words);
+    let key = text_of(words.word()?.as_slice())?;
+    let key = Text::from_str(alloc, key)?;
+    let outputs = outputs(alloc, &mut words)?;
+    Ok(Arguments {
+        key,
+        outputs,
+        words: words.rest(),
+    })
+}

@@ -1,0 +1,21 @@
+//! What the daemon compiles by: the compiler that a probe finds, the reading of a compile's words, and the workshop that
+//! runs compilers and places what they left.
+#![tactic(auto)]
+
+mod arguments;
+mod beginning;
+mod command;
+mod first_word;
+mod plain;
+mod probe;
+mod run_line;
+mod tool;
+mod words;
+mod words_error;
+
+pub use beginning::begin;
+pub use command::SingleCompileCommand;
+pub use plain::PlainCompiler;
+pub use probe::{Probe, ToolTable};
+pub use run_line::RunLine;
+pub use tool::{Detected, Tool, ToolKind};

@@ -1,0 +1,28 @@
+//! The tools of a table.
+
+use sc_entry::{ByteText, Text};
+use sc_model::CompilerKind;
+
+/// What a tool is.
+#[derive(Clone, Copy)]
+pub enum ToolKind {
+    Compiler(CompilerKind),
+    NotACompiler,
+}
+
+/// A file that may be a compiler.
+#[derive(Drop)]
+pub struct Tool {
+    pub path: ByteText,
+    /// When it was changed.
+    pub moment: u64,
+    pub kind: ToolKind,
+}
+
+/// What a probe found at a path.
+#[derive(Drop)]
+pub enum Detected {
+    Compiler(CompilerKind),
+    /// No compiler, and why.
+    Refused(Text),
+}
