@@ -1,0 +1,12 @@
+pub mod Codec
+pub mod Numbers
+pub mod Variants
+pub mod Lists
+pub mod Gives
+pub mod Spans
+pub mod Tallies
+pub mod Stats
+pub mod Compiles
+pub mod Storages
+pub mod Requests
+pub mod Responses

@@ -1,0 +1,27 @@
+//! What goes over a connection: how each message is spelled as bytes and read again, and how frames are cut out
+//! of bytes that come in any pieces.
+#![tactic(auto)]
+
+mod bincode;
+mod compile;
+mod containers;
+mod counts;
+mod error;
+mod primitives;
+mod reader;
+mod request;
+mod response;
+mod several;
+mod statistics;
+mod storage;
+mod wire;
+
+pub use bincode::BincodeCodec;
+pub use error::DecodeError;
+pub use reader::Reader;
+pub use sc_model::{
+    CacheMode, ColorMode, Compile, CompileFinished, CompileResponse, GetPathResult, Request,
+    Response, StorageHandshakeInfo, Variable,
+};
+pub use several::{put2, put3, put4, put5};
+pub use wire::Wire;
