@@ -11,3 +11,4 @@ pub mod Origin
 pub mod Headline
 pub mod Stream
 pub mod Machine
+pub mod Collected
