@@ -10,3 +10,5 @@ pub mod Compiles
 pub mod Storages
 pub mod Requests
 pub mod Responses
+pub mod Frames
+pub mod Streams

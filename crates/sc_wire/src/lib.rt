@@ -7,6 +7,8 @@ mod compile;
 mod containers;
 mod counts;
 mod error;
+mod frame;
+mod framer;
 mod primitives;
 mod reader;
 mod request;
@@ -18,6 +20,8 @@ mod wire;
 
 pub use bincode::BincodeCodec;
 pub use error::DecodeError;
+pub use frame::{FrameError, append_frame, encode_frame};
+pub use framer::{Framer, any_cutting};
 pub use reader::Reader;
 pub use sc_model::{
     CacheMode, ColorMode, Compile, CompileFinished, CompileResponse, GetPathResult, Request,
