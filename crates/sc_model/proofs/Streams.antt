@@ -54,7 +54,7 @@ module _ (limit : ℕ) (decode : List ℕ → Option Request) where
   front_grows (x ∷ y ∷ z ∷ []) more = tt
   front_grows (x ∷ y ∷ z ∷ w ∷ b) more = framed_grows (((x * 256 + y) * 256 + z) * 256 + w) b more
 
-  abbrev Shrinks : Front → ℕ → Type 0
+  abbrev pub Shrinks : Front → ℕ → Type 0
   Shrinks Part n = Unit {0}
   Shrinks Bad n = Unit {0}
   Shrinks (Frame r rest) n = length rest < n
@@ -67,7 +67,7 @@ module _ (limit : ℕ) (decode : List ℕ → Option Request) where
   decoded_shrinks None rest n l = tt
   decoded_shrinks (Some r) rest n l = l
 
-  front_shrinks : (b : List ℕ) → Shrinks (front limit decode b) (length b)
+  pub front_shrinks : (b : List ℕ) → Shrinks (front limit decode b) (length b)
   front_shrinks [] = tt
   front_shrinks (x ∷ []) = tt
   front_shrinks (x ∷ y ∷ []) = tt
@@ -85,7 +85,7 @@ module _ (limit : ℕ) (decode : List ℕ → Option Request) where
   abbrev rest_of : ℕ → List ℕ → Front → List ℕ
   rest_of n b f = elim f [ | Part ↦ b | Bad ↦ b | Frame r rest ↦ read_rest limit decode n rest ]
 
-  same_requests : (k j : ℕ) (b : List ℕ) → length b ≤ k → length b ≤ j → read_requests limit decode k b ≡ read_requests limit decode j b
+  pub same_requests : (k j : ℕ) (b : List ℕ) → length b ≤ k → length b ≤ j → read_requests limit decode k b ≡ read_requests limit decode j b
   same_requests zero zero b l q = refl
   same_requests zero (suc j) [] l q = refl
   same_requests zero (suc j) (x ∷ b) l q = absurd (omega (arith, l))
@@ -100,7 +100,7 @@ module _ (limit : ℕ) (decode : List ℕ → Option Request) where
       by_front ih Bad s = refl
       by_front ih (Frame r rest) s = ap (λ v. r ∷ v) (ih rest (omega (arith, s, l)) (omega (arith, s, q)))
 
-  same_rest : (k j : ℕ) (b : List ℕ) → length b ≤ k → length b ≤ j → read_rest limit decode k b ≡ read_rest limit decode j b
+  pub same_rest : (k j : ℕ) (b : List ℕ) → length b ≤ k → length b ≤ j → read_rest limit decode k b ≡ read_rest limit decode j b
   same_rest zero zero b l q = refl
   same_rest zero (suc j) [] l q = refl
   same_rest zero (suc j) (x ∷ b) l q = absurd (omega (arith, l))
@@ -160,7 +160,7 @@ module _ (limit : ℕ) (decode : List ℕ → Option Request) where
   none_more b = append-nil b
 
   -- what is left is left again
-  rest_again : (b : List ℕ) → read_rest limit decode (length (read_rest limit decode (length b) b)) (read_rest limit decode (length b) b) ≡ read_rest limit decode (length b) b
+  pub rest_again : (b : List ℕ) → read_rest limit decode (length (read_rest limit decode (length b) b)) (read_rest limit decode (length b) b) ≡ read_rest limit decode (length b) b
   rest_again b =
       let r = read_rest limit decode (length b) b in
       let e : r ++ [] ≡ r = append-nil r in
