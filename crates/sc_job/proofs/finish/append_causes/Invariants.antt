@@ -1,6 +1,6 @@
 use Rattle.std.proofs.Common.{◌≡◌, ◌++◌, drop}
 use Rattle.sc_model.specs.Job.{caused_by}
-use Rattle.sc_daemon.proofs.finish.append_causes.Given as goal
+use Rattle.sc_job.proofs.finish.append_causes.Given as goal
 
 -- what is written, and the lines that are left
 abbrev pub invariant-loop-text : goal.invariant-loop-text

@@ -1,6 +1,6 @@
 use Rattle.std.proofs.Common.{◌≡◌, take, drop}
 use Rattle.sc_model.specs.Collected.{CanPut}
-use Rattle.sc_daemon.proofs.stored.entry_of.Given as goal
+use Rattle.sc_job.proofs.stored.entry_of.Given as goal
 
 -- the first objects are written, and the others can be
 abbrev pub invariant-loop-object : goal.invariant-loop-object

@@ -1,12 +1,11 @@
-//! The daemon: one action of a request at a time, and drives of any steps over any bytes.
+//! What a daemon is, as plain data, and the parts of a job that touch nothing: how a run is judged, what is stored of it,
+//! what its last reply is.
 #![tactic(auto)]
 
 mod finish;
 mod stored;
-
 mod verdict;
 
 pub use finish::{fatal_text, finish_fatal, finish_hit, finish_output};
-
 pub use stored::entry_of;
 pub use verdict::{Judgement, judge};

@@ -1,8 +1,8 @@
 use Rattle.std.proofs.Common.{◌≡◌, ◌+◌, ◌++◌, [], drop, ap, sym, ◌∙◌, arith, rules, append-nil}
 use Rattle.std.proofs.lemmas.Grind.{common_steps}
 use Rattle.sc_model.specs.Job.{caused_by}
-use Rattle.sc_daemon.proofs.Causes.{cause_written}
-use Rattle.sc_daemon.proofs.finish.append_causes.Goals as goal
+use Rattle.sc_job.proofs.Causes.{cause_written}
+use Rattle.sc_job.proofs.finish.append_causes.Goals as goal
 
 pub loop-text-preserved : goal.loop-text-preserved
 loop-text-preserved c =

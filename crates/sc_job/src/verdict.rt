@@ -1,6 +1,6 @@
 //! What a run's output comes to.
 ghost use Rattle.std.specs.Prelude.{◌≡◌};
-ghost use Rattle.sc_daemon.specs.Judgements.{judgement_of};
+ghost use Rattle.sc_job.specs.Judgements.{judgement_of};
 ghost use Rattle.sc_model.specs.Job.{judge as judged, judge_miss};
 
 use sc_model::{Job, MissType, Objects, RunOutput, Status};

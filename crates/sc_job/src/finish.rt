@@ -30,8 +30,12 @@ fn signal_of(status: Status) -> Option<i32>
 /// A run's own status and streams.
 pub fn finish_output(color: ColorMode, out: &Output) -> Result<CompileFinished, NoMemory>
     ensures { IfOk result (λ f. f ≡ record {
-        retcode = retcode out.now.status; signal = signal out.now.status;
-        stdout = out.now.stdout; stderr = out.now.stderr; color_mode = color }) }
+      retcode = retcode out.now.status;
+      signal = signal out.now.status;
+      stdout = out.now.stdout;
+      stderr = out.now.stderr;
+      color_mode = color;
+    }) }
 {
     Ok(CompileFinished {
         retcode: retcode_of(out.status),
@@ -83,8 +87,12 @@ pub fn finish_fatal(
     chain: &[Text],
 ) -> Result<CompileFinished, NoMemory>
     ensures { IfOk result (λ f. f ≡ record {
-        retcode = Some (negsuc 1); signal = None;
-        stdout = []; stderr = text_of_fault chain.now; color_mode = color }) }
+      retcode = Some (negsuc 1);
+      signal = None;
+      stdout = [];
+      stderr = text_of_fault chain.now;
+      color_mode = color;
+    }) }
 {
     Ok(CompileFinished {
         retcode: Some(-2),
@@ -102,8 +110,12 @@ pub fn finish_hit(
     entry: ByteText,
 ) -> Result<CompileFinished, NoMemory>
     ensures { IfOk result (λ f. f ≡ record {
-        retcode = Some (pos 0); signal = None;
-        stdout = stored_bytes (objects entry) (codes "stdout"); stderr = stored_bytes (objects entry) (codes "stderr"); color_mode = color }) }
+      retcode = Some (pos 0);
+      signal = None;
+      stdout = stored_bytes (objects entry) (codes "stdout");
+      stderr = stored_bytes (objects entry) (codes "stderr");
+      color_mode = color;
+    }) }
 {
     match CacheRead::from(alloc, entry) {
         Ok(read) => {

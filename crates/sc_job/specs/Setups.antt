@@ -1,0 +1,38 @@
+-- What a daemon is: its real spellings, what its probe and its workshop tell, its levels and its limits.
+use Rattle.std.specs.Prelude.{◌≡◌, ℕ, Bool, false, List, [], ◌∷◌, Option, None}
+use Rattle.sc_compile.specs.Tools.{plain_compilers}
+use Rattle.sc_compile.specs.declared.run_line.RunLine.{RunLine}
+use Rattle.sc_compile.specs.declared.tool.Tool.{Tool}
+use Rattle.sc_entry.specs.Entries.{entry, objects}
+use Rattle.sc_model.specs.Script.{Codec, Setup}
+use Rattle.sc_model.specs.declared.level.LevelFacts.{LevelFacts}
+use Rattle.sc_model.specs.declared.level.Policy.{Policy}
+use Rattle.sc_wire.specs.Responses.{payload}
+
+-- what a daemon is made of, as plain data: its levels, the tools that its probe finds and the lines that its workshop
+-- answers by, where these are told
+pub record Config : Type 0 where
+  pub levels : List LevelFacts
+  pub policy : Policy
+  pub tokens : ℕ
+  pub limit : ℕ
+  pub table : Option (List Tool)
+  pub lines : Option (List RunLine)
+
+-- the one spelling of replies and entries
+abbrev pub real_codec : Codec
+real_codec = record { payload = payload; entry = entry; objects = objects }
+
+-- A daemon over plain compilers, without a distributed client.
+abbrev pub setup : Config → Setup
+setup c = record {
+  codec = real_codec;
+  compilers = plain_compilers c.table;
+  scheduler = record { url = None; retry_text = λ n. [] };
+  workshop = λ k runs outputs. None;
+  store = record { location = []; type_name = []; basedirs = []; basedir_texts = []; flag = false; max_size = None };
+  levels = c.levels;
+  policy = c.policy;
+  tokens = c.tokens;
+  limit = c.limit;
+}
