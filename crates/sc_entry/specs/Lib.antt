@@ -2,6 +2,7 @@ pub mod Causes
 pub mod Entries
 pub mod EntryAnswers
 pub mod Failing
+pub mod FileMaps
 pub mod Held
 pub mod Keys
 pub mod Streams

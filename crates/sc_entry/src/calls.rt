@@ -73,4 +73,14 @@ impl Calls {
         }
         fails
     }
+
+    /// Counts a fault of the call that came last.
+    pub fn refuse(&mut self)
+        ensures failing { (number : ℕ) → fails_at self.new number ≡ fails_at self.old number }
+        ensures made { self.new.made ≡ self.old.made }
+        ensures faults { self.new.faults ≡ one_more self.old.faults }
+        ensures later { self.old.faults ≤ self.new.faults }
+    {
+        self.faults = self.faults.saturating_add(1);
+    }
 }
