@@ -3,6 +3,7 @@ pub mod Entries
 pub mod EntryAnswers
 pub mod Failing
 pub mod FileMaps
+pub mod Gathering
 pub mod Held
 pub mod Keys
 pub mod Streams

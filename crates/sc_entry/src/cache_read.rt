@@ -129,7 +129,7 @@ impl CacheRead {
     }
 
     /// An object's mode and data.
-    fn find(&self, name: &str) -> Option<(Option<u32>, &[u8])>
+    pub(crate) fn find(&self, name: &str) -> Option<(Option<u32>, &[u8])>
         ensures { IsFound (find_object name.now self.now) result }
     {
         let Some(held) = self.index.get(name) else {
