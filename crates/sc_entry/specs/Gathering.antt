@@ -59,7 +59,7 @@ FromCause held sources before now from_errors.FileFault = Rose before now
 -- A source gave its object, or it is optional, the files refused and it is passed over.
 abbrev pub TakesSource : Option FileMap → FileObjectSource → List Object → List Object → ℕ → ℕ → Type 0
 TakesSource held s before after faults faults' =
-      ((o : Object) × ReadsAs held s o × (after ≡ before ++ (o ∷ [])) × (faults' ≡ faults))
+    ((o : Object) × ReadsAs held s o × (after ≡ before ++ (o ∷ [])) × (faults' ≡ faults))
     ⊎ ((s.optional ≡ true) × (after ≡ before) × Rose faults faults')
 
 -- Why one source gives no object.

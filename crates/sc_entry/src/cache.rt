@@ -1,6 +1,6 @@
 use crate::cache_read::CacheRead;
 use std::fmt;
-use std::fmt::{Debug, Formatter};
+use std::fmt::{Debug, Formatter, Write};
 
 /// What a look-up in a store gave.
 #[derive(Drop)]
@@ -16,7 +16,7 @@ pub enum Cache {
 }
 
 impl Debug for Cache {
-    fn fmt(&self, f: &mut Formatter<'_>) -> fmt::Result {
+    fn fmt<W: Write>(&self, f: &mut Formatter<W>) -> fmt::Result {
         match self {
             Cache::Hit(_) => f.write_str("Cache::Hit(...)"),
             Cache::Miss => f.write_str("Cache::Miss"),

@@ -126,11 +126,7 @@ impl CacheRead {
     }
 
     /// Places a source's object, if there is one to place.
-    fn place_one<F: Files>(
-        &self,
-        files: &mut F,
-        source: &FileObjectSource,
-    ) -> Result<(), FileError>
+    fn place_one<F: Files>(&self, files: &mut F, source: &FileObjectSource) -> Result<(), FileError>
         ensures told { OnOk result (Told (λ old new. new ≡ place_object (object_to_place self.now source.now) source.now.path old) (F.held files.old) (F.held files.new)) }
         ensures refused { OnErr result (F.held files.new ≡ F.held files.old) }
         ensures later { F.fault_count files.old ≤ F.fault_count files.new }

@@ -6,11 +6,10 @@ ghost use Rattle.sc_entry.specs.declared.file_error.FileError.TheVariants as fil
 use crate::byte_text::ByteText;
 use crate::file_error::FileError;
 use crate::files::{FileContent, Files};
-use std::fs;
 use std::fs::Permissions;
-use std::io;
 use std::io::ErrorKind;
 use std::os::unix::fs::{MetadataExt, PermissionsExt};
+use std::{fs, io};
 
 /// The bits of a mode that are kept: permissions, and the three above them.
 const MODE_BITS: u32 = 0o7777;
