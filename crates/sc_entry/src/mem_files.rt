@@ -1,5 +1,8 @@
-ghost use Rattle.std.specs.Prelude.{◌≡◌, [], Some, IfOk};
-ghost use Rattle.sc_entry.specs.FileMaps.{file_map_of};
+ghost use Rattle.std.specs.Prelude.{◌≡◌, ◌≤◌, ◌↔◌, ◌⊎◌, true, [], Option, Some, None, Err, IfOk, OnOk, OnErr};
+ghost use Rattle.sc_entry.specs.FileMaps.{FileMap, file_map_of, file_at, ReadsFile, Places, FileCause};
+ghost use Rattle.sc_entry.specs.Causes.{Told};
+ghost use Rattle.sc_entry.specs.Failing.{fails_at, one_more};
+ghost use Rattle.sc_entry.specs.declared.file_error.FileError.TheVariants as file_errors;
 
 use crate::byte_text::ByteText;
 use crate::calls::Calls;
@@ -39,7 +42,18 @@ impl Files for MemFiles {
         self.calls.faults()
     }
 
-    fn read(&mut self, path: &ByteText) -> Result<FileContent, FileError> {
+    fn read(&mut self, path: &ByteText) -> Result<FileContent, FileError>
+        ensures told { IfOk result (ReadsFile (Some (file_map_of self.old.by_path.entries)) path.now) }
+        ensures same { ◌≡◌ {A = Option FileMap} (Some (file_map_of self.new.by_path.entries)) (Some (file_map_of self.old.by_path.entries)) }
+        ensures later { self.old.calls.faults ≤ self.new.calls.faults }
+        ensures cause { FileCause self.old.calls.faults self.new.calls.faults result }
+
+        // It refuses exactly the listed calls, and those for an absent file.
+        ensures made { self.new.calls.made ≡ one_more self.old.calls.made }
+        ensures listed { (fails_at self.old.calls self.new.calls.made ≡ true) → result ≡ Err file_errors.FileFault }
+        ensures absent { (file_at (file_map_of self.old.by_path.entries) path.now ≡ None) → result ≡ Err file_errors.FileFault }
+        ensures only { (result ≡ Err file_errors.FileFault) → (fails_at self.old.calls self.new.calls.made ≡ true) ⊎ (file_at (file_map_of self.old.by_path.entries) path.now ≡ None) }
+    {
         if self.calls.fails_next() {
             return Err(FileError::FileFault);
         }
@@ -55,7 +69,16 @@ impl Files for MemFiles {
         }
     }
 
-    fn place(&mut self, path: &ByteText, bytes: &[u8], mode: Option<u32>) -> Result<(), FileError> {
+    fn place(&mut self, path: &ByteText, bytes: &[u8], mode: Option<u32>) -> Result<(), FileError>
+        ensures told { OnOk result (Told (Places path.now (record { bytes = bytes.now; mode = mode })) (Some (file_map_of self.old.by_path.entries)) (Some (file_map_of self.new.by_path.entries))) }
+        ensures refused { OnErr result (◌≡◌ {A = Option FileMap} (Some (file_map_of self.new.by_path.entries)) (Some (file_map_of self.old.by_path.entries))) }
+        ensures later { self.old.calls.faults ≤ self.new.calls.faults }
+        ensures cause { FileCause self.old.calls.faults self.new.calls.faults result }
+
+        // It refuses exactly the listed calls.
+        ensures made { self.new.calls.made ≡ one_more self.old.calls.made }
+        ensures listed { (result ≡ Err file_errors.FileFault) ↔ (fails_at self.old.calls self.new.calls.made ≡ true) }
+    {
         if self.calls.fails_next() {
             return Err(FileError::FileFault);
         }

@@ -1,4 +1,8 @@
-ghost use Rattle.std.specs.Prelude.{◌≡◌, [], Some};
+ghost use Rattle.std.specs.Prelude.{◌≡◌, ◌<◌, ◌≤◌, ◌↔◌, ℕ, true, List, [], Option, Some, Err, IfOk, OnErr, length};
+ghost use Rattle.sc_entry.specs.Causes.{Told};
+ghost use Rattle.sc_entry.specs.Streams.{WritesOnce, WriteCause};
+ghost use Rattle.sc_entry.specs.Failing.{fails_at, one_more};
+ghost use Rattle.sc_entry.specs.declared.stream_error.WriteError.TheVariants as write_errors;
 
 use crate::byte_text::ByteText;
 use crate::calls::Calls;
@@ -49,7 +53,19 @@ impl Sink for MemSink {
         self.calls.faults()
     }
 
-    fn write(&mut self, bytes: &[u8]) -> Result<usize, WriteError> {
+    fn write(&mut self, bytes: &[u8]) -> Result<usize, WriteError>
+        ensures within { IfOk result (λ n. n ≤ length bytes.now) }
+        ensures some { IfOk result (λ n. 0 < length bytes.now → 0 < n) }
+        ensures told { IfOk result (λ n. Told (WritesOnce n bytes.now) (Some self.old.bytes) (Some self.new.bytes)) }
+        ensures refused { OnErr result (◌≡◌ {A = Option (List ℕ)} (Some self.new.bytes) (Some self.old.bytes)) }
+        ensures later { self.old.calls.faults ≤ self.new.calls.faults }
+        ensures cause { WriteCause self.old.calls.faults self.new.calls.faults result }
+
+        // It refuses exactly the listed calls, and takes each other piece whole.
+        ensures made { self.new.calls.made ≡ one_more self.old.calls.made }
+        ensures listed { (result ≡ Err write_errors.WriteFault) ↔ (fails_at self.old.calls self.new.calls.made ≡ true) }
+        ensures whole { IfOk result (λ n. n ≡ length bytes.now) }
+    {
         if self.calls.fails_next() {
             return Err(WriteError::WriteFault);
         }
