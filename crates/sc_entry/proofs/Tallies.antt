@@ -11,28 +11,13 @@ use Rattle.std.specs.List.{AllByRecursion}
 use Rattle.std.specs.List.Sorted.{IsStrictlySortedBy}
 use Rattle.std.specs.FinMap.Entries.{below_all, is_sorted}
 use Rattle.std.specs.FinMap.{empty, entries, from_sorted, entries-from_sorted, get, insert, find, get-from_entries, get-from_sorted, get-insert, same_map, slice_cmp-IsAntisymmetric, nat_cmp-IsAntisymmetric}
+use Rattle.sc_entry.proofs.TextMaps.{one_inserted}
 use Rattle.sc_entry.specs.Tally.{Tally, add_each, counted, tally_of}
+pub use Rattle.sc_entry.proofs.TextMaps.{text_cmp, at_text, get_text}
 
-abbrev pub text_cmp : List ℕ → List ℕ → Ordering
-text_cmp = slice_cmp nat_cmp
-
--- what the entries have at a text
-abbrev pub at_text : List (List ℕ × ℕ) → List ℕ → Option ℕ
-at_text es q = lookup (is_at (text_cmp q)) es
-
-find_text : (es : List (List ℕ × ℕ)) (q : List ℕ) → find text_cmp q es ≡ at_text es q
-find_text [] q = refl
-find_text (e ∷ es) q = ap (cond (is_at (text_cmp q) e.0) (Some e.1)) (find_text es q)
-
--- what the map that the entries make has at a text
-pub get_text : (es : List (List ℕ × ℕ)) (q : List ℕ) → get (tally_of es) q ≡ at_text es q
-get_text es q = get-from_entries nat_list_cmp_total es q ∙ find_text es q
-
--- entries that differ at one text make maps that differ there
+-- entries that differ at one text make tallies that differ there
 pub one_counted : (es fs : List (List ℕ × ℕ)) (s : List ℕ) (n : ℕ) → ((q : List ℕ) → at_text fs q ≡ cond (is_at (text_cmp s) q) (Some n) (at_text es q)) → tally_of fs ≡ insert (tally_of es) s n
-one_counted es fs s n h = same_map nat_list_cmp_total (slice_cmp-IsAntisymmetric nat_cmp-IsAntisymmetric) _ _ (λ q.
-    get_text fs q ∙ h q ∙ ap (λ b. cond b (Some n) (at_text es q)) ((eq_by_cmp_equiv nat_list_cmp_total).symm s q)
-    ∙ sym (get-insert nat_list_cmp_total (tally_of es) s n q ∙ ap (cond (is_at (text_cmp q) s) (Some n)) (get_text es q)))
+one_counted = one_inserted
 
 -- one more at the end
 pub add_each-append : (es fs : List (List ℕ × ℕ)) (m : Tally) → add_each (es ++ fs) m ≡ add_each fs (add_each es m)

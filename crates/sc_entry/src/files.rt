@@ -4,13 +4,25 @@ ghost use Rattle.sc_entry.specs.FileMaps.{FileMap, ReadsFile, Places, FileCause}
 
 use crate::byte_text::ByteText;
 use crate::file_error::FileError;
+use std::alloc::AllocError;
 
 /// What stands at a path.
-#[derive(Clone, Debug, Drop)]
+#[derive(Debug, Drop)]
 pub struct FileContent {
     pub bytes: ByteText,
     /// The file's permission bits, where they are known.
     pub mode: Option<u32>,
+}
+
+impl Clone for FileContent {
+    ghost is_clone = { λ original copy. copy ≡ original };
+
+    fn clone(&self) -> Result<FileContent, AllocError> {
+        Ok(FileContent {
+            bytes: self.bytes.clone()?,
+            mode: self.mode,
+        })
+    }
 }
 
 /// Files that are read and placed by their paths.

@@ -29,6 +29,8 @@ mod real_streams;
 mod sink;
 mod source;
 mod stream_error;
+#[cfg(test)]
+mod tests;
 mod text;
 
 pub use byte_text::ByteText;
@@ -48,8 +50,8 @@ pub use mem_files::MemFiles;
 pub use mem_sink::MemSink;
 pub use mem_source::MemSource;
 pub use memory::NoMemory;
-pub use queue::Queue;
 pub use object::{FileObjectSource, Object};
+pub use queue::Queue;
 pub use read_seek::ReadSeek;
 pub use real_streams::{ReaderSource, WriterSink};
 pub use sink::{Sink, write_all};
