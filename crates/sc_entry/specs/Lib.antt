@@ -7,5 +7,6 @@ pub mod Gathering
 pub mod Held
 pub mod Keys
 pub mod Streams
+pub mod Listed
 pub mod Tally
 pub mod Writing

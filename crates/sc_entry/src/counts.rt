@@ -1,7 +1,9 @@
 ghost use Rattle.std.specs.Prelude.{◌≡◌, IfOk, OnOk, OnErr, IsOk};
 ghost use Rattle.std.specs.FinMap as map;
+ghost use Rattle.sc_entry.specs.Listed.{listed};
 ghost use Rattle.sc_entry.specs.Tally.{IsPartSum, add_counts, count_of, counted, entries_of, tally_of, total_count};
 
+use crate::counted_text::CountedText;
 use crate::items::Items;
 use crate::memory::NoMemory;
 use crate::text::Text;
@@ -78,6 +80,20 @@ impl Counts {
             total = total.saturating_add(*n);
         }
         total
+    }
+
+    /// All texts with their counts, in the order of their bytes.
+    pub fn listed(&self, alloc: Global) -> Result<Items<CountedText>, NoMemory>
+        ensures { IfOk result (λ texts. texts ≡ listed self.now) }
+    {
+        let mut texts = Vec::new(alloc);
+        for (text, n) in self.by_text.iter() {
+            texts.push(CountedText {
+                text: text.clone()?,
+                count: *n,
+            })?;
+        }
+        Ok(Items::from_vec(texts))
     }
 
     /// Counts a text `n` times more; the count stops at the end of `u64`.
