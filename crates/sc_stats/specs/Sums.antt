@@ -1,7 +1,8 @@
 -- Statistics added: each number stops at its type's end, counts by text are added text by text, levels by place.
 use Rattle.std.specs.Prelude.{ℕ, ◌+◌, ◌-◌, ◌^◌, min, List, [], ◌∷◌, Option, Some, None}
-use Rattle.std.specs.FinMap.{empty as empty_map, entries as entries_map}
+use Rattle.std.specs.FinMap.{empty as empty_map}
 use Rattle.sc_entry.specs.Tally.{Tally, counted}
+pub use Rattle.sc_entry.specs.Tally.{add_each, add_counts}
 use Rattle.sc_stats.specs.Spans.{more_time}
 use Rattle.sc_stats.specs.declared.counters.LevelStats.{LevelStats}
 use Rattle.sc_stats.specs.declared.counters.PerLanguageCount.{PerLanguageCount}
@@ -14,14 +15,6 @@ sat a b = min (a + b) (2 ^ 64 - 1)
 -- a count with one text alone
 abbrev pub one_of : List ℕ → Tally
 one_of text = counted empty_map text 1
-
--- counts added, text by text
-abbrev pub add_each : List (List ℕ × ℕ) → Tally → Tally
-add_each [] a = a
-add_each (e ∷ es) a = add_each es (counted a e.0 e.1)
-
-abbrev pub add_counts : Tally → Tally → Tally
-add_counts a b = add_each (entries_map b) a
 
 abbrev pub add_languages : PerLanguageCount → PerLanguageCount → PerLanguageCount
 add_languages a b = record { counts = add_counts a.counts b.counts; adv_counts = add_counts a.adv_counts b.adv_counts }

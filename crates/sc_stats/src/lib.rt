@@ -2,7 +2,11 @@
 #![tactic(auto)]
 
 mod counters;
+mod languages;
+mod levels;
 mod span;
+mod totals;
 
 pub use counters::{DistInfo, LevelStats, PerLanguageCount, ServerInfo, ServerStats};
+pub use levels::MultiLevelStats;
 pub use span::Span;
