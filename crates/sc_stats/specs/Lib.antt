@@ -1,3 +1,5 @@
+pub mod Figures
 pub mod Parts
+pub mod Rows
 pub mod Spans
 pub mod Sums

@@ -73,6 +73,12 @@ impl MultiLevelStats {
         }
     }
 
+    pub fn as_slice(&self) -> &[LevelStats]
+        ensures { result.now ≡ self.now }
+    {
+        self.levels.as_slice()
+    }
+
     /// The same levels, given back without a copy.
     pub fn into_levels(self) -> Items<LevelStats>
         ensures { result ≡ self }

@@ -2,11 +2,14 @@
 #![tactic(auto)]
 
 mod counters;
+mod figures;
 mod languages;
 mod levels;
+mod rows;
 mod span;
 mod totals;
 
 pub use counters::{DistInfo, LevelStats, PerLanguageCount, ServerInfo, ServerStats};
 pub use levels::MultiLevelStats;
+pub use rows::StatRow;
 pub use span::Span;

@@ -1,4 +1,5 @@
-ghost use Rattle.std.specs.Prelude.{◌≡◌, ◌+◌, ◌*◌, ◌<◌, ◌/◌, ◌%◌};
+ghost use Rattle.std.specs.Prelude.{◌≡◌, ◌+◌, ◌*◌, ◌<◌, ◌/◌, ◌%◌, ◌^◌};
+ghost use Rattle.sc_stats.specs.Figures.{average};
 ghost use Rattle.sc_stats.specs.Spans.{more_time};
 
 use std::alloc::AllocError;
@@ -73,6 +74,32 @@ impl Span {
         ensures { result ≡ self.now }
     {
         self.nanoseconds
+    }
+
+    /// The whole seconds.
+    pub fn seconds(&self) -> u64
+        ensures { result ≡ self.now / 10 ^ 9 }
+    {
+        (self.nanoseconds / 1_000_000_000) as u64
+    }
+
+    /// The nanoseconds after the whole seconds.
+    pub fn subsec_nanos(&self) -> u32
+        ensures { result ≡ self.now % 10 ^ 9 }
+    {
+        (self.nanoseconds % 1_000_000_000) as u32
+    }
+
+    /// Its share where it is divided evenly, in whole nanoseconds; no time where there are no shares.
+    pub fn average(&self, count: u64) -> Span
+        ensures { result ≡ average self.now count }
+    {
+        if count == 0 {
+            return Span::zero();
+        }
+        Span {
+            nanoseconds: self.nanoseconds / u128::from(count),
+        }
     }
 
     /// Makes it longer by another; it stops at the longest span.
