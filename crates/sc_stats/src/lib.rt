@@ -5,6 +5,8 @@ mod counters;
 mod figures;
 mod languages;
 mod levels;
+mod lines;
+mod ranks;
 mod rows;
 mod span;
 mod totals;
