@@ -1,0 +1,98 @@
+ghost use Rattle.std.specs.Prelude.{◌≡◌, ℕ, Some, IfOk};
+ghost use Rattle.std.specs.List.{list_any};
+ghost use Rattle.std.specs.Ordering.{nat_cmp, eq_by_cmp};
+ghost use Rattle.sc_entry.specs.Failing.{fails_at};
+ghost use Rattle.sc_model.specs.World.{no_files};
+ghost use Rattle.sc_store.specs.Paths.{put_all};
+
+use crate::path_map::PathMap;
+use crate::remote::{Remote, RemoteRead, RemoteWrite};
+use sc_entry::{ByteText, Calls, Items, NoMemory, Text};
+use sc_model::RemoteFault;
+use std::alloc::Global;
+
+/// A store in memory, which tells what it holds. It refuses the reads and writes whose numbers are to fail, and no
+/// others, and loses nothing.
+#[derive(Drop)]
+pub struct MemRemote {
+    files: PathMap,
+    calls: Calls,
+}
+
+/// The map of a list of paths with their bytes; of two with one path the later stays.
+fn map_of(alloc: Global, held: Items<(Text, ByteText)>) -> Result<PathMap, NoMemory>
+    ensures { IfOk result (λ files. files ≡ put_all no_files held) }
+{
+    let mut files = PathMap::new(alloc);
+    for (path, bytes) in held.into_vec() {
+        files.put(path, bytes)?;
+    }
+    Ok(files)
+}
+
+impl MemRemote {
+    /// A store that holds these bytes at these paths (of two with one path the later), and is to refuse the calls of
+    /// these numbers. Reads and writes are counted together, from 1.
+    pub fn new(
+        alloc: Global,
+        held: Items<(Text, ByteText)>,
+        failing: Items<u64>,
+    ) -> Result<MemRemote, NoMemory>
+        ensures held { IfOk result (λ remote. remote.files ≡ put_all no_files held) }
+        ensures failing { IfOk result (λ remote. (number : ℕ) → fails_at remote.calls number ≡ list_any (eq_by_cmp nat_cmp number) failing) }
+        ensures made { IfOk result (λ remote. remote.calls.made ≡ 0) }
+        ensures faults { IfOk result (λ remote. remote.calls.faults ≡ 0) }
+    {
+        Ok(MemRemote {
+            files: map_of(alloc, held)?,
+            calls: Calls::failing_at(alloc, failing)?,
+        })
+    }
+}
+
+impl Remote for MemRemote {
+    ghost held = { λ m. Some m.files };
+
+    ghost fault_count = { λ m. m.calls.faults };
+
+    ghost loss_count = { λ m. 0 };
+
+    fn faults(&self) -> u64 {
+        self.calls.faults()
+    }
+
+    fn read(&mut self, _alloc: Global, path: &Text) -> Result<RemoteRead, NoMemory> {
+        if self.calls.fails_next() {
+            return Ok(RemoteRead::Refused(RemoteFault::Other));
+        }
+        match self.files.get(path) {
+            Some(bytes) => Ok(RemoteRead::Found(bytes.try_clone()?)),
+            None => Ok(RemoteRead::NotFound),
+        }
+    }
+
+    fn write(
+        &mut self,
+        _alloc: Global,
+        path: &Text,
+        bytes: &ByteText,
+    ) -> Result<RemoteWrite, NoMemory> {
+        if self.calls.fails_next() {
+            return Ok(RemoteWrite::Refused(RemoteFault::Other));
+        }
+        self.files.put(path.try_clone()?, bytes.try_clone()?)?;
+        Ok(RemoteWrite::Done)
+    }
+
+    fn scheme(&self) -> &str {
+        "memory"
+    }
+
+    fn name(&self) -> &str {
+        "m"
+    }
+
+    fn root(&self) -> &str {
+        "/"
+    }
+}

@@ -1,0 +1,52 @@
+ghost use Rattle.std.specs.Prelude.{◌≡◌, OnOk, OnErr};
+ghost use Rattle.std.specs.Option.{option_copied};
+ghost use Rattle.sc_model.specs.World.{no_files, find_file, put_file};
+
+use sc_entry::{ByteText, NoMemory, Text};
+use std::alloc::Global;
+use std::collections::BTreeMap;
+use std::marker::Model;
+
+/// Bytes by path. Contracts see it as a finite map.
+#[derive(Drop)]
+pub struct PathMap {
+    by_path: BTreeMap<Text, ByteText>,
+}
+
+impl Model for PathMap {
+    ghost use Rattle.sc_model.specs.World.{Files};
+    ghost use Rattle.sc_store.specs.Paths.{files_code, files_of};
+
+    ghost Value = { Files };
+
+    ghost coded = { files_code };
+
+    ghost view = { λ m. files_of m.by_path.entries };
+}
+
+impl PathMap {
+    /// Nothing stands at any path.
+    pub fn new(alloc: Global) -> PathMap
+        ensures { result ≡ no_files }
+    {
+        PathMap {
+            by_path: BTreeMap::new(alloc),
+        }
+    }
+
+    /// The bytes at a path.
+    pub fn get(&self, path: &Text) -> Option<&ByteText>
+        ensures { option_copied result ≡ find_file self.now path.now }
+    {
+        self.by_path.get(path)
+    }
+
+    /// Puts bytes at a path, in place of those that stood there.
+    pub fn put(&mut self, path: Text, bytes: ByteText) -> Result<(), NoMemory>
+        ensures ok { OnOk result (self.new ≡ put_file self.old path bytes) }
+        ensures err { OnErr result (self.new ≡ self.old) }
+    {
+        self.by_path.insert(path, bytes)?;
+        Ok(())
+    }
+}

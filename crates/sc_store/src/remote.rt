@@ -1,0 +1,65 @@
+ghost use Rattle.std.specs.Prelude.{◌≡◌, ◌≤◌, ℕ, Option, IfOk, is_some};
+ghost use Rattle.sc_entry.specs.Causes.{Told};
+ghost use Rattle.sc_model.specs.World.{Files};
+ghost use Rattle.sc_store.specs.Remotes.{Reads, ReadCause, Writes, WriteCause};
+
+use sc_entry::{ByteText, NoMemory, Text};
+use sc_model::RemoteFault;
+use std::alloc::Global;
+
+/// What a read found.
+#[derive(Drop)]
+pub enum RemoteRead {
+    Found(ByteText),
+    /// Nothing stands at the path. This is no fault.
+    NotFound,
+    Refused(RemoteFault),
+}
+
+/// How a write ended.
+#[derive(Clone, Copy)]
+pub enum RemoteWrite {
+    Done,
+    Refused(RemoteFault),
+}
+
+/// A store behind a network.
+pub trait Remote {
+    /// What it holds, by path, where it tells that. No call changes whether it tells.
+    ghost held: { Self → Option Files };
+
+    /// How often it refused.
+    ghost fault_count: { Self → ℕ };
+
+    /// How often it found that something was lost.
+    ghost loss_count: { Self → ℕ };
+
+    /// How often it refused. The count never falls, and stays at the greatest `u64`.
+    fn faults(&self) -> u64
+        ensures { result ≡ fault_count self.now };
+
+    /// The bytes at a path.
+    fn read(&mut self, alloc: Global, path: &Text) -> Result<RemoteRead, NoMemory>
+        ensures tells { is_some (held self.new) ≡ is_some (held self.old) }
+        ensures told { IfOk result (λ answer. Told (Reads answer (loss_count self.old) (loss_count self.new) path.now) (held self.old) (held self.new)) }
+        ensures cause { IfOk result (λ answer. ReadCause answer (fault_count self.old) (fault_count self.new)) }
+        ensures faults_stay { fault_count self.old ≤ fault_count self.new }
+        ensures losses_stay { loss_count self.old ≤ loss_count self.new };
+
+    /// Puts bytes at a path, in place of those that stood there.
+    fn write(&mut self, alloc: Global, path: &Text, bytes: &ByteText) -> Result<RemoteWrite, NoMemory>
+        ensures tells { is_some (held self.new) ≡ is_some (held self.old) }
+        ensures told { IfOk result (λ answer. Told (Writes answer (loss_count self.old) (loss_count self.new) path.now bytes.now) (held self.old) (held self.new)) }
+        ensures cause { IfOk result (λ answer. WriteCause answer (fault_count self.old) (fault_count self.new)) }
+        ensures faults_stay { fault_count self.old ≤ fault_count self.new }
+        ensures losses_stay { loss_count self.old ≤ loss_count self.new };
+
+    /// What kind of store it is.
+    fn scheme(&self) -> &str;
+
+    /// The name of the store among those of its kind.
+    fn name(&self) -> &str;
+
+    /// The path in the store that all paths begin at.
+    fn root(&self) -> &str;
+}
