@@ -1,1 +1,4 @@
 pub mod PathMaps
+pub mod Spellings
+pub mod StoreKeys
+pub mod Askings

@@ -1,2 +1,4 @@
+pub mod Asking
+pub mod Held
 pub mod Paths
 pub mod Remotes

@@ -4,6 +4,9 @@
 mod mem_remote;
 mod path_map;
 mod remote;
+mod remote_storage;
+mod store_key;
 
 pub use mem_remote::MemRemote;
 pub use remote::{Remote, RemoteRead, RemoteWrite};
+pub use remote_storage::RemoteStorage;

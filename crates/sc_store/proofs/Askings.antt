@@ -1,0 +1,171 @@
+-- Lookups at a remote level, by what its remote did.
+use Rattle.std.proofs.Common.{◌≡◌, ℕ, ◌≤◌, Bool, true, false, IsTrue, List, Option, Some, None, is_some, ◌&&◌, not, length, arith, refl, inl, subst, sym, ap, ◌∙◌}
+use Rattle.sc_entry.specs.Causes.{Rose, Told}
+use Rattle.sc_entry.specs.Entries.{objects}
+use Rattle.sc_entry.specs.Keys.{IsStoreKey, is_store_key, normalize_key}
+use Rattle.sc_model.specs.World.{Answers_whole, Asks, Causes, Files, IsRefused, Keeps_all, Level, Spells, Wrote_at, early_cause, find_file, held as held_by, or_cause, causes}
+use Rattle.sc_entry.specs.declared.object.Object.{Object}
+use Rattle.sc_model.specs.Plan.{reads_only}
+use Rattle.sc_model.specs.Script.{is_single}
+use Rattle.sc_model.specs.declared.event.Answer.{Answer}
+use Rattle.sc_model.specs.declared.event.Answer.TheVariants.{Found as FoundAt, Hit, Miss, Refused, Size as SizeIs}
+use Rattle.sc_model.specs.declared.event.Mode.{Mode}
+use Rattle.sc_model.specs.declared.event.Mode.TheVariants.{Path, Pre, Raw, Size as Sizes, Whole}
+use Rattle.sc_model.specs.declared.event.Written.{Written}
+use Rattle.sc_model.specs.declared.event.Written.TheVariants.{Refused as NotWritten}
+use Rattle.sc_model.specs.declared.level.Cause.{Cause}
+use Rattle.sc_model.specs.declared.level.Cause.TheVariants.{BadEntry, BadKey, FileTooLarge, Io, ReadOnly as ForReading, RemoteFault as RemoteRefused, Reserved as NoRoom}
+use Rattle.sc_model.specs.declared.level.LevelFacts.{LevelFacts}
+use Rattle.sc_model.specs.declared.level.LevelKind.TheVariants.{Remote}
+use Rattle.sc_model.specs.declared.level.Policy.{Policy}
+use Rattle.sc_model.specs.declared.level.Store.TheVariants.{Remote as RemoteStore}
+use Rattle.sc_model.specs.declared.message.CacheMode.{CacheMode}
+use Rattle.sc_store.specs.Asking.{AskCause, fixed_answer, has_mode, hit_of, if_spells, mode_answer, raw_answer, reads_key, whole_answer, written_of}
+use Rattle.sc_store.specs.Held.{HeldLevel, held_remote, remote_facts, remote_level}
+use Rattle.sc_store.specs.Remotes.{Puts, ReadCause, Reads, WriteCause, Writes}
+use Rattle.sc_store.specs.declared.remote.RemoteRead.{RemoteRead}
+use Rattle.sc_store.specs.declared.remote.RemoteRead.TheVariants.{Found, NotFound, Refused as ReadRefused}
+use Rattle.sc_store.specs.declared.remote.RemoteWrite.{RemoteWrite}
+use Rattle.sc_store.specs.declared.remote.RemoteWrite.TheVariants.{Done as WriteDone, Refused as WriteRefused}
+
+-- a read of a key's path is a lookup of the key
+pub read_asks : (read : RemoteRead) (held held2 : Option Files) (f f2 l l2 : ℕ) (mode : CacheMode) (key path : List ℕ) → IsStoreKey key → path ≡ normalize_key key → f ≤ f2 → l ≤ l2
+    → Told (Reads read l l2 path) held held2 → ReadCause read f f2 → is_some held ≡ true
+    → (r : ℕ) → Asks objects (remote_facts mode) r key Raw (raw_answer read) (remote_level held f l) (remote_level held2 f2 l2)
+read_asks (Found bytes) (Some m) (Some n) f f2 l l2 mode key path good at faults losses reads cause told r =
+    record { later = record { faults = faults; losses = losses; opened = refl }; keeps = (reads.0, refl); answers = (good, ap (λ p. find_file n p) (sym at) ∙ reads.1); opens = refl }
+read_asks NotFound (Some m) (Some n) f f2 l l2 mode key path good at faults losses reads cause told r =
+    record { later = record { faults = faults; losses = losses; opened = refl }; keeps = (reads.0, refl); answers = (good, ap (λ p. find_file n p) (sym at) ∙ reads.1); opens = refl }
+read_asks (ReadRefused fault) (Some m) (Some n) f f2 l l2 mode key path good at faults losses reads cause told r =
+    record { later = record { faults = faults; losses = losses; opened = refl }; keeps = (reads.0, refl); answers = (good, cause); opens = refl }
+read_asks read (Some m) None f f2 l l2 mode key path good at faults losses reads cause told r = absurd reads
+read_asks read None held2 f f2 l l2 mode key path good at faults losses reads cause told r = absurd (cc)
+
+-- bytes that are found are an entry, or no entry
+hit_answers : (key bytes : List ℕ) (mark : Bool) (v w : Level) (os : Option (List Object)) → objects bytes ≡ os → IsStoreKey key → held_by Remote w key ≡ Some bytes
+    → Answers_whole objects Remote key (hit_of (if_spells os bytes) mark) v w
+hit_answers key bytes mark v w (Some os) e good found = (good, found, subst Spells (sym e) tt)
+hit_answers key bytes mark v w None e good found = (good, (bytes, found, e))
+
+whole_asks : (mode : CacheMode) (r : ℕ) (key : List ℕ) (a : Answer) (v w : Level) → Asks objects (remote_facts mode) r key Raw a v w → Asks objects (remote_facts mode) r key Whole (whole_answer a) v w
+whole_asks mode r key (Hit bytes mark) v w h =
+    record { later = h.later; keeps = h.keeps; answers = hit_answers key bytes mark v w (objects bytes) refl h.answers.0 h.answers.1; opens = h.opens }
+whole_asks mode r key Miss v w h = record { later = h.later; keeps = h.keeps; answers = h.answers; opens = h.opens }
+whole_asks mode r key (Refused BadEntry) v w h = absurd (h.answers.1)
+whole_asks mode r key (Refused BadKey) v w h = record { later = h.later; keeps = h.keeps; answers = h.answers; opens = h.opens }
+whole_asks mode r key (Refused FileTooLarge) v w h = absurd (h.answers.1)
+whole_asks mode r key (Refused Io) v w h = absurd (h.answers.1)
+whole_asks mode r key (Refused NoRoom) v w h = absurd (h.answers.1)
+whole_asks mode r key (Refused (ForReading s)) v w h = absurd (h.answers.1)
+whole_asks mode r key (Refused (RemoteRefused fault)) v w h = record { later = h.later; keeps = h.keeps; answers = h.answers; opens = h.opens }
+whole_asks mode r key (FoundAt path) v w h = absurd h.answers
+whole_asks mode r key (SizeIs n c) v w h = absurd h.answers
+
+-- a lookup of an entry, or of bytes as they are, by the bytes as they are
+mode_asks : (ask : Mode) (mode : CacheMode) (r : ℕ) (key : List ℕ) (a : Answer) (v w : Level) → reads_key ask ≡ true → Asks objects (remote_facts mode) r key Raw a v w → Asks objects (remote_facts mode) r key ask (mode_answer ask a) v w
+mode_asks Whole mode r key a v w is h = whole_asks mode r key a v w h
+mode_asks Raw mode r key a v w is h = h
+mode_asks Path mode r key a v w is h = absurd (cc)
+mode_asks Pre mode r key a v w is h = absurd (cc)
+mode_asks Sizes mode r key a v w is h = absurd (cc)
+
+pub mode_asks_at : (ask : Mode) (facts : LevelFacts) (mode : CacheMode) (r : ℕ) (key : List ℕ) (a : Answer) (v w : Level) → facts ≡ remote_facts mode → reads_key ask ≡ true → Asks objects facts r key Raw a v w → Asks objects facts r key ask (mode_answer ask a) v w
+mode_asks_at ask facts mode r key a v w at is h =
+    subst (λ f. Asks objects f r key ask (mode_answer ask a) v w) (sym at) (mode_asks ask mode r key a v w is (subst (λ f. Asks objects f r key Raw a v w) at h))
+
+whole_cause : (key : List ℕ) (a : Answer) (v w : Level) → AskCause Raw a key v w → AskCause Whole (whole_answer a) key v w
+whole_cause key (Hit bytes mark) v w h = hit_cause (objects bytes) refl
+  where
+    hit_cause : (os : Option (List Object)) → objects bytes ≡ os → AskCause Whole (hit_of (if_spells os bytes) mark) key v w
+    hit_cause (Some os) e = (h.0, subst Spells (sym e) tt, h.1)
+    hit_cause None e = h.0
+whole_cause key Miss v w h = h
+whole_cause key (Refused BadEntry) v w h = absurd h
+whole_cause key (Refused BadKey) v w h = h
+whole_cause key (Refused FileTooLarge) v w h = absurd h
+whole_cause key (Refused Io) v w h = absurd h
+whole_cause key (Refused NoRoom) v w h = absurd h
+whole_cause key (Refused (ForReading s)) v w h = absurd h
+whole_cause key (Refused (RemoteRefused fault)) v w h = h
+whole_cause key (FoundAt path) v w h = absurd h
+whole_cause key (SizeIs n c) v w h = absurd h
+
+pub mode_cause : (ask : Mode) (key : List ℕ) (a : Answer) (v w : Level) → reads_key ask ≡ true → AskCause Raw a key v w → AskCause ask (mode_answer ask a) key v w
+mode_cause Whole key a v w is h = whole_cause key a v w h
+mode_cause Raw key a v w is h = h
+mode_cause Path key a v w is h = absurd (cc)
+mode_cause Pre key a v w is h = absurd (cc)
+mode_cause Sizes key a v w is h = absurd (cc)
+
+-- a bad key is refused, and nothing moves
+pub bad_asks : (ask : Mode) (mode : CacheMode) (r : ℕ) (key : List ℕ) (held : Option Files) (f l : ℕ) → reads_key ask ≡ true → is_store_key key ≡ false
+    → Asks objects (remote_facts mode) r key ask (Refused BadKey) (remote_level held f l) (remote_level held f l)
+bad_asks Whole mode r key held f l is bad = record { later = record { faults = omega arith; losses = omega arith; opened = refl }; keeps = (inl refl, refl); answers = λ good. (cc); opens = refl }
+bad_asks Raw mode r key held f l is bad = record { later = record { faults = omega arith; losses = omega arith; opened = refl }; keeps = (inl refl, refl); answers = λ good. (cc); opens = refl }
+bad_asks Path mode r key held f l is bad = absurd (cc)
+bad_asks Pre mode r key held f l is bad = absurd (cc)
+bad_asks Sizes mode r key held f l is bad = absurd (cc)
+
+-- what needs no read
+pub fixed_asks : (ask : Mode) (mode : CacheMode) (r : ℕ) (key : List ℕ) (held : Option Files) (f l : ℕ) → reads_key ask ≡ false → IsTrue (has_mode Remote ask)
+    → Asks objects (remote_facts mode) r key ask (fixed_answer ask) (remote_level held f l) (remote_level held f l)
+fixed_asks Whole mode r key held f l is has = absurd (cc)
+fixed_asks Raw mode r key held f l is has = absurd (cc)
+fixed_asks Path mode r key held f l is has = absurd (cc)
+fixed_asks Pre mode r key held f l is has = record { later = record { faults = omega arith; losses = omega arith; opened = refl }; keeps = (inl refl, refl); answers = tt; opens = refl }
+fixed_asks Sizes mode r key held f l is has = record { later = record { faults = omega arith; losses = omega arith; opened = refl }; keeps = (inl refl, refl); answers = refl; opens = refl }
+
+pub fixed_cause : (ask : Mode) (key : List ℕ) (v w : Level) → reads_key ask ≡ false → AskCause ask (fixed_answer ask) key v w
+fixed_cause Whole key v w is = absurd (cc)
+fixed_cause Raw key v w is = absurd (cc)
+fixed_cause Path key v w is = refl
+fixed_cause Pre key v w is = refl
+fixed_cause Sizes key v w is = refl
+
+free_of : (reading bad : Bool) (c d : Cause) → or_cause reading c (or_cause bad d None) ≡ None → bad ≡ false
+free_of true bad c d is = absurd (cc)
+free_of false true c d is = absurd (cc)
+free_of false false c d is = refl
+
+is_not : (b : Bool) → not b ≡ false → b ≡ true
+is_not true e = refl
+is_not false e = absurd (cc)
+
+-- what is refused for nothing has a store key
+pub free_key : (policy : Policy) (mode : CacheMode) (key : List ℕ) → early_cause policy (remote_facts mode) key ≡ None → IsStoreKey key
+free_key policy mode key free = is_not (is_store_key key) (free_of (is_single policy && reads_only mode) (not (is_store_key key)) (ForReading RemoteStore) BadKey free)
+
+-- a write of a key's path is a write of the key
+write_puts : (answer : RemoteWrite) (held held2 : Option Files) (f f2 l l2 : ℕ) (policy : Policy) (mode : CacheMode) (key path bytes : List ℕ) → early_cause policy (remote_facts mode) key ≡ None
+    → path ≡ normalize_key key → Told (Writes answer l l2 path bytes) held held2 → WriteCause answer f f2 → is_some held ≡ true
+    → (r : ℕ) → Wrote_at policy (remote_facts mode) r key bytes Whole (written_of answer) (remote_level held f l) (remote_level held2 f2 l2)
+write_puts WriteDone (Some m) (Some n) f f2 l l2 policy mode key path bytes free at puts cause told r =
+    (free_key policy mode key free, free, refl, refl, subst (λ p. Puts l l2 p bytes m n) at puts)
+write_puts (WriteRefused fault) (Some m) (Some n) f f2 l l2 policy mode key path bytes free at puts cause told r =
+    ((free, cause, (puts, refl), refl), (puts, refl))
+write_puts answer (Some m) None f f2 l l2 policy mode key path bytes free at puts cause told r = absurd puts
+write_puts answer None held2 f f2 l l2 policy mode key path bytes free at puts cause told r = absurd (cc)
+
+pub write_puts_at : (how : Written) (old : HeldLevel) (answer : RemoteWrite) (held held2 : Option Files) (f f2 l l2 : ℕ) (policy : Policy) (mode : CacheMode) (key path bytes : List ℕ) → how ≡ written_of answer
+    → held_remote mode held f l ≡ old → early_cause policy (remote_facts mode) key ≡ None → path ≡ normalize_key key → Told (Writes answer l l2 path bytes) held held2 → WriteCause answer f f2 → old.told ≡ true
+    → (r : ℕ) → Wrote_at policy old.facts r key bytes Whole how old.level (remote_level held2 f2 l2)
+write_puts_at how old answer held held2 f f2 l l2 policy mode key path bytes ends is free at puts cause =
+    subst (λ (o : HeldLevel). o.told ≡ true → (r : ℕ) → Wrote_at policy o.facts r key bytes Whole how o.level (remote_level held2 f2 l2)) is
+        (λ told r. subst (λ (x : Written). Wrote_at policy (remote_facts mode) r key bytes Whole x (remote_level held f l) (remote_level held2 f2 l2)) (sym ends)
+            (write_puts answer held held2 f f2 l l2 policy mode key path bytes free at puts cause told r))
+
+refused_for : (reading bad : Bool) (c : Cause) (held : Option Files) (f l : ℕ) (expected : Causes) → expected.all ≡ Some c → or_cause reading (ForReading RemoteStore) (or_cause bad BadKey None) ≡ Some c
+    → IsRefused Remote expected c (remote_level held f l) (remote_level held f l)
+refused_for true bad c held f l expected all is =
+    let same : ForReading RemoteStore ≡ c = (cc) in
+    subst (λ x. IsRefused Remote expected x (remote_level held f l) (remote_level held f l)) same (rw same all, (inl refl, refl), refl)
+refused_for false true c held f l expected all is =
+    let same : BadKey ≡ c = (cc) in
+    subst (λ x. IsRefused Remote expected x (remote_level held f l) (remote_level held f l)) same (rw same all, (inl refl, refl), refl)
+refused_for false false c held f l expected all is = absurd (cc)
+
+-- a write that is refused for its mode or key moves nothing
+pub early_puts : (c : Cause) (held : Option Files) (f l : ℕ) (policy : Policy) (mode : CacheMode) (key bytes : List ℕ) → early_cause policy (remote_facts mode) key ≡ Some c
+    → (r : ℕ) → Wrote_at policy (remote_facts mode) r key bytes Whole (NotWritten c) (remote_level held f l) (remote_level held f l)
+early_puts c held f l policy mode key bytes is r =
+    (refused_for (is_single policy && reads_only mode) (not (is_store_key key)) c held f l (causes policy (remote_facts mode) r key (length bytes)) is is, (inl refl, refl))

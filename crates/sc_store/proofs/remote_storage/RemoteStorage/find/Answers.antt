@@ -1,0 +1,12 @@
+use Rattle.sc_store.proofs.Askings.{read_asks}
+use Rattle.sc_store.proofs.remote_storage.RemoteStorage.find.Goals as goal
+
+pub returns-clause-asked : goal.returns-clause-asked
+returns-clause-asked g c =
+    let r = g.R.Remote in
+    let old = c.self.inside.remote in
+    let new = c.read.new.self in
+    let e = c.in_ok-found.ensures in
+    rw (← c.self.view_is, c.raw_answer.ensures)
+        (read_asks c.in_ok-found.found (r.held old) (r.held new) (r.fault_count old) (r.fault_count new) (r.loss_count old) (r.loss_count new)
+            c.self.inside.configured c.args.key.now c.in_ok-path.path c.requires c.in_ok-path.ensures e.faults_stay e.losses_stay e.told e.cause)

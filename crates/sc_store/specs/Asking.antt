@@ -1,0 +1,88 @@
+-- What a store answers to one lookup and to one write, and why.
+use Rattle.std.specs.Prelude.{◌≡◌, ℕ, Bool, true, false, List, Option, Some, None}
+use Rattle.sc_entry.specs.Causes.{Rose}
+use Rattle.sc_entry.specs.Entries.{objects}
+use Rattle.sc_entry.specs.Keys.{IsStoreKey}
+use Rattle.sc_model.specs.World.{Level, Spells}
+use Rattle.sc_model.specs.declared.event.Answer.{Answer}
+use Rattle.sc_model.specs.declared.event.Answer.TheVariants.{Hit, Miss, Refused, Size as SizeIs}
+use Rattle.sc_model.specs.declared.event.Mode.{Mode}
+use Rattle.sc_model.specs.declared.event.Mode.TheVariants.{Path, Pre, Raw, Size as Sizes, Whole}
+use Rattle.sc_model.specs.declared.event.Written.{Written}
+use Rattle.sc_model.specs.declared.event.Written.TheVariants.{Done as WriteDone, Refused as WriteRefused}
+use Rattle.sc_model.specs.declared.level.Cause.{Cause}
+use Rattle.sc_model.specs.declared.level.Cause.TheVariants.{BadEntry, BadKey, RemoteFault as RemoteRefused}
+use Rattle.sc_model.specs.declared.level.LevelKind.{LevelKind}
+use Rattle.sc_model.specs.declared.level.LevelKind.TheVariants.{Disk, Remote}
+use Rattle.sc_store.specs.declared.remote.RemoteRead.{RemoteRead}
+use Rattle.sc_store.specs.declared.remote.RemoteRead.TheVariants.{Found, NotFound, Refused as ReadRefused}
+use Rattle.sc_store.specs.declared.remote.RemoteWrite.{RemoteWrite}
+use Rattle.sc_store.specs.declared.remote.RemoteWrite.TheVariants.{Done, Refused as PutRefused}
+
+-- The lookups that a store of a kind has: a remote store has no paths.
+abbrev pub has_mode : LevelKind → Mode → Bool
+has_mode Disk mode = true
+has_mode Remote Path = false
+has_mode Remote mode = true
+
+-- the lookups that read what stands under a key
+abbrev pub reads_key : Mode → Bool
+reads_key Whole = true
+reads_key Raw = true
+reads_key mode = false
+
+-- a remote store keeps no marks
+abbrev pub raw_answer : RemoteRead → Answer
+raw_answer (Found bytes) = Hit bytes false
+raw_answer NotFound = Miss
+raw_answer (ReadRefused fault) = Refused (RemoteRefused fault)
+
+-- bytes that spell no entry are a refusal
+abbrev pub hit_of : Option (List ℕ) → Bool → Answer
+hit_of (Some bytes) mark = Hit bytes mark
+hit_of None mark = Refused BadEntry
+
+-- the bytes, where they spell an entry
+abbrev pub if_spells : {A : Type 0} → Option A → List ℕ → Option (List ℕ)
+if_spells (Some os) bytes = Some bytes
+if_spells None bytes = None
+
+abbrev pub whole_answer : Answer → Answer
+whole_answer (Hit bytes mark) = hit_of (if_spells (objects bytes) bytes) mark
+whole_answer answer = answer
+
+-- an entry, or the bytes as they are
+abbrev pub mode_answer : Mode → Answer → Answer
+mode_answer Whole answer = whole_answer answer
+mode_answer mode answer = answer
+
+-- what a remote store answers without a read: it keeps no preprocessor entries, and has neither paths nor a size
+abbrev pub fixed_answer : Mode → Answer
+fixed_answer Sizes = SizeIs None None
+fixed_answer mode = Miss
+
+abbrev pub written_of : RemoteWrite → Written
+written_of Done = WriteDone
+written_of (PutRefused fault) = WriteRefused (RemoteRefused fault)
+
+-- Why a lookup at a remote level was answered so, whether or not the level tells what it holds. A hit has no mark.
+abbrev pub AskCause : Mode → Answer → List ℕ → Level → Level → Type 0
+AskCause Whole (Hit bytes mark) key before now = IsStoreKey key × Spells (objects bytes) × (mark ≡ false)
+AskCause Whole (Refused BadEntry) key before now = IsStoreKey key
+AskCause Whole Miss key before now = IsStoreKey key
+AskCause Whole (Refused BadKey) key before now = IsStoreKey key → ⊥
+AskCause Whole (Refused (RemoteRefused fault)) key before now = IsStoreKey key × Rose before.faults now.faults
+AskCause Whole answer key before now = ⊥
+AskCause Raw (Hit bytes mark) key before now = IsStoreKey key × (mark ≡ false)
+AskCause Raw Miss key before now = IsStoreKey key
+AskCause Raw (Refused BadKey) key before now = IsStoreKey key → ⊥
+AskCause Raw (Refused (RemoteRefused fault)) key before now = IsStoreKey key × Rose before.faults now.faults
+AskCause Raw answer key before now = ⊥
+AskCause mode answer key before now = answer ≡ fixed_answer mode
+
+-- Why a write at a remote level ended so, by the cause that is found before its device is called: the mode of a single
+-- store, then the key.
+abbrev pub PutCause : Option Cause → Written → Level → Level → Type 0
+PutCause early WriteDone before now = early ≡ None
+PutCause early (WriteRefused (RemoteRefused fault)) before now = (early ≡ None) × Rose before.faults now.faults
+PutCause early (WriteRefused cause) before now = early ≡ Some cause

@@ -1,0 +1,72 @@
+-- What the stores of a daemon hold, level by level.
+use Rattle.std.specs.Prelude.{ℕ, Bool, true, false, ◌&&◌, List, [], ◌∷◌, map, Option, Some, None, is_some, slice_index_or, refl}
+use Rattle.std.specs.Coded.{Coded, code_by, coded×, coded_bool, coded_ℕ, coded_list}
+use Rattle.sc_model.specs.World.{Files, Level, no_files, no_level_held}
+use Rattle.sc_model.specs.contracts.level.LevelFacts as facts_type
+use Rattle.sc_model.specs.contracts.level.Policy as policy_type
+use Rattle.sc_model.specs.declared.level.LevelFacts.{LevelFacts}
+use Rattle.sc_model.specs.declared.level.LevelKind.TheVariants.{Remote}
+use Rattle.sc_model.specs.declared.level.Policy.{Policy}
+use Rattle.sc_model.specs.declared.message.CacheMode.{CacheMode}
+use Rattle.sc_store.specs.Paths.{files_code}
+
+-- One level: what does not change of it, whether it tells what it holds, and what it holds where it tells that.
+pub record HeldLevel : Type 0 where
+  pub facts : LevelFacts
+  pub told : Bool
+  pub level : Level
+
+-- The levels of a daemon in order, its policy, and whether every level tells what it holds.
+pub record Held : Type 0 where
+  pub facts : List LevelFacts
+  pub policy : Policy
+  pub told : Bool
+  pub levels : List Level
+
+-- what is known of a map that may not be told
+abbrev pub told_files : Option Files → Files
+told_files None = no_files
+told_files (Some files) = files
+
+-- a remote store has no size, no root, and one mode: the configured one
+abbrev pub remote_facts : CacheMode → LevelFacts
+remote_facts mode = record { kind = Remote; wrapped = false; configured = mode; mode = mode; capacity = 0; root = [] }
+
+abbrev pub remote_level : Option Files → ℕ → ℕ → Level
+remote_level held faults losses = record { faults = faults; losses = losses; opened = false; main = told_files held; pre = no_files }
+
+abbrev pub held_remote : CacheMode → Option Files → ℕ → ℕ → HeldLevel
+held_remote mode held faults losses = record { facts = remote_facts mode; told = is_some held; level = remote_level held faults losses }
+
+abbrev pub all_tell : List HeldLevel → Bool
+all_tell [] = true
+all_tell (l ∷ ls) = l.told && all_tell ls
+
+abbrev pub held_of : List HeldLevel → Policy → Held
+held_of ls policy = record { facts = map (λ l. l.facts) ls; policy = policy; told = all_tell ls; levels = map (λ l. l.level) ls }
+
+-- what a level holds; beyond the last level nothing
+abbrev pub level_in : List Level → ℕ → Level
+level_in levels l = slice_index_or levels l no_level_held
+
+-- codes, by which proofs tell values apart
+abbrev pub level_code : Coded Level
+level_code = code_by (ℕ × (ℕ × (Bool × (Files × Files))))
+    (coded× coded_ℕ (coded× coded_ℕ (coded× coded_bool (coded× files_code files_code))))
+    (λ v. (v.faults, (v.losses, (v.opened, (v.main, v.pre)))))
+    (λ p. record { faults = p.0; losses = p.1.0; opened = p.1.1.0; main = p.1.1.1.0; pre = p.1.1.1.1 })
+    (λ _. refl)
+
+abbrev pub held_level_code : Coded HeldLevel
+held_level_code = code_by (LevelFacts × (Bool × Level))
+    (coded× facts_type.the_row.coded (coded× coded_bool level_code))
+    (λ l. (l.facts, (l.told, l.level)))
+    (λ p. record { facts = p.0; told = p.1.0; level = p.1.1 })
+    (λ _. refl)
+
+abbrev pub held_code : Coded Held
+held_code = code_by (List LevelFacts × (Policy × (Bool × List Level)))
+    (coded× (coded_list facts_type.the_row.coded) (coded× policy_type.the_row.coded (coded× coded_bool (coded_list level_code))))
+    (λ h. (h.facts, (h.policy, (h.told, h.levels))))
+    (λ p. record { facts = p.0; policy = p.1.0; told = p.1.1.0; levels = p.1.1.1 })
+    (λ _. refl)

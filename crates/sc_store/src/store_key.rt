@@ -1,0 +1,55 @@
+//! Keys of stores, and the paths at which remote stores keep what stands under them.
+ghost use Rattle.std.specs.Prelude.{◌≡◌, ◌<◌, ◌++◌, ◌∷◌, [], string_bytes, IfOk, OnOk};
+ghost use Rattle.std.specs.List.{list_all};
+ghost use Rattle.sc_entry.specs.Keys as keys;
+
+use sc_entry::{NoMemory, Text};
+use std::alloc::Global;
+
+/// Whether a byte is an ASCII letter, a digit, `-` or `_`.
+fn is_key_byte(byte: u8) -> bool
+    ensures { result ≡ keys.is_key_byte byte }
+{
+    byte.is_ascii_digit()
+        || byte.is_ascii_uppercase()
+        || byte.is_ascii_lowercase()
+        || byte == b'-'
+        || byte == b'_'
+}
+
+fn are_key_bytes(bytes: &[u8]) -> bool
+    ensures { result ≡ list_all keys.is_key_byte bytes.now }
+{
+    bytes.iter().all(|byte| is_key_byte(*byte))
+}
+
+/// Whether a text is a store key: at least three such bytes.
+pub(crate) fn is_store_key(key: &Text) -> bool
+    ensures { result ≡ keys.is_store_key key.now }
+{
+    key.len() > 2 && are_key_bytes(key.as_bytes())
+}
+
+/// Adds a path's part of one byte.
+fn push_part(path: &mut String, byte: u8) -> Result<(), NoMemory>
+    requires { byte < 128 }
+    ensures { OnOk result (string_bytes path.new ≡ string_bytes path.old ++ byte ∷ 47 ∷ []) }
+{
+    path.push(byte as char)?;
+    path.push('/')?;
+    Ok(())
+}
+
+/// The path of a store key: three parts of one byte, then the key.
+pub(crate) fn normalize_key(alloc: Global, key: &Text) -> Result<Text, NoMemory>
+    requires { keys.IsStoreKey key.now }
+    ensures { IfOk result (λ path. path ≡ keys.normalize_key key.now) }
+{
+    let bytes = key.as_bytes();
+    let mut path = String::new(alloc);
+    push_part(&mut path, bytes[0])?;
+    push_part(&mut path, bytes[1])?;
+    push_part(&mut path, bytes[2])?;
+    path.push_str(key.as_str())?;
+    Ok(Text::from_string(path))
+}
