@@ -2,3 +2,4 @@ pub mod PathMaps
 pub mod Spellings
 pub mod StoreKeys
 pub mod Askings
+pub mod Alone

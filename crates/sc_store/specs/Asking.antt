@@ -1,9 +1,10 @@
 -- What a store answers to one lookup and to one write, and why.
-use Rattle.std.specs.Prelude.{◌≡◌, ℕ, Bool, true, false, List, Option, Some, None}
+use Rattle.std.specs.Prelude.{◌≡◌, ℕ, Bool, true, false, IsTrue, List, length, slice_set, Option, Some, None}
 use Rattle.sc_entry.specs.Causes.{Rose}
 use Rattle.sc_entry.specs.Entries.{objects}
 use Rattle.sc_entry.specs.Keys.{IsStoreKey}
-use Rattle.sc_model.specs.World.{Level, Spells}
+use Rattle.sc_model.specs.Plan.{level_facts}
+use Rattle.sc_model.specs.World.{Asks, Level, Later, Spells, Wrote_at}
 use Rattle.sc_model.specs.declared.event.Answer.{Answer}
 use Rattle.sc_model.specs.declared.event.Answer.TheVariants.{Hit, Miss, Refused, Size as SizeIs}
 use Rattle.sc_model.specs.declared.event.Mode.{Mode}
@@ -13,7 +14,9 @@ use Rattle.sc_model.specs.declared.event.Written.TheVariants.{Done as WriteDone,
 use Rattle.sc_model.specs.declared.level.Cause.{Cause}
 use Rattle.sc_model.specs.declared.level.Cause.TheVariants.{BadEntry, BadKey, RemoteFault as RemoteRefused}
 use Rattle.sc_model.specs.declared.level.LevelKind.{LevelKind}
+use Rattle.sc_model.specs.declared.level.Policy.{Policy}
 use Rattle.sc_model.specs.declared.level.LevelKind.TheVariants.{Disk, Remote}
+use Rattle.sc_store.specs.Held.{Held, HeldLevel, level_in}
 use Rattle.sc_store.specs.declared.remote.RemoteRead.{RemoteRead}
 use Rattle.sc_store.specs.declared.remote.RemoteRead.TheVariants.{Found, NotFound, Refused as ReadRefused}
 use Rattle.sc_store.specs.declared.remote.RemoteWrite.{RemoteWrite}
@@ -86,3 +89,24 @@ abbrev pub PutCause : Option Cause → Written → Level → Level → Type 0
 PutCause early WriteDone before now = early ≡ None
 PutCause early (WriteRefused (RemoteRefused fault)) before now = (early ≡ None) × Rose before.faults now.faults
 PutCause early (WriteRefused cause) before now = early ≡ Some cause
+
+-- A lookup at one level that tells what it holds, whatever is reserved.
+abbrev pub AsksLevel : List ℕ → Mode → Answer → HeldLevel → HeldLevel → Type 0
+AsksLevel key mode answer before now =
+    before.told ≡ true → IsTrue (has_mode before.facts.kind mode) → (r : ℕ) → Asks objects before.facts r key mode answer before.level now.level
+
+-- A write at one level that tells what it holds.
+abbrev pub PutsLevel : Policy → List ℕ → List ℕ → Written → HeldLevel → HeldLevel → Type 0
+PutsLevel policy key bytes how before now = before.told ≡ true → (r : ℕ) → Wrote_at policy before.facts r key bytes Whole how before.level now.level
+
+-- A lookup at a level of levels that all tell what they hold, whatever is reserved: that level alone moved.
+abbrev pub AsksAt : ℕ → List ℕ → Mode → Answer → Held → Held → Type 0
+AsksAt l key mode answer old new =
+    old.told ≡ true → IsTrue (has_mode (level_facts old.facts l).kind mode) → (r : ℕ) →
+    (v : Level) × Asks objects (level_facts old.facts l) r key mode answer (level_in old.levels l) v × (new.levels ≡ slice_set old.levels l v)
+
+-- A write there.
+abbrev pub PutsAt : ℕ → List ℕ → List ℕ → Written → Held → Held → Type 0
+PutsAt l key bytes how old new =
+    old.told ≡ true → (r : ℕ) →
+    (v : Level) × Later (level_in old.levels l) v × Wrote_at old.policy (level_facts old.facts l) r key bytes Whole how (level_in old.levels l) v × (new.levels ≡ slice_set old.levels l v)

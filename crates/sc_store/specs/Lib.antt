@@ -2,3 +2,4 @@ pub mod Asking
 pub mod Held
 pub mod Paths
 pub mod Remotes
+pub mod Levels

@@ -1,12 +1,16 @@
 //! Stores of compile results: a store behind a network, and a daemon's levels of stores in order.
 #![tactic(auto)]
 
+mod level;
+mod levels;
 mod mem_remote;
 mod path_map;
 mod remote;
 mod remote_storage;
 mod store_key;
 
+pub use level::Level;
+pub use levels::Levels;
 pub use mem_remote::MemRemote;
 pub use remote::{Remote, RemoteRead, RemoteWrite};
 pub use remote_storage::RemoteStorage;

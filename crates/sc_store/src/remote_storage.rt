@@ -1,9 +1,9 @@
-ghost use Rattle.std.specs.Prelude.{◌≡◌, ℕ, true, false, IsTrue, is_some, Option, Some, None, Ok, IfOk};
+ghost use Rattle.std.specs.Prelude.{◌≡◌, ℕ, true, false, is_some, Some, Ok, IfOk};
 ghost use Rattle.sc_entry.specs.Entries.{objects};
 ghost use Rattle.sc_entry.specs.Keys.{IsStoreKey, is_store_key as is_key};
 ghost use Rattle.sc_model.specs.Plan.{reads_only};
 ghost use Rattle.sc_model.specs.Script.{is_single as single};
-ghost use Rattle.sc_model.specs.World.{Asks, Later, Wrote_at, early_cause as early};
+ghost use Rattle.sc_model.specs.World.{Asks, Later, early_cause as early};
 ghost use Rattle.sc_model.specs.declared.level.Cause.{Cause};
 ghost use Rattle.sc_store.specs.Asking as asking;
 ghost use Rattle.sc_store.specs.Held.{held_remote, remote_facts, remote_level};
@@ -11,7 +11,7 @@ ghost use Rattle.sc_store.specs.Held.{held_remote, remote_facts, remote_level};
 use crate::remote::{Remote, RemoteRead, RemoteWrite};
 use crate::store_key::{is_store_key, normalize_key};
 use sc_entry::{ByteText, CacheRead, NoMemory, ReadEntryError, Text};
-use sc_model::{Answer, CacheMode, Cause, Mode, Policy, Store, Written};
+use sc_model::{Answer, CacheMode, Cause, LevelKind, Mode, Policy, Store, Written};
 use std::alloc::Global;
 use std::marker::Model;
 
@@ -166,6 +166,14 @@ impl<R: Remote> RemoteStorage<R> {
         &self.remote
     }
 
+    /// What kind of store it is.
+    pub fn kind(&self) -> LevelKind
+        ensures { result ≡ self.now.facts.kind }
+    {
+        let _facts = &self.configured;
+        LevelKind::Remote
+    }
+
     /// The mode that the store was made with.
     pub fn configured(&self) -> CacheMode
         ensures { result ≡ self.now.facts.configured }
@@ -199,7 +207,7 @@ impl<R: Remote> RemoteStorage<R> {
         ensures facts { self.new.facts ≡ self.old.facts }
         ensures told { self.new.told ≡ self.old.told }
         ensures later { Later self.old.level self.new.level }
-        ensures asked { IfOk result (λ answer. self.old.told ≡ true → IsTrue (asking.has_mode self.old.facts.kind mode) → (r : ℕ) → Asks objects self.old.facts r key.now mode answer self.old.level self.new.level) }
+        ensures asked { IfOk result (λ answer. asking.AsksLevel key.now mode answer self.old self.new) }
         ensures cause { IfOk result (λ answer. asking.AskCause mode answer key.now self.old.level self.new.level) }
         ensures bad_key { asking.reads_key mode ≡ true → is_key key.now ≡ false → (result ≡ Ok (Answer.Refused Cause.BadKey)) × (self.new ≡ self.old) }
         ensures no_read { asking.reads_key mode ≡ false → (result ≡ Ok (asking.fixed_answer mode)) × (self.new ≡ self.old) }
@@ -227,7 +235,7 @@ impl<R: Remote> RemoteStorage<R> {
         ensures facts { self.new.facts ≡ self.old.facts }
         ensures told { self.new.told ≡ self.old.told }
         ensures later { Later self.old.level self.new.level }
-        ensures wrote { IfOk result (λ how. self.old.told ≡ true → (r : ℕ) → Wrote_at policy.now self.old.facts r key.now bytes.now Mode.Whole how self.old.level self.new.level) }
+        ensures wrote { IfOk result (λ how. asking.PutsLevel policy.now key.now bytes.now how self.old self.new) }
         ensures cause { IfOk result (λ how. asking.PutCause (early policy.now self.old.facts key.now) how self.old.level self.new.level) }
         ensures early { (c : Cause) → early policy.now self.old.facts key.now ≡ Some c → (result ≡ Ok (Written.Refused c)) × (self.new ≡ self.old) }
     {
