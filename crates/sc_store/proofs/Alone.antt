@@ -66,14 +66,14 @@ module _ {S : Type 0} (seen : S → HeldLevel) where
   moved_of policy stores l store later within is facts told =
       let new = slice_set stores l later in
       record {
-          facts = maps (λ x. x.facts) new ∙ stays (λ s. (seen s).facts) stores l store later within is facts ∙ sym (maps (λ x. x.facts) stores);
-          policy = refl;
-          told = tell_stays stores l store later within is told;
-          alone = maps (λ x. x.level) new ∙ map-set (λ s. (seen s).level) stores l later ∙ ap (λ xs. slice_set xs l (seen later).level) (sym (maps (λ x. x.level) stores));
-          facts_were = ap (λ xs. slice_index_or xs l no_level) (maps (λ x. x.facts) stores) ∙ part_at (λ s. (seen s).facts) stores l store no_level within is;
-          was = ap (λ xs. slice_index_or xs l no_level_held) (maps (λ x. x.level) stores) ∙ part_at (λ s. (seen s).level) stores l store no_level_held within is;
-          is = ap (λ xs. slice_index_or xs l no_level_held) (maps (λ x. x.level) new) ∙ new_at (λ s. (seen s).level) stores l later no_level_held within;
-          tells = one_tells stores l store within is;
+        facts = maps (λ x. x.facts) new ∙ stays (λ s. (seen s).facts) stores l store later within is facts ∙ sym (maps (λ x. x.facts) stores);
+        policy = refl;
+        told = tell_stays stores l store later within is told;
+        alone = maps (λ x. x.level) new ∙ map-set (λ s. (seen s).level) stores l later ∙ ap (λ xs. slice_set xs l (seen later).level) (sym (maps (λ x. x.level) stores));
+        facts_were = ap (λ xs. slice_index_or xs l no_level) (maps (λ x. x.facts) stores) ∙ part_at (λ s. (seen s).facts) stores l store no_level within is;
+        was = ap (λ xs. slice_index_or xs l no_level_held) (maps (λ x. x.level) stores) ∙ part_at (λ s. (seen s).level) stores l store no_level_held within is;
+        is = ap (λ xs. slice_index_or xs l no_level_held) (maps (λ x. x.level) new) ∙ new_at (λ s. (seen s).level) stores l later no_level_held within;
+        tells = one_tells stores l store within is;
       }
 
   within_stores : (policy : Policy) (stores : List S) (l : ℕ) → l < length (held_of (map seen stores) policy).levels → l < length stores
@@ -84,7 +84,7 @@ module _ {S : Type 0} (seen : S → HeldLevel) where
       → Alone old (held_of (map seen (slice_set stores l later)) policy) l (seen store) (seen later)
   moved old policy stores l store later at within is facts told =
       subst (λ (o : Held). l < length o.levels → Alone o (held_of (map seen (slice_set stores l later)) policy) l (seen store) (seen later)) at
-          (λ h. moved_of policy stores l store later (within_stores policy stores l h) is facts told) within
+      (λ h. moved_of policy stores l store later (within_stores policy stores l h) is facts told) within
 
   -- what stays of a level, read at its store
   pub facts_at : (old : Held) (policy : Policy) (stores : List S) (l : ℕ) (store : S) → held_of (map seen stores) policy ≡ old → l < length old.levels → store ≡ slice_index_or stores l store → level_facts old.facts l ≡ (seen store).facts
@@ -109,10 +109,11 @@ if_ok (Err e) f h = tt
 pub asks_at : (old new : Held) (l : ℕ) (before after : HeldLevel) (key : List ℕ) (mode : Mode) (answer : Answer) → Alone old new l before after → AsksLevel key mode answer before after → AsksAt l key mode answer old new
 asks_at old new l before after key mode answer m asks told has r =
     let known : IsTrue (has_mode before.facts.kind mode) = subst (λ (f : LevelFacts). IsTrue (has_mode f.kind mode)) m.facts_were has in
-    let h = asks (m.tells told) known r in
-    (after.level,
-     subst (λ (v : Level). Asks objects (level_facts old.facts l) r key mode answer v after.level) (sym m.was) (subst (λ (f : LevelFacts). Asks objects f r key mode answer before.level after.level) (sym m.facts_were) h),
-     m.alone)
+    let h = asks (m.tells told) known r in (
+      after.level,
+      subst (λ (v : Level). Asks objects (level_facts old.facts l) r key mode answer v after.level) (sym m.was) (subst (λ (f : LevelFacts). Asks objects f r key mode answer before.level after.level) (sym m.facts_were) h),
+      m.alone,
+    )
 
 pub cause_at : (old new : Held) (l : ℕ) (before after : HeldLevel) (key : List ℕ) (mode : Mode) (answer : Answer) → Alone old new l before after → AskCause mode answer key before.level after.level
     → AskCause mode answer key (level_in old.levels l) (level_in new.levels l)
@@ -128,16 +129,17 @@ alone_at old new l before after m = m.alone ∙ ap (λ v. slice_set old.levels l
 -- the clauses of a write
 pub puts_at : (old new : Held) (l : ℕ) (before after : HeldLevel) (policy : Policy) (key bytes : List ℕ) (how : Written) → policy ≡ old.policy → Alone old new l before after → Later before.level after.level → PutsLevel policy key bytes how before after → PutsAt l key bytes how old new
 puts_at old new l before after policy key bytes how by m later puts told r =
-    let h = puts (m.tells told) r in
-    (after.level,
-     subst (λ (v : Level). Later v after.level) (sym m.was) later,
-     subst (λ (p : Policy). Wrote_at p (level_facts old.facts l) r key bytes Whole how (level_in old.levels l) after.level) by
-         (subst (λ (v : Level). Wrote_at policy (level_facts old.facts l) r key bytes Whole how v after.level) (sym m.was) (subst (λ (f : LevelFacts). Wrote_at policy f r key bytes Whole how before.level after.level) (sym m.facts_were) h)),
-     m.alone)
+    let h = puts (m.tells told) r in (
+      after.level,
+      subst (λ (v : Level). Later v after.level) (sym m.was) later,
+      subst (λ (p : Policy). Wrote_at p (level_facts old.facts l) r key bytes Whole how (level_in old.levels l) after.level) by
+          (subst (λ (v : Level). Wrote_at policy (level_facts old.facts l) r key bytes Whole how v after.level) (sym m.was) (subst (λ (f : LevelFacts). Wrote_at policy f r key bytes Whole how before.level after.level) (sym m.facts_were) h)),
+      m.alone,
+    )
 
 pub put_cause_at : (old new : Held) (l : ℕ) (before after : HeldLevel) (policy : Policy) (key : List ℕ) (how : Written) → policy ≡ old.policy → Alone old new l before after → PutCause (early_cause policy before.facts key) how before.level after.level
     → PutCause (early_cause old.policy (level_facts old.facts l) key) how (level_in old.levels l) (level_in new.levels l)
 put_cause_at old new l before after policy key how by m h =
     subst (λ (p : Policy). PutCause (early_cause p (level_facts old.facts l) key) how (level_in old.levels l) (level_in new.levels l)) by
-        (subst (λ (f : LevelFacts). PutCause (early_cause policy f key) how (level_in old.levels l) (level_in new.levels l)) (sym m.facts_were)
-            (subst (λ (v : Level). PutCause (early_cause policy before.facts key) how v (level_in new.levels l)) (sym m.was) (subst (λ (w : Level). PutCause (early_cause policy before.facts key) how before.level w) (sym m.is) h)))
+    (subst (λ (f : LevelFacts). PutCause (early_cause policy f key) how (level_in old.levels l) (level_in new.levels l)) (sym m.facts_were)
+    (subst (λ (v : Level). PutCause (early_cause policy before.facts key) how v (level_in new.levels l)) (sym m.was) (subst (λ (w : Level). PutCause (early_cause policy before.facts key) how before.level w) (sym m.is) h)))

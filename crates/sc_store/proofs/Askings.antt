@@ -73,55 +73,6 @@ pub mode_asks_at : (ask : Mode) (facts : LevelFacts) (mode : CacheMode) (r : ℕ
 mode_asks_at ask facts mode r key a v w at is h =
     subst (λ f. Asks objects f r key ask (mode_answer ask a) v w) (sym at) (mode_asks ask mode r key a v w is (subst (λ f. Asks objects f r key Raw a v w) at h))
 
-whole_cause : (key : List ℕ) (a : Answer) (v w : Level) → AskCause Raw a key v w → AskCause Whole (whole_answer a) key v w
-whole_cause key (Hit bytes mark) v w h = hit_cause (objects bytes) refl
-  where
-    hit_cause : (os : Option (List Object)) → objects bytes ≡ os → AskCause Whole (hit_of (if_spells os bytes) mark) key v w
-    hit_cause (Some os) e = (h.0, subst Spells (sym e) tt, h.1)
-    hit_cause None e = h.0
-whole_cause key Miss v w h = h
-whole_cause key (Refused BadEntry) v w h = absurd h
-whole_cause key (Refused BadKey) v w h = h
-whole_cause key (Refused FileTooLarge) v w h = absurd h
-whole_cause key (Refused Io) v w h = absurd h
-whole_cause key (Refused NoRoom) v w h = absurd h
-whole_cause key (Refused (ForReading s)) v w h = absurd h
-whole_cause key (Refused (RemoteRefused fault)) v w h = h
-whole_cause key (FoundAt path) v w h = absurd h
-whole_cause key (SizeIs n c) v w h = absurd h
-
-pub mode_cause : (ask : Mode) (key : List ℕ) (a : Answer) (v w : Level) → reads_key ask ≡ true → AskCause Raw a key v w → AskCause ask (mode_answer ask a) key v w
-mode_cause Whole key a v w is h = whole_cause key a v w h
-mode_cause Raw key a v w is h = h
-mode_cause Path key a v w is h = absurd (cc)
-mode_cause Pre key a v w is h = absurd (cc)
-mode_cause Sizes key a v w is h = absurd (cc)
-
--- a bad key is refused, and nothing moves
-pub bad_asks : (ask : Mode) (mode : CacheMode) (r : ℕ) (key : List ℕ) (held : Option Files) (f l : ℕ) → reads_key ask ≡ true → is_store_key key ≡ false
-    → Asks objects (remote_facts mode) r key ask (Refused BadKey) (remote_level held f l) (remote_level held f l)
-bad_asks Whole mode r key held f l is bad = record { later = record { faults = omega arith; losses = omega arith; opened = refl }; keeps = (inl refl, refl); answers = λ good. (cc); opens = refl }
-bad_asks Raw mode r key held f l is bad = record { later = record { faults = omega arith; losses = omega arith; opened = refl }; keeps = (inl refl, refl); answers = λ good. (cc); opens = refl }
-bad_asks Path mode r key held f l is bad = absurd (cc)
-bad_asks Pre mode r key held f l is bad = absurd (cc)
-bad_asks Sizes mode r key held f l is bad = absurd (cc)
-
--- what needs no read
-pub fixed_asks : (ask : Mode) (mode : CacheMode) (r : ℕ) (key : List ℕ) (held : Option Files) (f l : ℕ) → reads_key ask ≡ false → IsTrue (has_mode Remote ask)
-    → Asks objects (remote_facts mode) r key ask (fixed_answer ask) (remote_level held f l) (remote_level held f l)
-fixed_asks Whole mode r key held f l is has = absurd (cc)
-fixed_asks Raw mode r key held f l is has = absurd (cc)
-fixed_asks Path mode r key held f l is has = absurd (cc)
-fixed_asks Pre mode r key held f l is has = record { later = record { faults = omega arith; losses = omega arith; opened = refl }; keeps = (inl refl, refl); answers = tt; opens = refl }
-fixed_asks Sizes mode r key held f l is has = record { later = record { faults = omega arith; losses = omega arith; opened = refl }; keeps = (inl refl, refl); answers = refl; opens = refl }
-
-pub fixed_cause : (ask : Mode) (key : List ℕ) (v w : Level) → reads_key ask ≡ false → AskCause ask (fixed_answer ask) key v w
-fixed_cause Whole key v w is = absurd (cc)
-fixed_cause Raw key v w is = absurd (cc)
-fixed_cause Path key v w is = refl
-fixed_cause Pre key v w is = refl
-fixed_cause Sizes key v w is = refl
-
 free_of : (reading bad : Bool) (c d : Cause) → or_cause reading c (or_cause bad d None) ≡ None → bad ≡ false
 free_of true bad c d is = absurd (cc)
 free_of false true c d is = absurd (cc)
@@ -151,21 +102,5 @@ pub write_puts_at : (how : Written) (old : HeldLevel) (answer : RemoteWrite) (he
     → (r : ℕ) → Wrote_at policy old.facts r key bytes Whole how old.level (remote_level held2 f2 l2)
 write_puts_at how old answer held held2 f f2 l l2 policy mode key path bytes ends is free at puts cause =
     subst (λ (o : HeldLevel). o.told ≡ true → (r : ℕ) → Wrote_at policy o.facts r key bytes Whole how o.level (remote_level held2 f2 l2)) is
-        (λ told r. subst (λ (x : Written). Wrote_at policy (remote_facts mode) r key bytes Whole x (remote_level held f l) (remote_level held2 f2 l2)) (sym ends)
-            (write_puts answer held held2 f f2 l l2 policy mode key path bytes free at puts cause told r))
-
-refused_for : (reading bad : Bool) (c : Cause) (held : Option Files) (f l : ℕ) (expected : Causes) → expected.all ≡ Some c → or_cause reading (ForReading RemoteStore) (or_cause bad BadKey None) ≡ Some c
-    → IsRefused Remote expected c (remote_level held f l) (remote_level held f l)
-refused_for true bad c held f l expected all is =
-    let same : ForReading RemoteStore ≡ c = (cc) in
-    subst (λ x. IsRefused Remote expected x (remote_level held f l) (remote_level held f l)) same (rw same all, (inl refl, refl), refl)
-refused_for false true c held f l expected all is =
-    let same : BadKey ≡ c = (cc) in
-    subst (λ x. IsRefused Remote expected x (remote_level held f l) (remote_level held f l)) same (rw same all, (inl refl, refl), refl)
-refused_for false false c held f l expected all is = absurd (cc)
-
--- a write that is refused for its mode or key moves nothing
-pub early_puts : (c : Cause) (held : Option Files) (f l : ℕ) (policy : Policy) (mode : CacheMode) (key bytes : List ℕ) → early_cause policy (remote_facts mode) key ≡ Some c
-    → (r : ℕ) → Wrote_at policy (remote_facts mode) r key bytes Whole (NotWritten c) (remote_level held f l) (remote_level held f l)
-early_puts c held f l policy mode key bytes is r =
-    (refused_for (is_single policy && reads_only mode) (not (is_store_key key)) c held f l (causes policy (remote_facts mode) r key (length bytes)) is is, (inl refl, refl))
+    (λ told r. subst (λ (x : Written). Wrote_at policy (remote_facts mode) r key bytes Whole x (remote_level held f l) (remote_level held2 f2 l2)) (sym ends)
+    (write_puts answer held held2 f f2 l l2 policy mode key path bytes free at puts cause told r))

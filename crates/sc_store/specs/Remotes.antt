@@ -1,7 +1,8 @@
 -- What a call of a store behind a network does to what the store holds, and why it is refused.
-use Rattle.std.specs.Prelude.{◌≡◌, ℕ, List, Some, None, ◌⊎◌}
+use Rattle.std.specs.Prelude.{◌≡◌, ℕ, Bool, true, false, List, Option, Some, None, ◌⊎◌}
 use Rattle.sc_entry.specs.Causes.{Rose}
 use Rattle.sc_model.specs.World.{Files, IsPart, find_file, put_file}
+use Rattle.sc_model.specs.declared.level.RemoteFault.TheVariants.{Other}
 use Rattle.sc_store.specs.declared.remote.RemoteRead.{RemoteRead}
 use Rattle.sc_store.specs.declared.remote.RemoteRead.TheVariants.{Found, NotFound, Refused as ReadRefused}
 use Rattle.sc_store.specs.declared.remote.RemoteWrite.{RemoteWrite}
@@ -39,3 +40,16 @@ ReadCause _ before now = Unit {0}
 abbrev pub WriteCause : RemoteWrite → ℕ → ℕ → Type 0
 WriteCause (WriteRefused fault) before now = Rose before now
 WriteCause Done before now = Unit {0}
+
+-- What a store in memory answers: it refuses the calls that are to fail, and no others. Its faults have no kind of their own.
+abbrev pub read_found : Option (List ℕ) → RemoteRead
+read_found None = NotFound
+read_found (Some bytes) = Found bytes
+
+abbrev pub read_of : Bool → Option (List ℕ) → RemoteRead
+read_of true found = ReadRefused Other
+read_of false found = read_found found
+
+abbrev pub write_of : Bool → RemoteWrite
+write_of true = WriteRefused Other
+write_of false = Done

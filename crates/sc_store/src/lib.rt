@@ -14,3 +14,6 @@ pub use levels::Levels;
 pub use mem_remote::MemRemote;
 pub use remote::{Remote, RemoteRead, RemoteWrite};
 pub use remote_storage::RemoteStorage;
+
+#[cfg(test)]
+mod tests;

@@ -1,9 +1,10 @@
-ghost use Rattle.std.specs.Prelude.{◌≡◌, ℕ, Some, IfOk};
+ghost use Rattle.std.specs.Prelude.{◌≡◌, ◌≤◌, ℕ, Some, IfOk, cond};
 ghost use Rattle.std.specs.List.{list_any};
 ghost use Rattle.std.specs.Ordering.{nat_cmp, eq_by_cmp};
-ghost use Rattle.sc_entry.specs.Failing.{fails_at};
-ghost use Rattle.sc_model.specs.World.{no_files};
+ghost use Rattle.sc_entry.specs.Failing.{fails_at, faults_after, one_more};
+ghost use Rattle.sc_model.specs.World.{no_files, find_file, put_file};
 ghost use Rattle.sc_store.specs.Paths.{put_all};
+ghost use Rattle.sc_store.specs.Remotes.{Reads, ReadCause, Writes, WriteCause, read_of, write_of};
 
 use crate::path_map::PathMap;
 use crate::remote::{Remote, RemoteRead, RemoteWrite};
@@ -61,7 +62,16 @@ impl Remote for MemRemote {
         self.calls.faults()
     }
 
-    fn read(&mut self, _alloc: Global, path: &Text) -> Result<RemoteRead, NoMemory> {
+    fn read(&mut self, _alloc: Global, path: &Text) -> Result<RemoteRead, NoMemory>
+        ensures told { IfOk result (λ answer. Reads answer 0 0 path.now self.old.files self.new.files) }
+        ensures cause { IfOk result (λ answer. ReadCause answer self.old.calls.faults self.new.calls.faults) }
+        ensures faults_stay { self.old.calls.faults ≤ self.new.calls.faults }
+        ensures answer { IfOk result (λ answer. answer ≡ read_of (fails_at self.old.calls self.new.calls.made) (find_file self.old.files path.now)) }
+        ensures files { self.new.files ≡ self.old.files }
+        ensures made { self.new.calls.made ≡ one_more self.old.calls.made }
+        ensures failing { (number : ℕ) → fails_at self.new.calls number ≡ fails_at self.old.calls number }
+        ensures faults { self.new.calls.faults ≡ faults_after (fails_at self.old.calls self.new.calls.made) self.old.calls.faults }
+    {
         if self.calls.fails_next() {
             return Ok(RemoteRead::Refused(RemoteFault::Other));
         }
@@ -76,7 +86,16 @@ impl Remote for MemRemote {
         _alloc: Global,
         path: &Text,
         bytes: &ByteText,
-    ) -> Result<RemoteWrite, NoMemory> {
+    ) -> Result<RemoteWrite, NoMemory>
+        ensures told { IfOk result (λ answer. Writes answer 0 0 path.now bytes.now self.old.files self.new.files) }
+        ensures cause { IfOk result (λ answer. WriteCause answer self.old.calls.faults self.new.calls.faults) }
+        ensures faults_stay { self.old.calls.faults ≤ self.new.calls.faults }
+        ensures answer { IfOk result (λ answer. answer ≡ write_of (fails_at self.old.calls self.new.calls.made)) }
+        ensures files { IfOk result (λ answer. self.new.files ≡ cond (fails_at self.old.calls self.new.calls.made) self.old.files (put_file self.old.files path.now bytes.now)) }
+        ensures made { self.new.calls.made ≡ one_more self.old.calls.made }
+        ensures failing { (number : ℕ) → fails_at self.new.calls number ≡ fails_at self.old.calls number }
+        ensures faults { self.new.calls.faults ≡ faults_after (fails_at self.old.calls self.new.calls.made) self.old.calls.faults }
+    {
         if self.calls.fails_next() {
             return Ok(RemoteWrite::Refused(RemoteFault::Other));
         }

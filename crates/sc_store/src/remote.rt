@@ -47,7 +47,12 @@ pub trait Remote {
         ensures losses_stay { loss_count self.old ≤ loss_count self.new };
 
     /// Puts bytes at a path, in place of those that stood there.
-    fn write(&mut self, alloc: Global, path: &Text, bytes: &ByteText) -> Result<RemoteWrite, NoMemory>
+    fn write(
+        &mut self,
+        alloc: Global,
+        path: &Text,
+        bytes: &ByteText,
+    ) -> Result<RemoteWrite, NoMemory>
         ensures tells { is_some (held self.new) ≡ is_some (held self.old) }
         ensures told { IfOk result (λ answer. Told (Writes answer (loss_count self.old) (loss_count self.new) path.now bytes.now) (held self.old) (held self.new)) }
         ensures cause { IfOk result (λ answer. WriteCause answer (fault_count self.old) (fault_count self.new)) }

@@ -74,5 +74,5 @@ returns-clause-early g c =
     let here : c.index_mut.result.now ≡ slice_index_or c.self.inside.levels.items c.args.level c.index_mut.result.now = search rules in
     let m : Alone old new c.args.level before after = moved held_level old c.self.inside.policy c.self.inside.levels.items c.args.level c.index_mut.result.now c.put_step.new.self c.self.view_is c.requires here c.put_step.ensures.facts c.put_step.ensures.told in
     λ cause is.
-        let e = c.put_step.ensures.early cause (ap (λ p. early_cause p before.facts c.args.key.now) (ap (λ h. h.policy) c.self.view_is) ∙ ap (λ f. early_cause old.policy f c.args.key.now) (sym m.facts_were) ∙ is) in
-        (e.0, unmoved held_level old c.self.inside.policy c.self.inside.levels.items c.args.level c.index_mut.result.now c.put_step.new.self c.self.view_is c.requires here e.1)
+    let e = c.put_step.ensures.early cause (ap (λ p. early_cause p before.facts c.args.key.now) (ap (λ h. h.policy) c.self.view_is) ∙ ap (λ f. early_cause old.policy f c.args.key.now) (sym m.facts_were) ∙ is) in
+    (e.0, unmoved held_level old c.self.inside.policy c.self.inside.levels.items c.args.level c.index_mut.result.now c.put_step.new.self c.self.view_is c.requires here e.1)

@@ -1,0 +1,177 @@
+use crate::{Level, Levels, MemRemote, Remote, RemoteRead, RemoteStorage, RemoteWrite};
+use sc_entry::{ByteText, Items, Text};
+use sc_model::{Answer, CacheMode, Cause, Mode, Policy, RemoteFault, Store, Written};
+use std::alloc::Global;
+use std::test::Fail;
+
+/// An entry: `hi` on standard output.
+const ENTRY: &[u8] = &[
+    0x53, 0x43, 0x45, 0x31, 1, 0, 6, 0, 0x73, 0x74, 0x64, 0x6f, 0x75, 0x74, 0, 2, 0, 0, 0, 0, 0, 0,
+    0, 0x68, 0x69,
+];
+
+fn text(alloc: Global, word: &str) -> Result<Text, Fail> {
+    Ok(Text::from_str(alloc, word)?)
+}
+
+fn bytes(alloc: Global, word: &[u8]) -> Result<ByteText, Fail> {
+    Ok(ByteText::from_slice(alloc, word)?)
+}
+
+/// A store that holds the entry under `abc`, four other bytes under `bad-1`, and refuses the call of this number.
+fn small_remote(alloc: Global, fails: u64) -> Result<MemRemote, Fail> {
+    let mut held = Items::new(alloc);
+    held.push((text(alloc, "a/b/c/abc")?, bytes(alloc, b"old")?))?;
+    held.push((text(alloc, "a/b/c/abc")?, bytes(alloc, ENTRY)?))?;
+    held.push((text(alloc, "b/a/d/bad-1")?, bytes(alloc, b"SCE2")?))?;
+    let mut failing = Items::new(alloc);
+    failing.push(fails)?;
+    Ok(MemRemote::new(alloc, held, failing)?)
+}
+
+fn told_read(answer: &RemoteRead) -> &[u8] {
+    match answer {
+        RemoteRead::Found(bytes) => bytes.as_slice(),
+        RemoteRead::NotFound => b"not found",
+        RemoteRead::Refused(RemoteFault::AlreadyExists) => b"exists",
+        RemoteRead::Refused(RemoteFault::RateLimited) => b"limited",
+        RemoteRead::Refused(RemoteFault::Other) => b"other",
+    }
+}
+
+fn told_answer(answer: &Answer) -> &[u8] {
+    match answer {
+        Answer::Hit(bytes, false) => bytes.as_slice(),
+        Answer::Hit(_, true) => b"marked",
+        Answer::Miss => b"miss",
+        Answer::Refused(Cause::BadKey) => b"bad key",
+        Answer::Refused(Cause::BadEntry) => b"bad entry",
+        Answer::Refused(Cause::RemoteFault(_)) => b"remote fault",
+        Answer::Size(None, None) => b"no size",
+        _ => b"another",
+    }
+}
+
+fn told_written(how: Written) -> &'static str {
+    match how {
+        Written::Done => "done",
+        Written::Refused(Cause::BadKey) => "bad key",
+        Written::Refused(Cause::ReadOnly(Store::Remote)) => "read-only",
+        Written::Refused(Cause::RemoteFault(_)) => "remote fault",
+        Written::Refused(_) => "another",
+    }
+}
+
+#[test]
+fn ample_remote(rt: HostRuntime) -> Result<(), Fail> {
+    let alloc = rt.alloc();
+    let mut remote = small_remote(alloc, 2)?;
+    assert_eq!(rt; remote.scheme(), "memory");
+    assert_eq!(rt; remote.name(), "m");
+    assert_eq!(rt; remote.root(), "/");
+    let path = text(alloc, "a/b/c/abc")?;
+    let found = remote.read(alloc, &path)?;
+    assert_eq!(rt; told_read(&found), ENTRY);
+    let refused = remote.read(alloc, &path)?;
+    assert_eq!(rt; told_read(&refused), b"other".as_slice());
+    assert_eq!(rt; remote.faults(), 1);
+    let absent = text(alloc, "x/y/z/xyz")?;
+    let none = remote.read(alloc, &absent)?;
+    assert_eq!(rt; told_read(&none), b"not found".as_slice());
+    let written = remote.write(alloc, &absent, &bytes(alloc, b"new")?)?;
+    assert!(rt; matches!(written, RemoteWrite::Done));
+    let found = remote.read(alloc, &absent)?;
+    assert_eq!(rt; told_read(&found), b"new".as_slice());
+    assert_eq!(rt; remote.faults(), 1);
+    Ok(())
+}
+
+/// One lookup, told in words; the levels are known to the caller alone.
+fn ask(
+    alloc: Global,
+    levels: &mut Levels<MemRemote>,
+    level: usize,
+    key: &str,
+    mode: Mode,
+) -> Result<Answer, Fail> {
+    if level >= levels.len() {
+        return Ok(Answer::Found(ByteText::new(alloc)));
+    }
+    let key = text(alloc, key)?;
+    let answer = levels.ask(alloc, level, &key, mode)?;
+    Ok(answer)
+}
+
+fn put(
+    alloc: Global,
+    levels: &mut Levels<MemRemote>,
+    level: usize,
+    key: &str,
+) -> Result<&'static str, Fail> {
+    if level >= levels.len() {
+        return Ok("no level");
+    }
+    let key = text(alloc, key)?;
+    let entry = bytes(alloc, ENTRY)?;
+    let how = levels.put_step(alloc, level, &key, &entry, true)?;
+    Ok(told_written(how))
+}
+
+/// Two levels, the second read-only.
+fn small_levels(alloc: Global, fails: u64) -> Result<Levels<MemRemote>, Fail> {
+    let mut levels = Vec::new(alloc);
+    let empty = MemRemote::new(alloc, Items::new(alloc), Items::new(alloc))?;
+    levels.push(Level::Remote(RemoteStorage::new(empty, CacheMode::ReadWrite)))?;
+    levels.push(Level::Remote(RemoteStorage::new(
+        small_remote(alloc, fails)?,
+        CacheMode::ReadOnly,
+    )))?;
+    Ok(Levels::new(levels, Policy::Levels(Items::new(alloc))))
+}
+
+#[test]
+fn ample_ask(rt: HostRuntime) -> Result<(), Fail> {
+    let alloc = rt.alloc();
+    let mut levels = small_levels(alloc, 4)?;
+    let rows: [(usize, &str, Mode, &[u8]); 9] = [
+        (0, "abc", Mode::Whole, b"miss"),
+        (1, "abc", Mode::Whole, ENTRY),
+        (1, "bad-1", Mode::Whole, b"bad entry"),
+        (1, "bad-1", Mode::Raw, b"SCE2"),
+        (1, "a/c", Mode::Raw, b"bad key"),
+        (1, "abc", Mode::Whole, b"remote fault"),
+        (1, "abc", Mode::Pre, b"miss"),
+        (1, "abc", Mode::Size, b"no size"),
+        (1, "xyz", Mode::Whole, b"miss"),
+    ];
+    for (level, key, mode, expected) in rows {
+        let answer = ask(alloc, &mut levels, level, key, mode)?;
+        assert_eq!(rt; told_answer(&answer), expected, "{level} {key}");
+    }
+    Ok(())
+}
+
+#[test]
+fn ample_put_step(rt: HostRuntime) -> Result<(), Fail> {
+    let alloc = rt.alloc();
+    let mut levels = small_levels(alloc, 1)?;
+    assert_eq!(rt; put(alloc, &mut levels, 0, "new")?, "done");
+    assert_eq!(rt; put(alloc, &mut levels, 0, "no key")?, "bad key");
+    assert_eq!(rt; put(alloc, &mut levels, 1, "new")?, "remote fault");
+    let found = ask(alloc, &mut levels, 0, "new", Mode::Whole)?;
+    assert_eq!(rt; told_answer(&found), ENTRY);
+    let none = ask(alloc, &mut levels, 1, "new", Mode::Whole)?;
+    assert_eq!(rt; told_answer(&none), b"miss".as_slice());
+    Ok(())
+}
+
+#[test]
+fn single_read_only(rt: HostRuntime) -> Result<(), Fail> {
+    let alloc = rt.alloc();
+    let store = RemoteStorage::new(small_remote(alloc, 0)?, CacheMode::ReadOnly);
+    assert_eq!(rt; store.remote().faults(), 0);
+    let levels = vec![in alloc; Level::Remote(store)]?;
+    let mut single = Levels::new(levels, Policy::Single);
+    assert_eq!(rt; put(alloc, &mut single, 0, "no key")?, "read-only");
+    Ok(())
+}
