@@ -1,2 +1,4 @@
 pub mod Cuts
+pub mod Objects
 pub mod Outputs
+pub mod Shelves

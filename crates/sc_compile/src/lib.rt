@@ -4,18 +4,25 @@
 
 mod arguments;
 mod beginning;
+mod collecting;
 mod command;
 mod first_word;
+mod placement;
 mod plain;
 mod probe;
 mod run_line;
+mod script_workshop;
+mod shelf;
 mod tool;
 mod words;
 mod words_error;
+mod workshop;
 
 pub use beginning::begin;
 pub use command::SingleCompileCommand;
 pub use plain::PlainCompiler;
 pub use probe::{Probe, ToolTable};
 pub use run_line::RunLine;
+pub use script_workshop::ScriptWorkshop;
 pub use tool::{Detected, Tool, ToolKind};
+pub use workshop::Workshop;

@@ -1,0 +1,150 @@
+//! What a run's outputs come to.
+
+ghost use Rattle.std.specs.Prelude.{◌≡◌, ◌++◌, ◌&&◌, not, IfOk, ℕ, List, Some, option_map};
+ghost use Rattle.std.specs.BTreeSet.{contains_text};
+ghost use Rattle.sc_model.specs.World.{first_missing, has_name};
+ghost use Rattle.sc_compile.specs.Answers.{collected, collected_from, is_broken, is_fault, no_answer, with_outputs};
+
+use sc_entry::{FileObjectSource, Items, NoMemory, Object, Text};
+use sc_model::{Objects, RunAnswer, RunOutput};
+use std::alloc::Global;
+use std::collections::BTreeSet;
+
+/// The names of some objects.
+fn names_of(alloc: Global, objects: &[Object]) -> Result<BTreeSet<String>, NoMemory>
+    ensures { IfOk result (λ names. (name : List ℕ) → contains_text names name ≡ has_name objects.now name) }
+{
+    let mut names = BTreeSet::new(alloc);
+    let mut left = objects;
+    while let [object, rest @ ..] = left {
+        names.insert(String::from_str(alloc, object.name.as_str())?)?;
+        left = rest;
+    }
+    Ok(names)
+}
+
+/// Whether an output is required, and no object has its name.
+fn is_missing(names: &BTreeSet<String>, output: &FileObjectSource) -> bool
+    ensures { result ≡ (not output.now.optional && not (contains_text names.now output.now.key)) }
+{
+    !output.optional && !names.contains(output.key.as_str())
+}
+
+/// The first required output that the objects lack.
+fn first_missing<'a>(
+    alloc: Global,
+    objects: &[Object],
+    outputs: &'a [FileObjectSource],
+) -> Result<Option<&'a Text>, NoMemory>
+    ensures { IfOk result (λ name. option_map (λ n. n.now) name ≡ first_missing (Some objects.now) outputs.now) }
+{
+    let names = names_of(alloc, objects)?;
+    let mut left = outputs;
+    while let [output, rest @ ..] = left {
+        if is_missing(&names, output) {
+            return Ok(Some(&output.key));
+        }
+        left = rest;
+    }
+    Ok(None)
+}
+
+/// Two texts, one behind the other.
+fn joined(alloc: Global, front: &str, end: &Text) -> Result<Text, NoMemory>
+    ensures { IfOk result (λ t. t ≡ front.now ++ end.now) }
+{
+    let mut text = String::from_str(alloc, front)?;
+    text.push_str(end.as_str())?;
+    Ok(Text::from_string(text))
+}
+
+fn collected(
+    alloc: Global,
+    objects: &Items<Object>,
+    missing: Option<&Text>,
+) -> Result<Objects, NoMemory>
+    ensures { IfOk result (λ os. os ≡ collected objects.now (option_map (λ n. n.now) missing.entry)) }
+{
+    let Some(name) = missing else {
+        return Ok(Objects::Collected(objects.clone()?));
+    };
+    let mut chain = Items::new(alloc);
+    chain.push(Text::from_str(alloc, "failed to zip up compiler outputs")?)?;
+    chain.push(joined(alloc, "failed to open file ", name)?)?;
+    Ok(Objects::Broken(chain))
+}
+
+fn collected_from(
+    alloc: Global,
+    outputs: &[FileObjectSource],
+    objects: &Objects,
+) -> Result<Objects, NoMemory>
+    ensures { IfOk result (λ os. os ≡ collected_from outputs.now objects.now) }
+{
+    match objects {
+        Objects::Collected(objects) => {
+            let missing = first_missing(alloc, objects.as_slice(), outputs)?;
+            collected(alloc, objects, missing)
+        }
+        Objects::Broken(chain) => Ok(Objects::Broken(chain.clone()?)),
+    }
+}
+
+/// A copy of a line's answer, for a run from which these outputs are wanted.
+pub fn with_outputs(
+    alloc: Global,
+    outputs: &[FileObjectSource],
+    answer: &RunAnswer,
+) -> Result<RunAnswer, NoMemory>
+    ensures { IfOk result (λ a. a ≡ with_outputs outputs.now answer.now) }
+{
+    match answer {
+        RunAnswer::Output(out) => {
+            let objects = collected_from(alloc, outputs, &out.objects)?;
+            let output = out.output.clone()?;
+            Ok(RunAnswer::Output(RunOutput { output, objects }))
+        }
+        RunAnswer::ProcessError(out) => Ok(RunAnswer::ProcessError(out.clone()?)),
+        RunAnswer::Fault(chain) => Ok(RunAnswer::Fault(chain.clone()?)),
+    }
+}
+
+/// A copy of an answer.
+pub fn copied(answer: &RunAnswer) -> Result<RunAnswer, NoMemory>
+    ensures { IfOk result (λ a. a ≡ answer.now) }
+{
+    match answer {
+        RunAnswer::Output(out) => Ok(RunAnswer::Output(out.clone()?)),
+        RunAnswer::ProcessError(out) => Ok(RunAnswer::ProcessError(out.clone()?)),
+        RunAnswer::Fault(chain) => Ok(RunAnswer::Fault(chain.clone()?)),
+    }
+}
+
+/// The answer of a run under a key without a line.
+pub fn no_answer(alloc: Global, key: &Text) -> Result<RunAnswer, NoMemory>
+    ensures { IfOk result (λ a. a ≡ no_answer key.now) }
+{
+    let mut chain = Items::new(alloc);
+    chain.push(joined(alloc, "no answer for ", key)?)?;
+    Ok(RunAnswer::Fault(chain))
+}
+
+fn is_broken(objects: &Objects) -> bool
+    ensures { result ≡ is_broken objects.now }
+{
+    match objects {
+        Objects::Collected(_) => false,
+        Objects::Broken(_) => true,
+    }
+}
+
+/// Whether an answer is a fault, or has a chain in place of objects.
+pub fn is_fault(answer: &RunAnswer) -> bool
+    ensures { result ≡ is_fault answer.now }
+{
+    match answer {
+        RunAnswer::Output(out) => is_broken(&out.objects),
+        RunAnswer::ProcessError(_) => false,
+        RunAnswer::Fault(_) => true,
+    }
+}
