@@ -1,5 +1,6 @@
 pub mod Answers
 pub mod Commands
+pub mod GoodNames
 pub mod Names
 pub mod Placings
 pub mod Plain

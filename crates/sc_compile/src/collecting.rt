@@ -1,8 +1,9 @@
 //! What a run's outputs come to.
 
-ghost use Rattle.std.specs.Prelude.{◌≡◌, ◌++◌, ◌&&◌, not, IfOk, ℕ, List, Some, option_map};
+ghost use Rattle.std.specs.Prelude.{◌≡◌, ◌++◌, ◌&&◌, not, IfOk, ℕ, List, Some, true, option_map};
 ghost use Rattle.std.specs.BTreeSet.{contains_text};
 ghost use Rattle.sc_model.specs.World.{first_missing, has_name};
+ghost use Rattle.sc_compile.specs.GoodNames.{are_good, are_run_objects, is_good_answer};
 ghost use Rattle.sc_compile.specs.Answers.{collected, collected_from, is_broken, is_fault, no_answer, with_outputs};
 
 use sc_entry::{FileObjectSource, Items, NoMemory, Object, Text};
@@ -63,7 +64,9 @@ fn collected(
     objects: &Items<Object>,
     missing: Option<&Text>,
 ) -> Result<Objects, NoMemory>
-    ensures { IfOk result (λ os. os ≡ collected objects.now (option_map (λ n. n.now) missing.entry)) }
+    requires { are_run_objects objects.now ≡ true }
+    ensures value { IfOk result (λ os. os ≡ collected objects.now (option_map (λ n. n.now) missing.entry)) }
+    ensures good { IfOk result (λ os. are_good os ≡ true) }
 {
     let Some(name) = missing else {
         return Ok(Objects::Collected(objects.clone()?));
@@ -79,7 +82,9 @@ fn collected_from(
     outputs: &[FileObjectSource],
     objects: &Objects,
 ) -> Result<Objects, NoMemory>
-    ensures { IfOk result (λ os. os ≡ collected_from outputs.now objects.now) }
+    requires { are_good objects.now ≡ true }
+    ensures value { IfOk result (λ os. os ≡ collected_from outputs.now objects.now) }
+    ensures good { IfOk result (λ os. are_good os ≡ true) }
 {
     match objects {
         Objects::Collected(objects) => {
@@ -96,7 +101,9 @@ pub fn with_outputs(
     outputs: &[FileObjectSource],
     answer: &RunAnswer,
 ) -> Result<RunAnswer, NoMemory>
-    ensures { IfOk result (λ a. a ≡ with_outputs outputs.now answer.now) }
+    requires { is_good_answer answer.now ≡ true }
+    ensures value { IfOk result (λ a. a ≡ with_outputs outputs.now answer.now) }
+    ensures good { IfOk result (λ a. is_good_answer a ≡ true) }
 {
     match answer {
         RunAnswer::Output(out) => {
@@ -122,7 +129,8 @@ pub fn copied(answer: &RunAnswer) -> Result<RunAnswer, NoMemory>
 
 /// The answer of a run under a key without a line.
 pub fn no_answer(alloc: Global, key: &Text) -> Result<RunAnswer, NoMemory>
-    ensures { IfOk result (λ a. a ≡ no_answer key.now) }
+    ensures value { IfOk result (λ a. a ≡ no_answer key.now) }
+    ensures good { IfOk result (λ a. is_good_answer a ≡ true) }
 {
     let mut chain = Items::new(alloc);
     chain.push(joined(alloc, "no answer for ", key)?)?;

@@ -1,7 +1,8 @@
 //! The workshop of a script.
 
-ghost use Rattle.std.specs.Prelude.{◌≡◌, ◌≤◌, IfOk, OnOk, OnErr, Some, length, option_map};
+ghost use Rattle.std.specs.Prelude.{◌≡◌, ◌≤◌, IfOk, IfSome, OnOk, OnErr, Some, true, length, option_map};
 ghost use Rattle.sc_compile.specs.Answers.{answers_of, count_runs, next_of, script_answer};
+ghost use Rattle.sc_compile.specs.GoodNames.{is_good_answer};
 ghost use Rattle.sc_compile.specs.Shop.{after_placing, after_run, new_shop};
 
 use crate::collecting::{is_fault, no_answer, with_outputs};
@@ -74,7 +75,8 @@ impl ScriptWorkshop {
 
     /// The line's answer that the next run under a key takes.
     fn next_answer(&self, key: &Text) -> Option<&RunAnswer>
-        ensures { option_map (λ a. a.now) result ≡ next_of (count_runs key.now self.now.runs) (answers_of key.now self.now.lines) }
+        ensures next { option_map (λ a. a.now) result ≡ next_of (count_runs key.now self.now.runs) (answers_of key.now self.now.lines) }
+        ensures good { IfSome result (λ a. is_good_answer a.now ≡ true) }
     {
         let taken = taken_at(&self.taken, key);
         let place = next_place(places_at(&self.places, key), taken)?;
@@ -87,7 +89,8 @@ impl ScriptWorkshop {
         key: &Text,
         outputs: &[FileObjectSource],
     ) -> Result<RunAnswer, NoMemory>
-        ensures { IfOk result (λ a. a ≡ script_answer self.now.lines key.now self.now.runs outputs.now) }
+        ensures value { IfOk result (λ a. a ≡ script_answer self.now.lines key.now self.now.runs outputs.now) }
+        ensures good { IfOk result (λ a. is_good_answer a ≡ true) }
     {
         match self.next_answer(key) {
             None => no_answer(alloc, key),

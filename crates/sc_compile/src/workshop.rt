@@ -1,10 +1,11 @@
 //! What runs compilers.
 
-ghost use Rattle.std.specs.Prelude.{◌≡◌, ◌≤◌, IfOk, OnOk, List, ℕ, Option};
+ghost use Rattle.std.specs.Prelude.{◌≡◌, ◌≤◌, IfOk, OnOk, List, ℕ, Option, true};
 ghost use Rattle.sc_entry.specs.Causes.{IfTold};
 ghost use Rattle.sc_model.specs.World.{Place, RunCause, and_one};
 ghost use Rattle.sc_model.specs.declared.event.RunAnswer.{RunAnswer};
 ghost use Rattle.sc_compile.specs.Answers.{told_answer};
+ghost use Rattle.sc_compile.specs.GoodNames.{is_good_answer};
 ghost use Rattle.sc_compile.specs.Placings.{Places};
 ghost use Rattle.sc_compile.specs.declared.run_line.RunLine.{RunLine};
 
@@ -32,7 +33,8 @@ pub trait Workshop {
         ensures { result ≡ fault_count self.now };
 
     /// Runs a command under a key, and collects its outputs. A fault, or a chain of texts in place of the objects, comes
-    /// only where the count rose.
+    /// only where the count rose. The objects are fewer than 65,533, with distinct names of 1 to 65,535 bytes of UTF-8,
+    /// none `stdout` or `stderr`; a chain has at least one text.
     fn run(
         &mut self,
         alloc: Global,
@@ -45,6 +47,7 @@ pub trait Workshop {
         ensures lines { OnOk result (lines self.new ≡ lines self.old) }
         ensures later { fault_count self.old ≤ fault_count self.new }
         ensures cause { IfOk result (λ a. RunCause a (fault_count self.old) (fault_count self.new)) }
+        ensures good { IfOk result (λ a. is_good_answer a ≡ true) }
         ensures answer { IfOk result (λ a. IfTold (told_answer (lines self.old) key.now (runs self.old) outputs.now) (λ b. a ≡ b)) };
 
     /// Places an entry's objects at the outputs' paths. `None` is done; else it is a fault's chain of texts.
