@@ -1,8 +1,8 @@
 -- Frames: a payload's length, the highest byte first, and the payload.
-use Rattle.std.specs.Prelude.{◌≡◌, ℕ, ◌+◌, ◌*◌, ◌<◌, ◌≤◌, if◌then◌else◌, List, ◌∷◌, ◌++◌, length, take, drop, Option, Some, None, Result, Ok, Err, nat_lt}
+use Rattle.std.specs.Prelude.{◌≡◌, ℕ, ◌+◌, ◌*◌, ◌<◌, ◌≤◌, ◌^◌, if◌then◌else◌, List, [], ◌∷◌, ◌++◌, length, take, drop, Option, Some, None, Result, Ok, Err, nat_lt}
 use Rattle.std.specs.Int.{w32, to_be_bytes}
 use denote.Ref.{Bor}
-use Rattle.sc_wire.specs.Codec.{Codec, read_all}
+use Rattle.sc_wire.specs.Codec.{Codec, Spells, read_all}
 use Rattle.sc_wire.specs.declared.error.DecodeError.{DecodeError}
 use Rattle.sc_wire.specs.declared.error.DecodeError.TheVariants.{NoMemory, BadFrame}
 use Rattle.sc_wire.specs.declared.frame.FrameError.{FrameError}
@@ -85,3 +85,13 @@ GivesMessage (Err BadFrame) at_front old new = (at_front ≡ Fault) × (new ≡ 
 abbrev pub IsTooLong : FrameError → ℕ → List ℕ → Type 0
 IsTooLong refusals.NoMemory limit payload = Unit {0}
 IsTooLong (refusals.TooLong n) limit payload = (n ≡ length payload) × (limit < n)
+
+-- What a value spells is read as that value and no other, alone and in a frame before any bytes.
+pub record SpellsAndReads {A : Type 0} (a : Codec A) : Type 0 where
+  pub read : (bytes : List ℕ) (message : A) → Spells a bytes message → read_all a bytes ≡ Some message
+  pub spelled : (bytes : List ℕ) (message : A) → read_all a bytes ≡ Some message → Spells a bytes message
+  pub framed : (limit : ℕ) (message : A) (after : List ℕ) → a.Fits message → limit < 2 ^ 32 → length (a.spell message) ≤ limit → ahead a limit (frame (a.spell message) ++ after) ≡ Message message after
+
+-- No frame begins another.
+abbrev pub FramesAreApart : Type 0
+FramesAreApart = (p q after : List ℕ) → length p < 2 ^ 32 → length q < 2 ^ 32 → frame p ++ after ≡ frame q → (p ≡ q) × (after ≡ [])

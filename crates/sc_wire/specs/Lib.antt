@@ -12,3 +12,4 @@ pub mod Requests
 pub mod Responses
 pub mod Frames
 pub mod Streams
+pub mod Startups

@@ -1,5 +1,5 @@
 //! Frames out of bytes that come in any pieces.
-ghost use Rattle.std.specs.Prelude.{◌≡◌, ℕ, ◌++◌, ◌≤◌, [], length, drop, OnOk, OnErr};
+ghost use Rattle.std.specs.Prelude.{◌≡◌, ◌↔◌, ℕ, ◌++◌, ◌≤◌, [], length, drop, IsTrue, OnOk, OnErr};
 ghost use Rattle.sc_wire.specs.Frames.{cut, ahead, Shows, ShowsMessage, GivesPayload, GivesMessage};
 ghost use Rattle.sc_wire.specs.Streams.{request_front, GivesRequest, AnyCutting};
 
@@ -100,6 +100,13 @@ impl Framer {
         compact(alloc, &mut self.held, &mut self.start)?;
         self.held.extend_from_slice(piece)?;
         Ok(())
+    }
+
+    /// Whether no byte is held that no frame has given.
+    pub fn is_empty(&self) -> bool
+        ensures { IsTrue result ↔ (self.now.rest ≡ []) }
+    {
+        self.held[self.start..].is_empty()
     }
 
     /// The payload of the next frame; none where no whole frame is held. A length over the limit is `BadFrame`,

@@ -9,11 +9,13 @@ mod counts;
 mod error;
 mod frame;
 mod framer;
+mod message;
 mod primitives;
 mod reader;
 mod request;
 mod response;
 mod several;
+mod startup;
 mod statistics;
 mod storage;
 mod wire;
@@ -22,10 +24,15 @@ pub use bincode::BincodeCodec;
 pub use error::DecodeError;
 pub use frame::{FrameError, append_frame, encode_frame};
 pub use framer::{Framer, any_cutting};
+pub use message::{
+    append_request, append_response, decode_request, decode_response, encode_request,
+    encode_response, messages_are_read,
+};
 pub use reader::Reader;
 pub use sc_model::{
     CacheMode, ColorMode, Compile, CompileFinished, CompileResponse, GetPathResult, Request,
     Response, StorageHandshakeInfo, Variable,
 };
 pub use several::{put2, put3, put4, put5};
+pub use startup::ServerStartup;
 pub use wire::Wire;
