@@ -1,0 +1,18 @@
+-- What an order ends as, once a reference into it has ended.
+use Rattle.std.specs.Prelude.{◌≡◌, List, ⊤}
+use Rattle.std.specs.Borrow.{Fml, RattleType, MutBor, follows_so}
+use Rattle.std.specs.HashMap.Lent.{HashMembers}
+use Rattle.std.specs.declared.hash.Hasher as hasher
+use Rattle.std.specs.declared.hash.BuildHasher as builder
+use mathlib.Core.Option.{none}
+use Rattle.sc_lru.specs.Order.{Order, with_entries}
+use Rattle.sc_lru.specs.contracts.linked.Order.{the_row}
+
+module _ (K V S H : RattleType) (key : HashMembers K.Denot) (build : builder.Ghosts S.Denot H.Denot) (hash : hasher.Ghosts H.Denot) where
+  -- the order's type, as the logic holds it
+  abbrev pub order_row : RattleType
+  order_row = the_row K V S H (record { eq = key.eq }) (record { hash_input = key.hash_input }) build hash
+
+  -- it has the pairs es at the same positions
+  abbrev pub ends_as : MutBor (Order K.Denot V.Denot S.Denot) → List (K.Denot × V.Denot) → Fml
+  ends_as o es = follows_so order_row order_row o.ghost_name none (λ _ _. ⊤) (λ n. n ≡ with_entries o.now es)

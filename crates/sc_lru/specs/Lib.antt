@@ -1,0 +1,4 @@
+pub mod Order
+pub mod LruCache
+pub mod Lends
+pub mod Linked

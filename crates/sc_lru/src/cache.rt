@@ -1,0 +1,291 @@
+//! `LruCache`. A clause sees a cache as its `entries`, the least recently used first, its `slots`, which are its keys by position,
+//! its `capacity`, its `meter`, its `hasher`, and its `spare`, the number of inserts that can't fail.
+ghost use Rattle.std.specs.Prelude.{◌≡◌, ◌+◌, ◌<◌, ◌≤◌, ◌↔◌, ◌∷◌, ◌++◌, [], None, length, drop, is_some, position, slice_get, option_copied, option_map, IfErr, IfNone, IfOk, IsOk, IsTrue, OnErr, OnOk};
+ghost use Rattle.std.specs.List.{IsDistinct};
+ghost use Rattle.std.specs.Map.{keys_of, lookup, lookup_entry, remove_entry};
+ghost use Rattle.std.specs.Map.Iter.{deref_pair};
+ghost use Rattle.sc_lru.specs.LruCache.{inserted, suffix_within, total, with_entries, HasParts, IsUnchanged, KeepsParts};
+ghost use Rattle.sc_lru.specs.Order.{touched, vacated};
+
+use crate::linked::Order;
+use crate::meter::{Count, Meter};
+use std::alloc::{AllocError, AllocFailed, Global};
+use std::hash::{BuildHasher, BuildHasherDefault, FoldHasher, Hash};
+use std::marker::Model;
+
+/// The hasher of `new` and `with_meter`. Its seed is fixed: for keys that an attacker picks, hand in a hasher with a random one.
+pub type DefaultHasher = BuildHasherDefault<FoldHasher>;
+
+/// A cache of pairs in the order of their use, whose measures sum to at most its capacity.
+///
+/// The pairs stand in a table, each linked to those used just before and just after it, so a use changes links alone.
+#[derive(Drop)]
+pub struct LruCache<K: Eq + Hash, V, S: BuildHasher = DefaultHasher, M: Meter<K, V> = Count> {
+    order: Order<K, V, S>,
+    meter: M,
+    size: u64,
+    capacity: u64,
+}
+
+impl<K: Eq + Hash, V, S: BuildHasher, M: Meter<K, V>> Model for LruCache<K, V, S, M> {
+    ghost use Rattle.std.specs.Prelude.{◌≡◌, ◌≤◌};
+    ghost use Rattle.sc_lru.specs.LruCache.{LruCache as Cache, lru_cache, lru_cache_code, total};
+    ghost use Rattle.sc_lru.specs.Order.{order_code};
+
+    ghost Value = { Cache K V S M };
+
+    ghost coded = { lru_cache_code (order_code K.code V.code S.code) M.code };
+
+    ghost view = { λ c. lru_cache c.order c.capacity c.meter };
+
+    ghost invariant = { λ c. (c.size ≡ total (M.measure c.meter) c.order.entries) × (c.size ≤ c.capacity) };
+}
+
+impl<K: Eq + Hash, V> LruCache<K, V, DefaultHasher, Count> {
+    /// An empty cache of at most `capacity` pairs, which allocates nothing until its first pair.
+    pub fn new(alloc: Global, capacity: u64) -> Self
+        ensures empty { result.entries ≡ [] }
+        ensures slots { result.slots ≡ [] }
+        ensures capacity { result.capacity ≡ capacity }
+    {
+        LruCache::with_hasher(alloc, capacity, BuildHasherDefault::new())
+    }
+}
+
+impl<K: Eq + Hash, V, M: Meter<K, V>> LruCache<K, V, DefaultHasher, M> {
+    /// An empty cache whose pairs' measures by `meter` may sum to `capacity`.
+    pub fn with_meter(alloc: Global, capacity: u64, meter: M) -> Self
+        ensures empty { result.entries ≡ [] }
+        ensures slots { result.slots ≡ [] }
+        ensures capacity { result.capacity ≡ capacity }
+        ensures meter { result.meter ≡ meter }
+    {
+        LruCache::with_meter_and_hasher(alloc, capacity, meter, BuildHasherDefault::new())
+    }
+}
+
+impl<K: Eq + Hash, V, S: BuildHasher> LruCache<K, V, S, Count> {
+    /// An empty cache of at most `capacity` pairs, which hashes by `hash_builder`.
+    pub fn with_hasher(alloc: Global, capacity: u64, hash_builder: S) -> Self
+        ensures empty { result.entries ≡ [] }
+        ensures slots { result.slots ≡ [] }
+        ensures capacity { result.capacity ≡ capacity }
+        ensures hasher { result.hasher ≡ hash_builder }
+    {
+        LruCache::with_meter_and_hasher(alloc, capacity, Count, hash_builder)
+    }
+}
+
+impl<K: Eq + Hash, V, S: BuildHasher, M: Meter<K, V>> LruCache<K, V, S, M> {
+    /// An empty cache whose pairs' measures by `meter` may sum to `capacity`, and which hashes by `hash_builder`.
+    pub fn with_meter_and_hasher(alloc: Global, capacity: u64, meter: M, hash_builder: S) -> Self
+        ensures empty { result.entries ≡ [] }
+        ensures slots { result.slots ≡ [] }
+        ensures parts { HasParts result capacity meter hash_builder }
+    {
+        LruCache {
+            order: Order::new(alloc, hash_builder),
+            meter,
+            size: 0,
+            capacity,
+        }
+    }
+
+    /// The number of pairs.
+    pub fn len(&self) -> usize
+        ensures len { result ≡ length self.now.entries }
+        ensures distinct { IsDistinct K.eq (keys_of self.now.entries) }
+    {
+        self.order.len()
+    }
+
+    /// Whether there is no pair.
+    pub fn is_empty(&self) -> bool
+        ensures { IsTrue result ↔ (self.now.entries ≡ []) }
+    {
+        self.order.len() == 0
+    }
+
+    /// The sum of the pairs' measures.
+    pub fn size(&self) -> u64
+        ensures size { result ≡ total (M.measure self.now.meter) self.now.entries }
+        ensures within { result ≤ self.now.capacity }
+    {
+        self.size
+    }
+
+    /// The most that the pairs' measures may sum to.
+    pub fn capacity(&self) -> u64
+        ensures { result ≡ self.now.capacity }
+    {
+        self.capacity
+    }
+
+    /// Whether the key has a pair. The order stays.
+    pub fn contains_key(&self, key: &K) -> bool
+        ensures { result ≡ is_some (lookup (K.eq key.now) self.now.entries) }
+    {
+        self.order.contains_key(key)
+    }
+
+    /// The key's position in the table, below the number of pairs.
+    ///
+    /// A use leaves every position. A new pair that evicts none takes the position behind all others. When a pair is removed, the one
+    /// at the last position comes to its position, and the others stay.
+    pub fn position_of(&self, key: &K) -> Option<usize>
+        ensures position { result ≡ position (K.eq key.now) self.now.slots }
+        ensures found { is_some result ≡ is_some (lookup (K.eq key.now) self.now.entries) }
+    {
+        self.order.position_of(key)
+    }
+
+    /// The least recently used pair. The order stays.
+    pub fn peek_lru(&self) -> Option<(&K, &V)>
+        ensures { option_map deref_pair result ≡ slice_get self.now.entries 0 }
+    {
+        self.order.first()
+    }
+
+    /// Makes room for `additional` pairs more, whose inserts then can't fail. The pairs stay.
+    pub fn reserve(&mut self, additional: usize) -> Result<(), AllocError>
+        ensures ok { OnOk result (additional ≤ self.new.spare) }
+        ensures succeeds { additional ≤ self.old.spare → IsOk result }
+        ensures unchanged { IsUnchanged self.old self.new }
+        ensures spare { self.old.spare ≤ self.new.spare }
+        ensures parts { KeepsParts self.old self.new }
+    {
+        self.order.reserve(additional)
+    }
+}
+
+impl<K: Eq + Hash, V, S: BuildHasher, M: Meter<K, V>> LruCache<K, V, S, M> {
+    // Takes the key's pair out.
+    fn remove_entry(&mut self, key: &K) -> Option<(K, V)>
+        ensures value { result ≡ lookup_entry (K.eq key.now) self.old.entries }
+        ensures entries { self.new.entries ≡ remove_entry (K.eq key.now) self.old.entries }
+        ensures slots { self.new.slots ≡ vacated (K.eq key.now) self.old.slots }
+        ensures absent { lookup (K.eq key.now) self.new.entries ≡ None }
+        ensures missing { IfNone result (self.new ≡ self.old) }
+        ensures spare { self.old.spare ≤ self.new.spare }
+        ensures parts { KeepsParts self.old self.new }
+    {
+        let (key, value) = self.order.remove_entry(key)?;
+        let measure = self.meter.measure(&key, &value);
+        self.size -= measure;
+        Some((key, value))
+    }
+
+    /// Takes the least recently used pair out.
+    pub fn remove_lru(&mut self) -> Option<(K, V)>
+        ensures value { result ≡ slice_get self.old.entries 0 }
+        ensures entries { self.new.entries ≡ drop 1 self.old.entries }
+        ensures missing { IfNone result (self.new ≡ self.old) }
+        ensures spare { self.old.spare ≤ self.new.spare }
+        ensures parts { KeepsParts self.old self.new }
+    {
+        let (key, value) = self.order.pop_first()?;
+        let measure = self.meter.measure(&key, &value);
+        self.size -= measure;
+        Some((key, value))
+    }
+}
+
+impl<K: Eq + Hash + Drop, V: Drop, S: BuildHasher, M: Meter<K, V>> LruCache<K, V, S, M> {
+    /// Takes the key's pair out, and answers its value.
+    pub fn remove(&mut self, key: &K) -> Option<V>
+        ensures value { result ≡ lookup (K.eq key.now) self.old.entries }
+        ensures entries { self.new.entries ≡ remove_entry (K.eq key.now) self.old.entries }
+        ensures slots { self.new.slots ≡ vacated (K.eq key.now) self.old.slots }
+        ensures absent { lookup (K.eq key.now) self.new.entries ≡ None }
+        ensures missing { IfNone result (self.new ≡ self.old) }
+        ensures spare { self.old.spare ≤ self.new.spare }
+        ensures parts { KeepsParts self.old self.new }
+    {
+        match self.remove_entry(key) {
+            Some((_, value)) => Some(value),
+            None => None,
+        }
+    }
+
+    /// Takes all pairs out.
+    pub fn clear(&mut self)
+        ensures empty { self.new.entries ≡ [] }
+        ensures spare { self.old.spare ≤ self.new.spare }
+        ensures parts { KeepsParts self.old self.new }
+    {
+        self.order.clear();
+        self.size = 0;
+    }
+
+    // Takes the least recently used pairs out until the others measure at most `limit`.
+    fn evict_to(&mut self, limit: u64)
+        ensures entries { self.new.entries ≡ suffix_within (M.measure self.old.meter) limit self.old.entries }
+        ensures within { total (M.measure self.old.meter) self.new.entries ≤ limit }
+        ensures fits { total (M.measure self.old.meter) self.old.entries ≤ limit → self.new ≡ self.old }
+        ensures spare { self.old.spare ≤ self.new.spare }
+        ensures parts { KeepsParts self.old self.new }
+    {
+        while self.size() > limit {
+            self.remove_lru();
+        }
+    }
+
+    // Puts a new pair last.
+    fn push_last(&mut self, measure: u64, key: K, value: V)
+        requires measured { measure ≡ M.measure self.old.meter key value }
+        requires absent { lookup (K.eq key) self.old.entries ≡ None }
+        requires room { 0 < self.old.spare }
+        requires fits { total (M.measure self.old.meter) self.old.entries + measure ≤ self.old.capacity }
+        ensures entries { self.new.entries ≡ self.old.entries ++ (key, value) ∷ [] }
+        ensures slots { self.new.slots ≡ self.old.slots ++ key ∷ [] }
+        ensures spare { self.old.spare ≤ self.new.spare + 1 }
+        ensures parts { KeepsParts self.old self.new }
+    {
+        let _fits = self.capacity;
+        self.order.push_last(key, value);
+        self.size += measure;
+    }
+
+    /// Puts a pair last in place of the key's old pair, whose value it answers, and takes the least recently used pairs out until
+    /// the others measure at most the capacity. A pair that measures more by itself goes with all others.
+    ///
+    /// For want of memory the pair comes back, and no pair changes. A call can't fail while `spare` is positive.
+    pub fn insert(&mut self, key: K, value: V) -> Result<Option<V>, AllocFailed<(K, V)>>
+        ensures old { IfOk result (λ old. old ≡ lookup (K.eq key) self.old.entries) }
+        ensures entries { OnOk result (self.new.entries ≡ inserted (M.measure self.old.meter) (K.eq key) self.old.capacity self.old.entries key value) }
+
+        // A new pair that evicts none takes the position behind all others.
+        ensures slots { OnOk result (lookup (K.eq key) self.old.entries ≡ None → total (M.measure self.old.meter) self.old.entries + M.measure self.old.meter key value ≤ self.old.capacity → self.new.slots ≡ self.old.slots ++ key ∷ []) }
+        ensures value_returned { IfErr result (λ refused. refused.value ≡ (key, value)) }
+        ensures err { OnErr result (IsUnchanged self.old self.new) }
+        ensures succeeds { 0 < self.old.spare → IsOk result }
+        ensures spare { self.old.spare ≤ self.new.spare + 1 }
+        ensures parts { KeepsParts self.old self.new }
+    {
+        if self.reserve(1).is_err() {
+            return Err(AllocFailed {
+                value: (key, value),
+            });
+        }
+        let measure = self.meter.measure(&key, &value);
+        let old = self.remove(&key);
+        let capacity = self.capacity();
+        if measure > capacity {
+            self.clear();
+            return Ok(old);
+        }
+        self.evict_to(capacity - measure);
+        self.push_last(measure, key, value);
+        Ok(old)
+    }
+
+    /// Changes the capacity, and takes the least recently used pairs out until the others measure at most it.
+    pub fn set_capacity(&mut self, capacity: u64)
+        ensures entries { self.new.entries ≡ suffix_within (M.measure self.old.meter) capacity self.old.entries }
+        ensures spare { self.old.spare ≤ self.new.spare }
+        ensures parts { HasParts self.new capacity self.old.meter self.old.hasher }
+    {
+        self.evict_to(capacity);
+        self.capacity = capacity;
+    }
+}

@@ -1,0 +1,11 @@
+//! A list of pairs in the order of their use, with a measured capacity.
+#![tactic(auto)]
+
+mod cache;
+mod linked;
+mod links;
+mod meter;
+mod node;
+
+pub use cache::{DefaultHasher, LruCache};
+pub use meter::{Count, Meter};

@@ -1,0 +1,205 @@
+//! An order of use whose pairs are linked by their positions: a use changes links alone.
+ghost use Rattle.std.specs.Prelude.{◌≡◌, ◌+◌, ◌<◌, ◌≤◌, [], ◌∷◌, ◌++◌, None, length, drop, is_some, position, slice_get, option_copied, IfNone, OnOk, IsOk};
+ghost use Rattle.std.specs.List.{IsDistinct};
+ghost use Rattle.std.specs.Map.{keys_of, lookup, lookup_entry, remove_entry};
+ghost use Rattle.std.specs.Option.{option_map};
+ghost use Rattle.std.specs.Map.Iter.{deref_pair};
+ghost use Rattle.sc_lru.specs.Order.{touched, vacated, with_entries, KeepsRoom};
+
+use crate::links::{link, move_last, take};
+use crate::node::Node;
+use indexmap::IndexMap;
+use std::alloc::{AllocError, Global};
+use std::hash::{BuildHasher, Hash};
+use std::marker::Model;
+
+/// Pairs in the order of their use, the least recently used first.
+#[derive(Drop)]
+pub(crate) struct Order<K: Eq + Hash, V, S: BuildHasher> {
+    map: IndexMap<K, Node<V>, S>,
+    first: usize,
+    last: usize,
+}
+
+impl<K: Eq + Hash, V, S: BuildHasher> Model for Order<K, V, S> {
+    ghost use Rattle.std.specs.Map.{keys_of};
+    ghost use Rattle.indexmap.specs.IndexMap.{hasher_of, spare};
+    ghost use Rattle.sc_lru.specs.Order.{Order as Pairs, order, order_code};
+    ghost use Rattle.sc_lru.specs.Linked.{pairs_of, IsLinked};
+
+    ghost Value = { Pairs K V S };
+
+    ghost coded = { order_code K.code V.code S.code };
+
+    ghost view = { λ o. order (pairs_of o.map.entries o.first) (keys_of o.map.entries) (hasher_of o.map) (spare o.map) };
+
+    ghost invariant = { λ o. IsLinked K.eq o.map.entries o.first o.last };
+}
+
+impl<K: Eq + Hash, V, S: BuildHasher> Order<K, V, S> {
+    /// An empty order, which allocates nothing until its first pair.
+    pub fn new(alloc: Global, hash_builder: S) -> Self
+        ensures empty { result.entries ≡ [] }
+        ensures slots { result.slots ≡ [] }
+        ensures hasher { result.hasher ≡ hash_builder }
+    {
+        let map = IndexMap::with_hasher(alloc, hash_builder);
+        Order {
+            map,
+            first: 0,
+            last: 0,
+        }
+    }
+
+    /// The number of pairs.
+    pub fn len(&self) -> usize
+        ensures len { result ≡ length self.now.entries }
+        ensures distinct { IsDistinct K.eq (keys_of self.now.entries) }
+    {
+        let _ = &self.first;
+        self.map.len()
+    }
+
+    /// Whether the key has a pair.
+    pub fn contains_key(&self, key: &K) -> bool
+        ensures { result ≡ is_some (lookup (K.eq key.now) self.now.entries) }
+    {
+        self.map.contains_key(key)
+    }
+
+    /// The key's position in the table.
+    pub fn position_of(&self, key: &K) -> Option<usize>
+        ensures position { result ≡ position (K.eq key.now) self.now.slots }
+        ensures found { is_some result ≡ is_some (lookup (K.eq key.now) self.now.entries) }
+    {
+        self.map.get_index_of(key)
+    }
+
+    /// Makes the key's pair the last, and says whether there is one.
+    pub fn touch(&mut self, key: &K) -> bool
+        ensures found { result ≡ is_some (lookup (K.eq key.now) self.old.entries) }
+        ensures order { self.new ≡ with_entries self.old (touched (K.eq key.now) self.old.entries) }
+    {
+        let Some(at) = self.map.get_index_of(key) else {
+            return false;
+        };
+        self.first = move_last(&mut self.map, self.first, self.last, at);
+        self.last = at;
+        true
+    }
+
+    /// Takes the key's pair out. The pair at the last position comes to its position.
+    pub fn remove_entry(&mut self, key: &K) -> Option<(K, V)>
+        ensures value { result ≡ lookup_entry (K.eq key.now) self.old.entries }
+        ensures entries { self.new.entries ≡ remove_entry (K.eq key.now) self.old.entries }
+        ensures slots { self.new.slots ≡ vacated (K.eq key.now) self.old.slots }
+        ensures absent { lookup (K.eq key.now) self.new.entries ≡ None }
+        ensures missing { IfNone result (self.new ≡ self.old) }
+        ensures room { KeepsRoom self.old self.new }
+    {
+        let Some(at) = self.map.get_index_of(key) else {
+            return None;
+        };
+        let (first, last, key, value) = take(&mut self.map, self.first, self.last, at);
+        self.first = first;
+        self.last = last;
+        Some((key, value))
+    }
+
+    /// Takes the first pair out.
+    pub fn pop_first(&mut self) -> Option<(K, V)>
+        ensures value { result ≡ slice_get self.old.entries 0 }
+        ensures entries { self.new.entries ≡ drop 1 self.old.entries }
+        ensures missing { IfNone result (self.new ≡ self.old) }
+        ensures room { KeepsRoom self.old self.new }
+    {
+        let at = self.first;
+        if self.map.len() == 0 {
+            return None;
+        }
+        let (first, last, key, value) = take(&mut self.map, at, self.last, at);
+        self.first = first;
+        self.last = last;
+        Some((key, value))
+    }
+
+    /// The first pair. The order stays.
+    pub fn first(&self) -> Option<(&K, &V)>
+        ensures { option_map deref_pair result ≡ slice_get self.now.entries 0 }
+    {
+        let at = self.first;
+        match self.map.get_index(at) {
+            Some((key, node)) => Some((key, &node.value)),
+            None => None,
+        }
+    }
+
+    /// Makes room for more pairs.
+    pub fn reserve(&mut self, additional: usize) -> Result<(), AllocError>
+        ensures entries { self.new.entries ≡ self.old.entries }
+        ensures slots { self.new.slots ≡ self.old.slots }
+        ensures ok { OnOk result (additional ≤ self.new.spare) }
+        ensures succeeds { additional ≤ self.old.spare → IsOk result }
+        ensures room { KeepsRoom self.old self.new }
+    {
+        self.map.reserve(additional)
+    }
+
+    /// Takes all pairs out.
+    pub fn clear(&mut self)
+    where
+        K: Drop,
+        V: Drop,
+        ensures empty { self.new.entries ≡ [] }
+        ensures room { KeepsRoom self.old self.new }
+    {
+        self.map.clear();
+        self.first = 0;
+        self.last = 0;
+    }
+}
+
+impl<K: Eq + Hash + Drop, V: Drop, S: BuildHasher> Order<K, V, S> {
+    /// Puts a new pair last, at the position behind all others.
+    pub fn push_last(&mut self, key: K, value: V)
+        requires absent { lookup (K.eq key) self.old.entries ≡ None }
+        requires room { 0 < self.old.spare }
+        ensures entries { self.new.entries ≡ self.old.entries ++ (key, value) ∷ [] }
+        ensures slots { self.new.slots ≡ self.old.slots ++ key ∷ [] }
+        ensures spare { self.old.spare ≤ self.new.spare + 1 }
+        ensures hasher { self.new.hasher ≡ self.old.hasher }
+    {
+        let at = self.map.len();
+        let node = Node {
+            before: 0,
+            after: 0,
+            value,
+        };
+        self.map.insert(key, node).unwrap();
+        if at == 0 {
+            self.first = 0;
+            self.last = 0;
+            return;
+        }
+        link(&mut self.map, self.last, at);
+        self.last = at;
+    }
+}
+
+impl<K: Eq + Hash, V, S: BuildHasher> Order<K, V, S> {
+    ghost use Rattle.std.specs.Borrow.{sem};
+    ghost use Rattle.sc_lru.specs.Lends.{ends_as};
+
+    /// The key's value. Its pair becomes the last.
+    pub fn get(&mut self, key: &K) -> Option<&V>
+        ensures* touches { sem 𝓛 (ends_as K.row V.row S.row S.Hasher.row K.Hash S.BuildHasher S.Hasher.Hasher self.entry (touched (K.eq key.now) self.old.entries)) }
+        ensures value { option_copied result ≡ lookup (K.eq key.now) self.old.entries }
+    {
+        let Some(at) = self.map.get_index_of(key) else {
+            return None;
+        };
+        self.first = move_last(&mut self.map, self.first, self.last, at);
+        self.last = at;
+        Some(&self.map[at].value)
+    }
+}
