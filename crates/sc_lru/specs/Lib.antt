@@ -2,3 +2,4 @@ pub mod Order
 pub mod LruCache
 pub mod Lends
 pub mod Linked
+pub mod CacheLends

@@ -146,6 +146,17 @@ impl<K: Eq + Hash, V, S: BuildHasher, M: Meter<K, V>> LruCache<K, V, S, M> {
         self.order.first()
     }
 
+    ghost use Rattle.std.specs.Borrow.{sem};
+    ghost use Rattle.sc_lru.specs.CacheLends.{ends_as};
+
+    /// The key's value. Its pair becomes the most recently used, at the same position.
+    pub fn get(&mut self, key: &K) -> Option<&V>
+        ensures* touches { sem 𝓛 (ends_as K.row V.row S.row M.row S.Hasher.row K.Hash S.BuildHasher S.Hasher.Hasher M.Meter self.entry (touched (K.eq key.now) self.old.entries)) }
+        ensures value { option_copied result ≡ lookup (K.eq key.now) self.old.entries }
+    {
+        self.order.get(key)
+    }
+
     /// Makes room for `additional` pairs more, whose inserts then can't fail. The pairs stay.
     pub fn reserve(&mut self, additional: usize) -> Result<(), AllocError>
         ensures ok { OnOk result (additional ≤ self.new.spare) }
