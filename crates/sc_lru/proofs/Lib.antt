@@ -5,3 +5,4 @@ pub mod Orders
 pub mod Pairs
 pub mod Steps
 pub mod Walks
+pub mod Windows

@@ -3,10 +3,11 @@
 ghost use Rattle.std.specs.Prelude.{◌≡◌, ◌+◌, ◌<◌, ◌≤◌, ◌↔◌, ◌∷◌, ◌++◌, [], None, length, drop, is_some, position, slice_get, option_copied, option_map, IfErr, IfNone, IfOk, IsOk, IsTrue, OnErr, OnOk};
 ghost use Rattle.std.specs.List.{IsDistinct};
 ghost use Rattle.std.specs.Map.{keys_of, lookup, lookup_entry, remove_entry};
-ghost use Rattle.std.specs.Map.Iter.{deref_pair};
+ghost use Rattle.std.specs.Map.Iter.{deref_pair, ShowsInOrder, ShowsInReverse};
 ghost use Rattle.sc_lru.specs.LruCache.{inserted, suffix_within, total, with_entries, HasParts, IsUnchanged, KeepsParts};
 ghost use Rattle.sc_lru.specs.Order.{touched, vacated};
 
+use crate::iter::Iter;
 use crate::linked::Order;
 use crate::meter::{Count, Meter};
 use std::alloc::{AllocError, AllocFailed, Global};
@@ -137,6 +138,15 @@ impl<K: Eq + Hash, V, S: BuildHasher, M: Meter<K, V>> LruCache<K, V, S, M> {
         ensures found { is_some result ≡ is_some (lookup (K.eq key.now) self.now.entries) }
     {
         self.order.position_of(key)
+    }
+
+    /// The pairs, the least recently used first.
+    pub fn iter(&self) -> Iter<'_, K, V, S>
+        ensures rest { result ≡ self.now.entries }
+        ensures runs { ShowsInOrder (deref_pair {K = K} {X = V}) }
+        ensures runs_back { ShowsInReverse (deref_pair {K = K} {X = V}) }
+    {
+        self.order.iter()
     }
 
     /// The least recently used pair. The order stays.

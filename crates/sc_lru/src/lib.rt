@@ -2,10 +2,12 @@
 #![tactic(auto)]
 
 mod cache;
+mod iter;
 mod linked;
 mod links;
 mod meter;
 mod node;
 
 pub use cache::{DefaultHasher, LruCache};
+pub use iter::Iter;
 pub use meter::{Count, Meter};

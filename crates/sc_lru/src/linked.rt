@@ -6,6 +6,7 @@ ghost use Rattle.std.specs.Option.{option_map};
 ghost use Rattle.std.specs.Map.Iter.{deref_pair};
 ghost use Rattle.sc_lru.specs.Order.{touched, vacated, with_entries, KeepsRoom};
 
+use crate::iter::Iter;
 use crate::links::{link, move_last, take};
 use crate::node::Node;
 use indexmap::IndexMap;
@@ -73,6 +74,14 @@ impl<K: Eq + Hash, V, S: BuildHasher> Order<K, V, S> {
         ensures found { is_some result ≡ is_some (lookup (K.eq key.now) self.now.entries) }
     {
         self.map.get_index_of(key)
+    }
+
+    /// The pairs in their order.
+    pub fn iter(&self) -> Iter<'_, K, V, S>
+        ensures { result ≡ self.now.entries }
+    {
+        let left = self.map.len();
+        Iter::new(&self.map, self.first, self.last, left)
     }
 
     /// Makes the key's pair the last, and says whether there is one.
