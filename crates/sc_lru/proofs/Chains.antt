@@ -11,7 +11,7 @@ use Rattle.std.proofs.lemmas.List.{length-take}
 use Rattle.indexmap.specs.IndexMap.{set_value_at}
 use Rattle.sc_lru.specs.declared.node.Node.{Node}
 use Rattle.sc_lru.specs.Linked.{item, node, Walk, Avoids, AllApart, AllBelow, end_redirected, after_at, before_at, change, with_after, with_before, pair_at, IsChain, after_redirected, before_redirected, skipped, first_skipped, last_skipped, mended}
-use Rattle.sc_lru.proofs.Walks.{reverse-cut, reverse-twice, below-left, below-at, below-reverse, below-skip, below-join, below-right, below-less, apart-before, apart-behind, apart-skip, apart-put, apart-reverse, avoids-left, avoids-right, avoids-append, avoids-reverse, Agrees, walk-agrees, agrees_but, agrees-below, walk_push, walk_tail, EndsAt, next_ends, Redirects, redirect_bound, skip_walk, rename_walk}
+use Rattle.sc_lru.proofs.Walks.{reverse-cut, reverse-twice, below-left, below-at, below-reverse, below-skip, below-join, below-right, below-less, apart-before, apart-behind, apart-skip, apart-put, apart-reverse, avoids-left, avoids-right, avoids-append, avoids-reverse, Agrees, walk-agrees, agrees_all, agrees_but, agrees-below, walk_push, walk_tail, EndsAt, next_ends, Redirects, redirect_bound, skip_walk, rename_walk}
 
 branch_same : {A : Type 0} (a b : ℕ) (x y : A) → a ≡ b → (if nat_eq a b then x else y) ≡ x
 branch_same a b x y e = ap (λ t. if t then x else y) (eq-eqb a b e)
@@ -82,6 +82,44 @@ module _ {K V : Type 0} where
   before-steady (e ∷ es) zero w (suc j) = refl
   before-steady (e ∷ es) (suc i) w zero = refl
   before-steady (e ∷ es) (suc i) w (suc j) = before-steady es i w j
+
+  pub after-change : (es : List (K × Node V)) (i : ℕ) (f : Node V → Node V) → ((n : Node V) → (f n).after ≡ n.after) → (j : ℕ) → after_at (change es i f) j ≡ after_at es j
+  after-change [] i f h j = refl
+  after-change (e ∷ es) zero f h zero = h e.1
+  after-change (e ∷ es) zero f h (suc j) = refl
+  after-change (e ∷ es) (suc i) f h zero = refl
+  after-change (e ∷ es) (suc i) f h (suc j) = after-change es i f h j
+
+  pub before-change : (es : List (K × Node V)) (i : ℕ) (f : Node V → Node V) → ((n : Node V) → (f n).before ≡ n.before) → (j : ℕ) → before_at (change es i f) j ≡ before_at es j
+  before-change [] i f h j = refl
+  before-change (e ∷ es) zero f h zero = h e.1
+  before-change (e ∷ es) zero f h (suc j) = refl
+  before-change (e ∷ es) (suc i) f h zero = refl
+  before-change (e ∷ es) (suc i) f h (suc j) = before-change es i f h j
+
+  pub item-change : (es : List (K × Node V)) (i : ℕ) (f : Node V → Node V) (e : K × Node V) → item es i ≡ Some e → item (change es i f) i ≡ Some (e.0, f e.1)
+  item-change [] i f e h = cc
+  item-change (d ∷ es) zero f e h = let same : d ≡ e = by_some d e h in ap (λ q. Some (q.0, f q.1)) same
+    where
+      by_some : (d e : K × Node V) → Some d ≡ Some e → d ≡ e
+      by_some d e h = cc
+  item-change (d ∷ es) (suc i) f e h = item-change es i f e h
+
+  pub pair-other : (es : List (K × Node V)) (i : ℕ) (f : Node V → Node V) (j : ℕ) → (j ≡ i → ⊥) → pair_at (change es i f) j ≡ pair_at es j
+  pair-other [] i f j d = refl
+  pair-other (e ∷ es) zero f zero d = absurd (d refl)
+  pair-other (e ∷ es) zero f (suc j) d = refl
+  pair-other (e ∷ es) (suc i) f zero d = refl
+  pair-other (e ∷ es) (suc i) f (suc j) d = pair-other es i f j (λ q. d (ap suc q))
+
+  -- the chain stays, where no link changes
+  pub chain-change : (es : List (K × Node V)) (i : ℕ) (f : Node V → Node V) → ((n : Node V) → (f n).after ≡ n.after) → ((n : Node V) → (f n).before ≡ n.before) → (first last : ℕ) (ps : List ℕ) → IsChain es first last ps → IsChain (change es i f) first last ps
+  chain-change es i f a b first last ps c = record {
+    below = subst (λ n. AllBelow n ps) (sym (length-change es i f)) c.below;
+    apart = c.apart;
+    forward = walk-agrees (after_at es) (after_at (change es i f)) first ps c.forward (agrees_all (after_at es) (after_at (change es i f)) ps (after-change es i f a));
+    backward = walk-agrees (before_at es) (before_at (change es i f)) last (reverse ps) c.backward (agrees_all (before_at es) (before_at (change es i f)) (reverse ps) (before-change es i f b));
+  }
 
   -- ---- a redirection
   module _ (es : List (K × Node V)) (end at q to : ℕ) where

@@ -1,6 +1,6 @@
 -- A list of pairs, cut at the one whose key passes a test.
 use Rattle.std.proofs.Common.{◌≡◌, ℕ, zero, suc, ◌+◌, ◌-◌, ◌<◌, ◌≤◌, Bool, true, false, cond, List, [], ◌∷◌, ◌++◌, length, take, drop, remove, slice_get, position, is_some, option_map, Option, Some, None, refl, sym, ap, ◌∙◌, subst, arith, length-append}
-use Rattle.std.specs.Map.{keys_of, lookup, lookup_entry, lookup_key, remove_entry}
+use Rattle.std.specs.Map.{keys_of, lookup, lookup_entry, lookup_key, remove_entry, set_value}
 use Rattle.std.specs.Option.{option_map_or}
 use Rattle.std.specs.List.{position_or_len}
 use Rattle.indexmap.proofs.MapLemmas.{Found-position}
@@ -55,6 +55,10 @@ module _ {K V : Type 0} (test : K → Bool) where
   hit_removed : (xs : List (K × V)) (e : K × V) (ys : List (K × V)) → NonePasses xs → test e.0 ≡ true → remove_entry test (xs ++ e ∷ ys) ≡ xs ++ ys
   hit_removed [] e ys h p = rw p
   hit_removed (x ∷ xs) e ys h p = rw h.0 (ap (λ l. x ∷ l) (hit_removed xs e ys h.1 p))
+
+  pub hit_set : (xs : List (K × V)) (e : K × V) (ys : List (K × V)) (w : V) → NonePasses xs → test e.0 ≡ true → set_value test (xs ++ e ∷ ys) w ≡ xs ++ (e.0, w) ∷ ys
+  hit_set [] e ys w h p = rw p
+  hit_set (x ∷ xs) e ys w h p = rw h.0 (ap (λ l. x ∷ l) (hit_set xs e ys w h.1 p))
 
   pub hit : (es xs : List (K × V)) (e : K × V) (ys : List (K × V)) → IsCut es xs e ys → Hit es xs e ys
   hit es xs e ys c =

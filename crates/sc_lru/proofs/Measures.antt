@@ -2,7 +2,7 @@
 use Rattle.std.proofs.Common.{◌≡◌, ℕ, zero, suc, ◌+◌, ◌-◌, ◌<◌, ◌≤◌, Bool, true, false, cond, nat_le, List, [], ◌∷◌, ◌++◌, length, drop, slice_get, Option, Some, None, refl, sym, ap, ◌∙◌, subst, arith, inl, inr, ◌⊎◌, if◌then◌else◌}
 use Rattle.std.proofs.lemmas.Bool.{le-leb, lt-leb}
 use Rattle.std.proofs.lemmas.List.Sums.{sum_by-cons, sum_by_push}
-use Rattle.std.specs.Map.{lookup, lookup_entry, remove_entry}
+use Rattle.std.specs.Map.{lookup, lookup_entry, remove_entry, set_value}
 use Rattle.std.specs.List.{sum_by}
 use Rattle.sc_lru.specs.LruCache.{total, suffix_within, inserted}
 use native.Mathlib.Decide.{dec_lt}
@@ -87,3 +87,11 @@ module _ {K V : Type 0} (measure : K → V → ℕ) where
 
   pub inserted_fits : (test : K → Bool) (n : ℕ) (es : List (K × V)) (k : K) (v : V) → measure k v ≤ n → inserted measure test n es k v ≡ suffix_within measure (n - measure k v) (remove_entry test es) ++ (k, v) ∷ []
   inserted_fits test n es k v h = suffix_within-push n (remove_entry test es) (k, v) h
+
+  -- a value written leaves the sum, where no value counts
+  pub total-set_value : ((k : K) (v w : V) → measure k v ≡ measure k w) → (test : K → Bool) (es : List (K × V)) (w : V) → total measure (set_value test es w) ≡ total measure es
+  total-set_value same test [] w = refl
+  total-set_value same test (e ∷ es) w = elim (test e.0) as (λ y. total measure (cond y ((e.0, w) ∷ es) (e ∷ set_value test es w)) ≡ total measure (e ∷ es)) [
+    | true ↦ let m = same e.0 w e.1 in omega (arith, m, total-cons (e.0, w) es, total-cons e es)
+    | false ↦ let on = total-set_value same test es w in omega (arith, on, total-cons e es, total-cons e (set_value test es w))
+  ]

@@ -4,16 +4,16 @@ use Rattle.std.proofs.lemmas.Bool.Decides.{eqb_tells}
 use Rattle.std.specs.Option.{option_map_or}
 use Rattle.std.specs.Cmp.{IsEquivalence}
 use Rattle.std.specs.List.{IsDistinct}
-use Rattle.std.specs.Map.{keys_of, values_of, lookup, lookup_entry, remove_entry, IsKeyTest}
+use Rattle.std.specs.Map.{keys_of, values_of, lookup, lookup_entry, remove_entry, set_value, IsKeyTest}
 use Rattle.std.proofs.lemmas.Map.{NonePasses as Passes}
 use Rattle.std.proofs.lemmas.Map.Entries.{none_past_head}
 use Rattle.indexmap.proofs.MapLemmas.{some_index, Found-position}
 use Rattle.sc_lru.specs.declared.node.Node.{Node}
 use Rattle.sc_lru.specs.Order.{touched, vacated}
-use Rattle.sc_lru.specs.Linked.{item, node, chase, Walk, Avoids, AllBelow, In, after_at, before_at, with_after, with_before, pair_at, pairs_at, places, pairs_of, IsChain, IsWhole, IsSame, HasChain, MovesLast, TakesOut, IsChained, IsPlaced, IsLinked}
-use Rattle.sc_lru.proofs.Cut.{IsCut, hit, NonePasses, cut_position, none_from_is_some, missed}
-use Rattle.sc_lru.proofs.Walks.{chase-walk, in_cut, in-put, in-at, below-at, walk_tail, ends, avoids_above, reverse-cut}
-use Rattle.sc_lru.proofs.Chains.{same_chain, one_chain, link_chain, length-change, pair-change, keys-change}
+use Rattle.sc_lru.specs.Linked.{item, node, chase, Walk, Avoids, AllBelow, In, after_at, before_at, with_after, with_before, with_value, pair_at, pairs_at, places, pairs_of, IsChain, IsWhole, IsSame, HasChain, MovesLast, TakesOut, IsChained, IsPlaced, IsLinked}
+use Rattle.sc_lru.proofs.Cut.{hit_set, IsCut, hit, NonePasses, cut_position, none_from_is_some, missed}
+use Rattle.sc_lru.proofs.Walks.{below-left, below-right, apart-before, apart-behind, chase-walk, in_cut, in-put, in-at, below-at, walk_tail, ends, avoids_above, reverse-cut}
+use Rattle.sc_lru.proofs.Chains.{chain-change, item-change, pair-other, same_chain, one_chain, link_chain, length-change, pair-change, keys-change}
 use Rattle.sc_lru.proofs.Pairs.{pairs-append, pairs-same, pairs-below, pairs-cut, cut_pairs, none_anywhere, item_cut, item_within, length-pairs, distinct_pairs}
 
 module _ {K V : Type 0} where
@@ -80,6 +80,19 @@ module _ {K V : Type 0} where
 
   pub last_within : (eq : K → K → Bool) (es : List (K × Node V)) (first last : ℕ) → IsLinked eq es first last → 0 < length es → last < length es
   last_within eq es first last i l = let r = some_end eq es first last i l in last_of es first last r.0 r.1 (subst (IsChain es first last) r.2 i.chain)
+
+  -- the last pair taken out
+  pub popped_last : (eq : K → K → Bool) (es fs : List (K × Node V)) (first last f1 l1 : ℕ) (e : K × V) (i : IsLinked eq es first last) → 0 < length es → pair_at es last ≡ Some e → TakesOut es first last last fs f1 l1 → IsDistinct eq (keys_of fs)
+      → IsLinked eq fs f1 l1 × (pairs_of es first ≡ pairs_of fs f1 ++ e ∷ [])
+  popped_last eq es fs first last f1 l1 e i l at t d =
+      let r = some_end eq es first last i l in let zs = r.0 in let b = r.1 in
+      let c1 = subst (IsChain es first last) r.2 i.chain in
+      let back = subst (Walk (before_at es) last) (reverse-cut zs b []) c1.backward in
+      let cut : places es first ≡ zs ++ last ∷ [] = r.2 ∙ ap (λ q. zs ++ q ∷ []) (sym back.0) in
+      let h = t zs [] (subst (IsChain es first last) cut i.chain) (subst (IsWhole es) cut i.whole) in (
+        linked_from eq fs f1 l1 h.ps d h.chain h.whole,
+        ap (pairs_at es) cut ∙ pairs-cut es zs last [] e at ∙ ap (λ q. q ++ e ∷ []) (ap (pairs_at es) (sym (append-nil zs)) ∙ sym (pairs_are fs f1 l1 h.ps h.chain h.whole ∙ h.pairs)),
+      )
 
   item-push : (es : List (K × Node V)) (x : K × Node V) (j : ℕ) → j < length es → item (es ++ x ∷ []) j ≡ item es j
   item-push [] x j h = absurd (omega arith)
@@ -177,6 +190,27 @@ module _ {K V : Type 0} where
             linked_from eq fs f1 l1 k.ps d k.chain k.whole,
             pairs_are fs f1 l1 k.ps k.chain k.whole ∙ k.pairs ∙ pairs-append es xs ys ∙ sym hits.removed,
             sym at_p ∙ ap (option_map (λ f. (f.0, f.1.value))) c.1 ∙ sym hits.entry,
+          )
+
+      -- the pairs, with a value written at the position
+      pub valued_linked : (w : V) → IsLinked eq (with_value es at w) first last × (pairs_of (with_value es at w) first ≡ set_value test (pairs_of es first) w)
+      valued_linked w =
+          let put : Node V → Node V = λ n. node n.before n.after w in
+          let gs = with_value es at w in
+          let h = here in let xs = h.0 in let ys = h.1 in let ps = xs ++ at ∷ ys in let c = cut_here in let e = c.0 in
+          let ch = chain_here in let wh = whole_here in
+          let long = length-change es at put in
+          let chain : IsChain gs first last ps = chain-change es at put (λ n. refl) (λ n. refl) first last ps ch in
+          let whole : IsWhole gs ps = record { long = wh.long ∙ sym long; covers = λ j l. wh.covers j (omega (arith, long, l)) } in
+          let d = subst (IsDistinct eq) (sym (keys-change es at put)) i.distinct in
+          let stays : (qs : List ℕ) → AllBelow (length es) qs → Avoids at qs → pairs_at gs qs ≡ pairs_at es qs = λ qs b a. pairs-below es gs (length es) at qs (λ j l n. pair-other es at put j n) b a in
+          let before = stays xs (below-left (length es) xs (at ∷ ys) ch.below) (apart-before xs at ys ch.apart) in
+          let behind = stays ys (below-right (length es) (xs ++ at ∷ []) ys (subst (AllBelow (length es)) (sym (append_assoc xs (at ∷ []) ys)) ch.below)) (apart-behind xs at ys ch.apart) in
+          let there : pair_at gs at ≡ Some (e.0, w) = ap (option_map {U = K × V} (λ f. (f.0, f.1.value))) (item-change es at put e c.1) in
+          let k = c.2 in
+          let to : set_value test (pairs_of es first) w ≡ pairs_at es xs ++ (e.0, w) ∷ pairs_at es ys = ap (λ l. set_value test l w) k.parts ∙ hit_set test (pairs_at es xs) (e.0, e.1.value) (pairs_at es ys) w k.none k.passes in (
+            linked_from eq gs first last ps d chain whole,
+            pairs_are gs first last ps chain whole ∙ pairs-cut gs xs at ys (e.0, w) there ∙ (λ j. before j ++ (e.0, w) ∷ behind j) ∙ sym to,
           )
 
       pub found_value : lookup test (pairs_of es first) ≡ option_map (λ e. e.1.value) (item es at)

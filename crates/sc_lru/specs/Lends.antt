@@ -1,7 +1,8 @@
 -- What an order ends as, once a reference into it has ended.
-use Rattle.std.specs.Prelude.{◌≡◌, List, ⊤}
-use Rattle.std.specs.Borrow.{Fml, RattleType, MutBor, follows_so}
+use Rattle.std.specs.Prelude.{◌≡◌, Bool, List, Option, ⊤}
+use Rattle.std.specs.Borrow.{Fml, RattleType, MutBor, LendsIf, follows_so}
 use Rattle.std.specs.HashMap.Lent.{HashMembers}
+use Rattle.std.specs.Map.{set_value}
 use Rattle.std.specs.declared.hash.Hasher as hasher
 use Rattle.std.specs.declared.hash.BuildHasher as builder
 use mathlib.Core.Option.{none}
@@ -13,6 +14,11 @@ module _ (K V S H : RattleType) (key : HashMembers K.Denot) (build : builder.Gho
   abbrev pub order_row : RattleType
   order_row = the_row K V S H (record { eq = key.eq }) (record { hash_input = key.hash_input }) build hash
 
-  -- it has the pairs es at the same positions
-  abbrev pub ends_as : MutBor (Order K.Denot V.Denot S.Denot) → List (K.Denot × V.Denot) → Fml
-  ends_as o es = follows_so order_row order_row o.ghost_name none (λ _ _. ⊤) (λ n. n ≡ with_entries o.now es)
+  module _ (o : MutBor (Order K.Denot V.Denot S.Denot)) where
+    -- it has the pairs es at the same positions
+    abbrev pub ends_as : List (K.Denot × V.Denot) → Fml
+    ends_as es = follows_so order_row order_row o.ghost_name none (λ _ _. ⊤) (λ n. n ≡ with_entries o.now es)
+
+    -- it has the pairs es, with the last value written through r at the key that passes, and at `None` it stays as it is
+    abbrev pub lends_value : (K.Denot → Bool) → List (K.Denot × V.Denot) → Option (MutBor V.Denot) → Fml
+    lends_value test es r = LendsIf order_row V o r (λ w. with_entries o.now (set_value test es w)) o.now

@@ -3,3 +3,4 @@ pub mod LruCache
 pub mod Lends
 pub mod Linked
 pub mod CacheLends
+pub mod NodeLends

@@ -3,6 +3,7 @@
 ghost use Rattle.std.specs.Prelude.{◌≡◌, ◌+◌, ◌<◌, ◌≤◌, ◌↔◌, ◌∷◌, ◌++◌, [], None, length, drop, is_some, position, slice_get, option_copied, option_map, IfErr, IfNone, IfOk, IsOk, IsTrue, OnErr, OnOk};
 ghost use Rattle.std.specs.List.{IsDistinct};
 ghost use Rattle.std.specs.Map.{keys_of, lookup, lookup_entry, remove_entry};
+ghost use Rattle.std.specs.Option.{option_copied_mut};
 ghost use Rattle.std.specs.Map.Iter.{deref_pair, ShowsInOrder, ShowsInReverse};
 ghost use Rattle.sc_lru.specs.LruCache.{inserted, suffix_within, total, with_entries, HasParts, IsUnchanged, KeepsParts};
 ghost use Rattle.sc_lru.specs.Order.{touched, vacated};
@@ -167,6 +168,21 @@ impl<K: Eq + Hash, V, S: BuildHasher, M: Meter<K, V>> LruCache<K, V, S, M> {
         self.order.get(key)
     }
 
+    // The pairs, without their capacity.
+    pub(crate) fn into_order(self) -> Order<K, V, S>
+    where
+        M: Drop,
+        ensures { result.entries ≡ self.entries }
+    {
+        let LruCache {
+            order,
+            meter: _,
+            size: _,
+            capacity: _,
+        } = self;
+        order
+    }
+
     /// Makes room for `additional` pairs more, whose inserts then can't fail. The pairs stay.
     pub fn reserve(&mut self, additional: usize) -> Result<(), AllocError>
         ensures ok { OnOk result (additional ≤ self.new.spare) }
@@ -308,5 +324,18 @@ impl<K: Eq + Hash + Drop, V: Drop, S: BuildHasher, M: Meter<K, V>> LruCache<K, V
     {
         self.evict_to(capacity);
         self.capacity = capacity;
+    }
+}
+
+impl<K: Eq + Hash, V, S: BuildHasher> LruCache<K, V, S, Count> {
+    ghost use Rattle.std.specs.Borrow.{sem};
+    ghost use Rattle.sc_lru.specs.CacheLends.{lends_value};
+
+    /// The key's value to write. Its pair becomes the most recently used, at the same position.
+    pub fn get_mut(&mut self, key: &K) -> Option<&mut V>
+        ensures* writes_back { sem 𝓛 (lends_value K.row V.row S.row S.Hasher.row K.Hash S.BuildHasher S.Hasher.Hasher self.entry (K.eq key.now) (touched (K.eq key.now) self.old.entries) result) }
+        ensures value { option_copied_mut result ≡ lookup (K.eq key.now) self.old.entries }
+    {
+        self.order.get_mut(key)
     }
 }

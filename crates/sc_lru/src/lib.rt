@@ -2,6 +2,7 @@
 #![tactic(auto)]
 
 mod cache;
+mod into_iter;
 mod iter;
 mod linked;
 mod links;
@@ -9,5 +10,6 @@ mod meter;
 mod node;
 
 pub use cache::{DefaultHasher, LruCache};
+pub use into_iter::IntoIter;
 pub use iter::Iter;
 pub use meter::{Count, Meter};

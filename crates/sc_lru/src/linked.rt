@@ -2,8 +2,8 @@
 ghost use Rattle.std.specs.Prelude.{◌≡◌, ◌+◌, ◌<◌, ◌≤◌, [], ◌∷◌, ◌++◌, None, length, drop, is_some, position, slice_get, option_copied, IfNone, OnOk, IsOk};
 ghost use Rattle.std.specs.List.{IsDistinct};
 ghost use Rattle.std.specs.Map.{keys_of, lookup, lookup_entry, remove_entry};
-ghost use Rattle.std.specs.Option.{option_map};
-ghost use Rattle.std.specs.Map.Iter.{deref_pair};
+ghost use Rattle.std.specs.Option.{option_copied_mut, option_map};
+ghost use Rattle.std.specs.Map.Iter.{deref_pair, TakesLast};
 ghost use Rattle.sc_lru.specs.Order.{touched, vacated, with_entries, KeepsRoom};
 
 use crate::iter::Iter;
@@ -132,6 +132,21 @@ impl<K: Eq + Hash, V, S: BuildHasher> Order<K, V, S> {
         Some((key, value))
     }
 
+    /// Takes the last pair out.
+    pub fn pop_last(&mut self) -> Option<(K, V)>
+        ensures last { TakesLast (λ pair. pair) self.old.entries result self.new.entries }
+        ensures room { KeepsRoom self.old self.new }
+    {
+        let at = self.last;
+        if self.map.len() == 0 {
+            return None;
+        }
+        let (first, last, key, value) = take(&mut self.map, self.first, at, at);
+        self.first = first;
+        self.last = last;
+        Some((key, value))
+    }
+
     /// The first pair. The order stays.
     pub fn first(&self) -> Option<(&K, &V)>
         ensures { option_map deref_pair result ≡ slice_get self.now.entries 0 }
@@ -197,7 +212,7 @@ impl<K: Eq + Hash + Drop, V: Drop, S: BuildHasher> Order<K, V, S> {
 
 impl<K: Eq + Hash, V, S: BuildHasher> Order<K, V, S> {
     ghost use Rattle.std.specs.Borrow.{sem};
-    ghost use Rattle.sc_lru.specs.Lends.{ends_as};
+    ghost use Rattle.sc_lru.specs.Lends.{ends_as, lends_value};
 
     /// The key's value. Its pair becomes the last.
     pub fn get(&mut self, key: &K) -> Option<&V>
@@ -210,5 +225,18 @@ impl<K: Eq + Hash, V, S: BuildHasher> Order<K, V, S> {
         self.first = move_last(&mut self.map, self.first, self.last, at);
         self.last = at;
         Some(&self.map[at].value)
+    }
+
+    /// The key's value to write. Its pair becomes the last.
+    pub fn get_mut(&mut self, key: &K) -> Option<&mut V>
+        ensures* writes_back { sem 𝓛 (lends_value K.row V.row S.row S.Hasher.row K.Hash S.BuildHasher S.Hasher.Hasher self.entry (K.eq key.now) (touched (K.eq key.now) self.old.entries) result) }
+        ensures value { option_copied_mut result ≡ lookup (K.eq key.now) self.old.entries }
+    {
+        let Some(at) = self.map.get_index_of(key) else {
+            return None;
+        };
+        self.first = move_last(&mut self.map, self.first, self.last, at);
+        self.last = at;
+        Some(self.map[at].value_mut())
     }
 }
