@@ -1,10 +1,11 @@
 -- What changes of the pairs make of the sum of their measures, and of the longest suffix that fits.
 use Rattle.std.proofs.Common.{◌≡◌, ℕ, zero, suc, ◌+◌, ◌-◌, ◌<◌, ◌≤◌, Bool, true, false, cond, nat_le, List, [], ◌∷◌, ◌++◌, length, drop, slice_get, Option, Some, None, refl, sym, ap, ◌∙◌, subst, arith, inl, inr, ◌⊎◌, if◌then◌else◌}
 use Rattle.std.proofs.lemmas.Bool.{le-leb, lt-leb}
+use Rattle.std.proofs.lemmas.List.{length_push}
 use Rattle.std.proofs.lemmas.List.Sums.{sum_by-cons, sum_by_push}
 use Rattle.std.specs.Map.{lookup, lookup_entry, remove_entry, set_value}
 use Rattle.std.specs.List.{sum_by}
-use Rattle.sc_lru.specs.LruCache.{total, suffix_within, inserted}
+use Rattle.sc_lru.specs.LruCache.{total, suffix_within, inserted, inserted_all, Extends, KeepsParts, LruCache}
 use native.Mathlib.Decide.{dec_lt}
 use Rattle.std.specs.Option.{option_map_or}
 use Rattle.sc_lru.specs.Order.{touched}
@@ -95,3 +96,16 @@ module _ {K V : Type 0} (measure : K → V → ℕ) where
     | true ↦ let m = same e.0 w e.1 in omega (arith, m, total-cons (e.0, w) es, total-cons e es)
     | false ↦ let on = total-set_value same test es w in omega (arith, on, total-cons e es, total-cons e (set_value test es w))
   ]
+
+  pub inserted_all_push : (eq : K → K → Bool) (n : ℕ) (es xs : List (K × V)) (x : K × V) → inserted_all measure eq n es (xs ++ x ∷ []) ≡ inserted measure (eq x.0) n (inserted_all measure eq n es xs) x.0 x.1
+  inserted_all_push eq n es [] x = refl
+  inserted_all_push eq n es (y ∷ xs) x = inserted_all_push eq n (inserted measure (eq y.0) n es y.0 y.1) xs x
+
+-- one pair more
+pub extends_push : {K V S M : Type 0} (measure : M → K → V → ℕ) (eq : K → K → Bool) (old mid new : LruCache K V S M) (xs : List (K × V)) (x : K × V)
+    → Extends measure eq old xs mid → new.entries ≡ inserted (measure mid.meter) (eq x.0) mid.capacity mid.entries x.0 x.1 → KeepsParts mid new → mid.spare ≤ new.spare + 1 → Extends measure eq old (xs ++ x ∷ []) new
+extends_push measure eq old mid new xs x h put q room = let p = h.parts in record {
+  entries = put ∙ (λ i. inserted (measure (p.meter i)) (eq x.0) (p.capacity i) (h.entries i) x.0 x.1) ∙ sym (inserted_all_push (measure old.meter) eq old.capacity old.entries xs x);
+  parts = record { capacity = q.capacity ∙ p.capacity; meter = q.meter ∙ p.meter; hasher = q.hasher ∙ p.hasher };
+  spare = omega (arith, h.spare, room, length_push xs x);
+}

@@ -1,5 +1,5 @@
 -- What a contract sees of an `LruCache`.
-use Rattle.std.specs.Prelude.{◌≡◌, ℕ, ◌+◌, ◌≤◌, Bool, nat_le, if◌then◌else◌, List, [], ◌∷◌, ◌++◌, refl}
+use Rattle.std.specs.Prelude.{◌≡◌, ℕ, ◌+◌, ◌≤◌, Bool, nat_le, if◌then◌else◌, List, [], ◌∷◌, ◌++◌, length, refl}
 use Rattle.std.specs.List.{sum_by}
 use Rattle.std.specs.Map.{remove_entry}
 use Rattle.std.specs.Coded.{Coded, code_by, coded×, coded_list, coded_ℕ}
@@ -59,3 +59,14 @@ module _ {K V : Type 0} (measure : K → V → ℕ) where
   -- the pairs after `insert`
   abbrev pub inserted : (K → Bool) → ℕ → List (K × V) → K → V → List (K × V)
   inserted test n es k v = suffix_within n (remove_entry test es ++ (k, v) ∷ [])
+
+  -- the pairs after each of xs is inserted in turn
+  abbrev pub inserted_all : (K → K → Bool) → ℕ → List (K × V) → List (K × V) → List (K × V)
+  inserted_all eq n es [] = es
+  inserted_all eq n es (x ∷ xs) = inserted_all eq n (inserted (eq x.0) n es x.0 x.1) xs
+
+-- the pairs xs were inserted in turn
+pub record Extends {K V S M : Type 0} (measure : M → K → V → ℕ) (eq : K → K → Bool) (old : LruCache K V S M) (xs : List (K × V)) (new : LruCache K V S M) : Type 0 where
+  pub entries : new.entries ≡ inserted_all (measure old.meter) eq old.capacity old.entries xs
+  pub parts : KeepsParts old new
+  pub spare : old.spare ≤ new.spare + length xs

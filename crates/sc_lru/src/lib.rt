@@ -2,6 +2,7 @@
 #![tactic(auto)]
 
 mod cache;
+mod extend;
 mod into_iter;
 mod iter;
 mod linked;
