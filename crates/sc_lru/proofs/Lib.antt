@@ -6,3 +6,5 @@ pub mod Pairs
 pub mod Steps
 pub mod Walks
 pub mod Windows
+pub mod Shown
+pub mod DryRuns

@@ -4,3 +4,4 @@ pub mod Lends
 pub mod Linked
 pub mod CacheLends
 pub mod NodeLends
+pub mod DryRun

@@ -2,6 +2,8 @@
 #![tactic(auto)]
 
 mod cache;
+mod capacity_report;
+mod debug;
 mod extend;
 mod into_iter;
 mod iter;
@@ -11,6 +13,7 @@ mod meter;
 mod node;
 
 pub use cache::{DefaultHasher, LruCache};
+pub use capacity_report::{DryLine, Use, dry_run};
 pub use into_iter::IntoIter;
 pub use iter::Iter;
 pub use meter::{Count, Meter};
