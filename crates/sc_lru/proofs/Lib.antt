@@ -8,3 +8,4 @@ pub mod Walks
 pub mod Windows
 pub mod Shown
 pub mod DryRuns
+pub mod Shifts

@@ -17,3 +17,8 @@ pub use capacity_report::{DryLine, Use, dry_run};
 pub use into_iter::IntoIter;
 pub use iter::Iter;
 pub use meter::{Count, Meter};
+
+#[cfg(test)]
+mod shifted;
+#[cfg(test)]
+mod tests;
