@@ -219,12 +219,12 @@ impl<K: Eq + Hash, V, S: BuildHasher> Order<K, V, S> {
         ensures* touches { sem 𝓛 (ends_as K.row V.row S.row S.Hasher.row K.Hash S.BuildHasher S.Hasher.Hasher self.entry (touched (K.eq key.now) self.old.entries)) }
         ensures value { option_copied result ≡ lookup (K.eq key.now) self.old.entries }
     {
-        let Some(at) = self.map.get_index_of(key) else {
+        let Some(found) = self.map.get_index_of(key) else {
             return None;
         };
-        self.first = move_last(&mut self.map, self.first, self.last, at);
-        self.last = at;
-        Some(&self.map[at].value)
+        self.first = move_last(&mut self.map, self.first, self.last, found);
+        self.last = found;
+        Some(&self.map[found].value)
     }
 
     /// The key's value to write. Its pair becomes the last.

@@ -17,18 +17,18 @@ pub move_last-self-inside-requires : goal.move_last-self-inside-requires
 move_last-self-inside-requires g c =
     let o = c.self.inside in let test = g.K.PartialEq.eq c.args.key.now in
     let f = c.in-Some.ensures in
-    is_chained g.K.PartialEq.eq o.map.entries o.first o.last c.in-Some.at c.self.invariant f.within
+    is_chained g.K.PartialEq.eq o.map.entries o.first o.last c.in-Some.found c.self.invariant f.within
 
 pub invariant_of-self-2 : goal.invariant_of-self-2
 invariant_of-self-2 g c =
     let o = c.self.inside in let test = g.K.PartialEq.eq c.args.key.now in
     let f = c.in-Some.ensures in let t = c.move_last-self-inside in
-    (touched_linked g.K.PartialEq.eq g.met.K.Eq.laws (g.K.PartialEq.eq c.args.key.now) (g.met.K.Eq.laws.congr c.args.key.now) o.map.entries o.first o.last c.self.invariant c.in-Some.at f.index t.new.map.entries t.result t.ensures.chain t.ensures.same).0
+    (touched_linked g.K.PartialEq.eq g.met.K.Eq.laws (g.K.PartialEq.eq c.args.key.now) (g.met.K.Eq.laws.congr c.args.key.now) o.map.entries o.first o.last c.self.invariant c.in-Some.found f.index t.new.map.entries t.result t.ensures.chain t.ensures.same).0
 
 pub returns : goal.returns
 returns g c =
     let o = c.self.inside in let test = g.K.PartialEq.eq c.args.key.now in
     let f = c.in-Some.ensures in let t = c.move_last-self-inside in let s = t.ensures.spare in
-    let r = touched_linked g.K.PartialEq.eq g.met.K.Eq.laws (g.K.PartialEq.eq c.args.key.now) (g.met.K.Eq.laws.congr c.args.key.now) o.map.entries o.first o.last c.self.invariant c.in-Some.at f.index t.new.map.entries t.result t.ensures.chain t.ensures.same in
-    let value = value_moved o.map.entries t.new.map.entries c.in-Some.at c.index.result.now t.ensures.same c.index.ensures ∙ sym (found_value g.K.PartialEq.eq g.met.K.Eq.laws (g.K.PartialEq.eq c.args.key.now) (g.met.K.Eq.laws.congr c.args.key.now) o.map.entries o.first o.last c.self.invariant c.in-Some.at f.index) in
+    let r = touched_linked g.K.PartialEq.eq g.met.K.Eq.laws (g.K.PartialEq.eq c.args.key.now) (g.met.K.Eq.laws.congr c.args.key.now) o.map.entries o.first o.last c.self.invariant c.in-Some.found f.index t.new.map.entries t.result t.ensures.chain t.ensures.same in
+    let value = value_moved o.map.entries t.new.map.entries c.in-Some.found c.index.result.now t.ensures.same c.index.ensures ∙ sym (found_value g.K.PartialEq.eq g.met.K.Eq.laws (g.K.PartialEq.eq c.args.key.now) (g.met.K.Eq.laws.congr c.args.key.now) o.map.entries o.first o.last c.self.invariant c.in-Some.found f.index) in
     rw (← c.self.view_is) ((refl, λ _. tt, λ i. order (r.1 i) (t.ensures.same.keys i) (t.ensures.hasher i) (s i)), record { touches = tt; value = value })
