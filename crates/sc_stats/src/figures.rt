@@ -78,7 +78,7 @@ pub(crate) fn percent_text(alloc: Global, hundredths: u64) -> Result<Text, NoMem
 pub(crate) fn seconds_text(alloc: Global, span: &Span) -> Result<Text, NoMemory>
     ensures { IfOk result (λ text. text ≡ seconds_text span.now) }
 {
-    let whole = span.seconds();
+    let whole = span.as_secs();
     let mut text = format!(in alloc; "{whole}.")?;
     push_three_digits(&mut text, (span.subsec_nanos() / 1_000_000) as u16)?;
     text.push_str(" s")?;

@@ -1,4 +1,4 @@
-ghost use Rattle.std.specs.Prelude.{◌≡◌, ◌+◌, ◌*◌, ◌<◌, ◌/◌, ◌%◌, ◌^◌};
+ghost use Rattle.std.specs.Prelude.{◌≡◌, ◌+◌, ◌*◌, ◌<◌, ◌/◌, ◌%◌};
 ghost use Rattle.sc_stats.specs.Figures.{average};
 ghost use Rattle.sc_stats.specs.Spans.{more_time};
 
@@ -74,20 +74,6 @@ impl Span {
         ensures { result ≡ self.now }
     {
         self.nanoseconds
-    }
-
-    /// The whole seconds.
-    pub fn seconds(&self) -> u64
-        ensures { result ≡ self.now / 10 ^ 9 }
-    {
-        (self.nanoseconds / 1_000_000_000) as u64
-    }
-
-    /// The nanoseconds after the whole seconds.
-    pub fn subsec_nanos(&self) -> u32
-        ensures { result ≡ self.now % 10 ^ 9 }
-    {
-        (self.nanoseconds % 1_000_000_000) as u32
     }
 
     /// Its share where it is divided evenly, in whole nanoseconds; no time where there are no shares.
