@@ -1,4 +1,6 @@
 pub mod Cuts
+pub mod Making
+pub mod Naming
 pub mod Objects
 pub mod Outputs
 pub mod Shelves

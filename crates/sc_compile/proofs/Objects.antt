@@ -10,7 +10,7 @@ use Rattle.sc_model.specs.World.{first_missing, has_name}
 abbrev pub tail_of : {A : Type 0} → List A → List A
 tail_of xs = take (length xs - 1) (drop 1 xs)
 
-tail_is : {A : Type 0} (x : A) (xs : List A) → tail_of (x ∷ xs) ≡ xs
+pub tail_is : {A : Type 0} (x : A) (xs : List A) → tail_of (x ∷ xs) ≡ xs
 tail_is x xs = let n : length (x ∷ xs) - 1 ≡ length xs = omega arith in rw n (take-length xs)
 
 either : (a b c : Bool) → (cond a true b || c) ≡ (b || (a || c))

@@ -33,12 +33,12 @@ impl<'a> Model for Arguments<'a> {
 }
 
 /// The bytes as text, where they are UTF-8.
-fn text_of(bytes: &[u8]) -> Result<&str, WordsError>
-    ensures { MeansBy (λ t. t.now) (only_if (is_utf8 bytes.now) bytes.now) result }
+fn text_of(bytes: &[u8]) -> Option<&str>
+    ensures { option_map (λ t. t.now) result ≡ only_if (is_utf8 bytes.now) bytes.now }
 {
     match std::str::from_utf8(bytes) {
-        Ok(text) => Ok(text),
-        Err(_) => Err(WordsError::Malformed),
+        Ok(text) => Some(text),
+        Err(_) => None,
     }
 }
 
@@ -49,14 +49,26 @@ fn is_stream(name: &[u8]) -> bool
 }
 
 /// The bytes as the name of an output.
-fn output_name(bytes: &[u8]) -> Result<&str, WordsError>
-    ensures { MeansBy (λ t. t.now) (only_if (is_output_name bytes.now) bytes.now) result }
+fn output_name(bytes: &[u8]) -> Option<&str>
+    ensures { option_map (λ t. t.now) result ≡ only_if (is_output_name bytes.now) bytes.now }
 {
     if bytes.is_empty() || bytes.len() > 65535 || is_stream(bytes) {
-        return Err(WordsError::Malformed);
+        return None;
     }
-    let name = text_of(bytes)?;
-    Ok(name)
+    match text_of(bytes) {
+        Some(name) => Some(name),
+        None => None,
+    }
+}
+
+/// Whether the bytes are the name of an output.
+pub fn is_output_name(bytes: &[u8]) -> bool
+    ensures { result ≡ is_output_name bytes.now }
+{
+    match output_name(bytes) {
+        Some(_) => true,
+        None => false,
+    }
 }
 
 /// The bytes as the name of one more output, behind some outputs with these names.
@@ -68,7 +80,9 @@ fn new_name<'a>(
     requires { HasNames outputs.now names.now }
     ensures { MeansBy (λ t. t.now) (only_if (is_new_name outputs.now bytes.now) bytes.now) result }
 {
-    let name = output_name(bytes)?;
+    let Some(name) = output_name(bytes) else {
+        return Err(WordsError::Malformed);
+    };
     if names.contains(name) || outputs.len() >= 65532 {
         return Err(WordsError::Malformed);
     }
@@ -125,7 +139,10 @@ pub fn read_arguments<'a>(alloc: Global, words: &'a [ByteText]) -> Result<Argume
     ensures { Means (arguments_of words.now) result }
 {
     let mut words = Words::new(words);
-    let key = text_of(words.word()?.as_slice())?;
+    let word = words.word()?;
+    let Some(key) = text_of(word.as_slice()) else {
+        return Err(WordsError::Malformed);
+    };
     let key = Text::from_str(alloc, key)?;
     let outputs = outputs(alloc, &mut words)?;
     Ok(Arguments {

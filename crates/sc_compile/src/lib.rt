@@ -7,12 +7,15 @@ mod beginning;
 mod collecting;
 mod command;
 mod first_word;
+mod good_names;
 mod placement;
 mod plain;
 mod probe;
 mod run_line;
 mod script_workshop;
 mod shelf;
+#[cfg(test)]
+mod tests;
 mod tool;
 mod words;
 mod words_error;

@@ -8,7 +8,7 @@ use Rattle.sc_compile.proofs.arguments.text_of.Goals as goal
 pub returns-in-Ok : goal.returns-in-Ok
 returns-in-Ok c =
     let good : is_utf8 c.args.bytes.now ≡ true = is_utf8-from_IsUtf8 _ c.in-Ok.ensures.cases.1 in
-    rw good (ap Some (sym c.in-Ok.ensures.cases.0))
+    rw good (ap Some c.in-Ok.ensures.cases.0)
 
 pub returns-in-Err : goal.returns-in-Err
 returns-in-Err c =
