@@ -1,2 +1,3 @@
 pub mod Judgements
+pub mod Languages
 pub mod Setups
