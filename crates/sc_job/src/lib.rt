@@ -6,6 +6,8 @@ mod finish;
 mod notes;
 mod rows;
 mod stored;
+#[cfg(test)]
+mod tests;
 mod verdict;
 
 pub use finish::{fatal_text, finish_fatal, finish_hit, finish_output};
