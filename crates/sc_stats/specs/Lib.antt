@@ -1,6 +1,10 @@
 pub mod Figures
+pub mod Info
 pub mod Lines
 pub mod Parts
+pub mod Reasons
 pub mod Rows
 pub mod Spans
+pub mod Store
 pub mod Sums
+pub mod Writers

@@ -45,7 +45,7 @@ pub(crate) fn rate_of(hits: u64, misses: u64) -> u64
 }
 
 /// A quotient, rounded to the nearest whole number, from the middle to the even one; 0 of none.
-fn rounded(number: u128, divisor: u128) -> u128
+pub(crate) fn rounded(number: u128, divisor: u128) -> u128
     ensures { result ≡ half_even number divisor }
 {
     if divisor == 0 {

@@ -192,7 +192,7 @@ fn add_rank_lines(
 
 /// A name filled to a width, a space, and a value that ends with its column and a suffix's bytes more.
 #[tactic(auto, unfolding(crate::specs::Lines::two_columns))]
-fn two_columns(
+pub(crate) fn two_columns(
     alloc: Global,
     front: &str,
     names: usize,

@@ -1,4 +1,4 @@
-use Rattle.std.proofs.Common.{◌≡◌, ◌+◌, ◌-◌, ◌++◌, append_assoc, ap, ◌∙◌, arith, rules, string_bytes}
+use Rattle.std.proofs.Common.{◌≡◌, ◌-◌, ◌++◌, append_assoc, ap, ◌∙◌, arith, rules, string_bytes}
 use Rattle.std.proofs.Math.ListN.{replicate-append-replicate}
 use Rattle.sc_stats.specs.Lines.{spaces}
 use Rattle.sc_stats.proofs.lines.push_room.Goals as goal
