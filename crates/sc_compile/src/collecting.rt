@@ -2,7 +2,8 @@
 
 ghost use Rattle.std.specs.Prelude.{◌≡◌, ◌++◌, ◌&&◌, not, IfOk, ℕ, List, Some, true, option_map};
 ghost use Rattle.std.specs.BTreeSet.{contains_text};
-ghost use Rattle.sc_model.specs.World.{first_missing, has_name};
+ghost use Rattle.sc_entry.specs.Entries.{has_name};
+ghost use Rattle.sc_model.specs.World.{first_missing};
 ghost use Rattle.sc_compile.specs.GoodNames.{are_good, are_run_objects, is_good_answer};
 ghost use Rattle.sc_compile.specs.Answers.{collected, collected_from, is_broken, is_fault, no_answer, with_outputs};
 
@@ -13,7 +14,7 @@ use std::collections::BTreeSet;
 
 /// The names of some objects.
 fn names_of(alloc: Global, objects: &[Object]) -> Result<BTreeSet<String>, NoMemory>
-    ensures { IfOk result (λ names. (name : List ℕ) → contains_text names name ≡ has_name objects.now name) }
+    ensures { IfOk result (λ names. (name : List ℕ) → contains_text names name ≡ has_name name objects.now) }
 {
     let mut names = BTreeSet::new(alloc);
     let mut left = objects;
