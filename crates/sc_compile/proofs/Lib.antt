@@ -1,5 +1,6 @@
 pub mod Cuts
 pub mod Making
+pub mod Named
 pub mod Naming
 pub mod Objects
 pub mod Outputs
