@@ -35,6 +35,7 @@ impl<R: Remote> Model for Levels<R> {
 }
 
 impl<R: Remote> Levels<R> {
+    /// The store of these levels, in their order.
     pub fn new(levels: Vec<Level<R>>, policy: Policy) -> Levels<R>
         ensures { result ≡ held_levels levels.items policy }
     {
@@ -101,8 +102,8 @@ impl<R: Remote> Levels<R> {
         self.levels[level].ask(alloc, key, mode)
     }
 
-    /// Puts an entry under a key at one level, and at no other. `from_run` says that the bytes come from a local run: a
-    /// remote level keeps no marks.
+    /// Puts an entry under a key at one level, and at no other. The flag says that the bytes come from a local run: a
+    /// remote level keeps no mark of it.
     pub fn put_step(
         &mut self,
         alloc: Global,
