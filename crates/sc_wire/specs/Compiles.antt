@@ -25,6 +25,7 @@ compile =
     (λ c. (c.exe, (c.cwd, (c.args, c.env_vars)))) (λ _. refl) (λ _. refl)
     (byte_text & (byte_text & (list byte_text & list variable)))
 
+-- the fields of each variant, in the variants' order
 abbrev pub CompileResponseForm : Type 0
 CompileResponseForm = (Unit {0} ⊎ (Unit {0} ⊎ List ℕ))
 
@@ -55,6 +56,7 @@ compile_response =
     (either 1 nothing
     (last 2 byte_text (lit< tt)) (lit< tt) (lit< tt)) (lit< tt) (lit< tt)))
 
+-- the fields of each variant, in the variants' order
 abbrev pub ColorModeForm : Type 0
 ColorModeForm = (Unit {0} ⊎ (Unit {0} ⊎ Unit {0}))
 

@@ -12,4 +12,3 @@ pub mod Requests
 pub mod Responses
 pub mod Frames
 pub mod Streams
-pub mod Startups

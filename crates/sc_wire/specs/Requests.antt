@@ -1,4 +1,4 @@
--- Requests.
+-- Requests: the number of the variant, then its fields.
 use Rattle.std.specs.Prelude.{◌≡◌, ℕ, ◌⊎◌, List, Option, refl}
 use Rattle.std.proofs.Common.{inl, inr, lit<}
 use Rattle.sc_wire.specs.Codec.{Codec, nothing, ◌&◌, same_as, read_all}
@@ -11,6 +11,7 @@ use Rattle.sc_model.specs.declared.message.Compile.{Compile}
 use Rattle.sc_model.specs.declared.message.Request.{Request}
 use Rattle.sc_model.specs.declared.message.Request.TheVariants.{ZeroStats, GetStats, DistStatus, Shutdown, Compile as CompileRequest, StorageHandshake, StorageGetPath, StorageGetRaw, StoragePutRaw, StorageGetPreprocessorEntry, StoragePutPreprocessorEntry, RecordStats}
 
+-- the fields of each variant, in the variants' order
 abbrev pub RequestForm : Type 0
 RequestForm = (Unit {0} ⊎ (Unit {0} ⊎ (Unit {0} ⊎ (Unit {0} ⊎ (Compile ⊎ (Unit {0} ⊎ (List ℕ ⊎ (List ℕ ⊎ ((List ℕ × List ℕ) ⊎ (List ℕ ⊎ ((List ℕ × List ℕ) ⊎ ServerStats)))))))))))
 

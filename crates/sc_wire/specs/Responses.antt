@@ -1,4 +1,4 @@
--- Responses.
+-- Responses: the number of the variant, then its fields.
 use Rattle.std.specs.Prelude.{◌≡◌, ℕ, ◌⊎◌, List, Option, Result, refl}
 use Rattle.std.proofs.Common.{inl, inr, lit<}
 use Rattle.sc_wire.specs.Codec.{Codec, nothing, same_as, read_all}
@@ -16,6 +16,7 @@ use Rattle.sc_model.specs.declared.message.GetPathResult.{GetPathResult}
 use Rattle.sc_model.specs.declared.message.Response.{Response}
 use Rattle.sc_model.specs.declared.message.Response.TheVariants.{Compile as Compiles, ZeroStats, Stats, DistStatus, ShuttingDown, CompileFinished as Finished, StorageHandshake, StorageGetPath, StorageGetRaw, StoragePutRaw, StorageGetPreprocessorEntry, StoragePutPreprocessorEntry, RecordStats, ArtifactNotification}
 
+-- the fields of each variant, in the variants' order
 abbrev pub ResponseForm : Type 0
 ResponseForm = (CompileResponse ⊎ (Unit {0} ⊎ (ServerInfo ⊎ (DistInfo ⊎ (ServerInfo ⊎ (CompileFinished ⊎ (StorageHandshakeInfo ⊎ (GetPathResult ⊎ (Option (List ℕ) ⊎ (Result (Unit {0}) (List ℕ) ⊎ (Result (Option (List ℕ)) (List ℕ) ⊎ (Result (Unit {0}) (List ℕ) ⊎ (Unit {0} ⊎ List ℕ)))))))))))))
 

@@ -1,4 +1,4 @@
--- Statistics: counts by text, spans of time, and what is counted.
+-- Statistics: the fields in their order, in groups of at most five.
 use Rattle.std.specs.Prelude.{◌≡◌, ℕ, ◌⊎◌, List, Option, refl}
 use Rattle.std.proofs.Common.{inl, inr, lit<}
 use Rattle.sc_wire.specs.Codec.{Codec, ◌&◌, same_as}
@@ -47,6 +47,7 @@ server_info =
     ((server_stats & (text & optional u64))
     & (optional u64 & (flag & (text & list text))))
 
+-- the fields of each variant, in the variants' order
 abbrev pub DistInfoForm : Type 0
 DistInfoForm = (List ℕ ⊎ ((Option (List ℕ) × List ℕ) ⊎ (Option (List ℕ) × (ℕ × (ℕ × ℕ)))))
 

@@ -11,6 +11,7 @@ use Rattle.sc_model.specs.declared.message.StorageHandshakeInfo.{StorageHandshak
 use Rattle.sc_model.specs.declared.message.GetPathResult.{GetPathResult}
 use Rattle.sc_model.specs.declared.message.GetPathResult.TheVariants.{Found, Miss, Unsupported}
 
+-- the fields of each variant, in the variants' order
 abbrev pub CacheModeForm : Type 0
 CacheModeForm = (Unit {0} ⊎ Unit {0})
 
@@ -42,6 +43,7 @@ handshake_info =
     (λ c. ((c.location, (c.cache_type_name, c.basedirs)), (c.use_preprocessor_cache_mode, (c.cache_mode, c.max_size)))) (λ _. refl) (λ _. refl)
     ((text & (text & list byte_text)) & (flag & (cache_mode & optional u64)))
 
+-- the fields of each variant, in the variants' order
 abbrev pub GetPathResultForm : Type 0
 GetPathResultForm = (List ℕ ⊎ (Unit {0} ⊎ Unit {0}))
 

@@ -4,7 +4,7 @@ ghost use Rattle.sc_wire.specs.Frames.{frame, IsTooLong};
 
 use crate::wire::Wire;
 use sc_entry::NoMemory;
-use std::alloc::{AllocError, AllocFailed, Global};
+use std::alloc::{AllocError, Global};
 
 /// Why a message has no frame.
 #[derive(Clone, Copy, Debug, Drop, PartialEq, Eq)]
@@ -21,17 +21,6 @@ impl From<AllocError> for FrameError {
     ghost from_gives = { λ _ e. e ≡ refusals.NoMemory };
 
     fn from(_: AllocError) -> FrameError {
-        FrameError::NoMemory
-    }
-}
-
-impl<T: Drop> From<AllocFailed<T>> for FrameError {
-    ghost use Rattle.std.specs.Prelude.{◌≡◌};
-    ghost use Rattle.sc_wire.specs.declared.frame.FrameError.TheVariants as refusals;
-
-    ghost from_gives = { λ _ e. e ≡ refusals.NoMemory };
-
-    fn from(_: AllocFailed<T>) -> FrameError {
         FrameError::NoMemory
     }
 }

@@ -15,9 +15,10 @@ mod reader;
 mod request;
 mod response;
 mod several;
-mod startup;
 mod statistics;
 mod storage;
+#[cfg(test)]
+mod tests;
 mod wire;
 
 pub use bincode::BincodeCodec;
@@ -34,5 +35,4 @@ pub use sc_model::{
     Response, StorageHandshakeInfo, Variable,
 };
 pub use several::{put2, put3, put4, put5};
-pub use startup::ServerStartup;
 pub use wire::Wire;
