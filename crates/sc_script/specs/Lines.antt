@@ -1,0 +1,214 @@
+-- What a line says, kind by kind.
+use Rattle.std.specs.Prelude.{◌≡◌, ℕ, ◌-◌, ◌^◌, List, [], ◌∷◌, ◌++◌, length, Option, Some, None, Bool, ◌&&◌, ◌==◌, nat_lt, if◌then◌else◌, codes, bytes_eq}
+use Rattle.std.specs.FinMap as map
+use Rattle.sc_entry.specs.Tally.{Tally, count_of, counted}
+use Rattle.sc_entry.specs.declared.object.Object.{Object}
+use Rattle.sc_model.specs.declared.event.Objects.TheVariants.{Collected}
+use Rattle.sc_model.specs.declared.event.RunAnswer.TheVariants.{Output}
+use Rattle.sc_model.specs.declared.message.Request.{Request}
+use Rattle.sc_model.specs.declared.message.Request.TheVariants.{Compile}
+use Rattle.sc_model.specs.declared.message.Variable.{Variable}
+use Rattle.sc_script.specs.Reading.{Reader, only_if}
+use Rattle.sc_script.specs.Reading.{◌>>=◌ as ◌then◌}
+use Rattle.sc_script.specs.Fields.{number_of, number_in, bytes_of_token, text_of_token, store_key_of, variable_of, object_of, status_of, kind_of, hex_of}
+use Rattle.sc_script.specs.declared.line.Line.{Line}
+use Rattle.sc_script.specs.declared.line.Line.TheVariants.{Version, Connections, Tokens, Limit, Level, Hold, Fail, Tool, Run, Bytes, Ask, Read, Serve}
+use Rattle.sc_script.specs.declared.lines.Keyword.{Keyword}
+use Rattle.sc_script.specs.declared.lines.Keyword.TheVariants as at
+
+abbrev pub word : Reader (List ℕ)
+word [] = None
+word (w ∷ ws) = Some (w, ws)
+
+-- one reader after another
+infixl 10 ◌>>=◌
+abbrev pub ◌>>=◌ : {A B : Type 0} → Reader A → (A → Reader B) → Reader B
+(r >>= f) ws = r ws then (λ p. f p.0 p.1)
+
+abbrev pub gives : {A : Type 0} → A → Reader A
+gives x ws = Some (x, ws)
+
+-- the next word, of which there must be one
+abbrev pub field : {A : Type 0} → (List ℕ → Option A) → Reader A
+field f ws = word ws then (λ p. f p.0 then (λ x. Some (x, p.1)))
+
+-- a word that must be this one
+abbrev pub literal : List ℕ → List ℕ → Option (Unit {0})
+literal text w = only_if (bytes_eq w text) tt
+
+-- no name counted so far
+abbrev pub no_names : Tally
+no_names = map.empty
+
+-- one more object: a run leaves at most 65,532, whose names are distinct
+abbrev pub is_new_object : List Object → Tally → Object → Bool
+is_new_object sofar names o = nat_lt (length sofar) 65532 && count_of names o.name == 0
+
+-- objects of all words that are left, behind those so far, whose names are counted
+abbrev pub objects_onto : List Object → Tally → Reader (List Object)
+objects_onto sofar names [] = Some (sofar, [])
+objects_onto sofar names (w ∷ ws) =
+    object_of w then (λ o. if is_new_object sofar names o then objects_onto (sofar ++ o ∷ []) (counted names o.name 1) ws else None)
+
+-- tokens of all words that are left, behind those so far
+abbrev pub tokens_onto : List (List ℕ) → Reader (List (List ℕ))
+tokens_onto sofar [] = Some (sofar, [])
+tokens_onto sofar (w ∷ ws) = bytes_of_token w then (λ x. tokens_onto (sofar ++ x ∷ []) ws)
+
+-- variables up to the word --, which is taken too
+abbrev pub variables_onto : List Variable → Reader (List Variable)
+variables_onto sofar [] = None
+variables_onto sofar (w ∷ ws) =
+    if bytes_eq w (codes "--") then Some (sofar, ws)
+    else variable_of w then (λ x. variables_onto (sofar ++ x ∷ []) ws)
+
+-- script 1
+unfoldable pub version_line : Reader Line
+version_line = do
+  n ← field (number_in 1 1)
+  gives Version
+
+-- conns N
+unfoldable pub connections_line : Reader Line
+connections_line = do
+  n ← field (number_in 0 1024)
+  gives (Connections n)
+
+-- tokens N
+unfoldable pub tokens_line : Reader Line
+tokens_line = do
+  n ← field (number_in 1 65535)
+  gives (Tokens n)
+
+-- limit N
+unfoldable pub limit_line : Reader Line
+limit_line = do
+  n ← field (number_in 1 16777216)
+  gives (Limit n)
+
+-- level remote rw
+unfoldable pub level_line : Reader Line
+level_line = do
+  kind ← field (literal (codes "remote"))
+  mode ← field (literal (codes "rw"))
+  gives Level
+
+-- hold L KEY DATA
+unfoldable pub hold_line : Reader Line
+hold_line = do
+  level ← field number_of
+  key ← field store_key_of
+  bytes ← field bytes_of_token
+  gives (Hold (record { level = level; key = key; bytes = bytes }))
+
+-- fail L N
+unfoldable pub fail_line : Reader Line
+fail_line = do
+  level ← field number_of
+  call ← field number_of
+  gives (Fail level call)
+
+-- tool PATH MOMENT KIND
+unfoldable pub tool_line : Reader Line
+tool_line = do
+  path ← field bytes_of_token
+  moment ← field number_of
+  kind ← field kind_of
+  gives (Tool (record { path = path; moment = moment; kind = kind }))
+
+-- run KEY STATUS OUT ERR PAIR..
+unfoldable pub run_line : Reader Line
+run_line = do
+  key ← field text_of_token
+  status ← field status_of
+  stdout ← field bytes_of_token
+  stderr ← field bytes_of_token
+  objects ← objects_onto [] no_names
+  gives (Run (record {
+    key = key;
+    answer = Output (record { output = record { status = status; stdout = stdout; stderr = stderr }; objects = Collected objects });
+  }))
+
+-- bytes C HEX
+unfoldable pub bytes_line : Reader Line
+bytes_line = do
+  connection ← field number_of
+  bytes ← field hex_of
+  gives (Bytes connection bytes)
+
+-- compile EXE CWD PAIR.. -- WORD..
+unfoldable pub compile_request : Reader Request
+compile_request = do
+  exe ← field bytes_of_token
+  cwd ← field bytes_of_token
+  env_vars ← variables_onto []
+  args ← tokens_onto []
+  gives (Compile (record { exe = exe; cwd = cwd; args = args; env_vars = env_vars }))
+
+-- ask C REQUEST
+unfoldable pub ask_line : Reader Line
+ask_line = do
+  connection ← field number_of
+  kind ← field (literal (codes "compile"))
+  request ← compile_request
+  gives (Ask connection request)
+
+-- read C N
+unfoldable pub read_line : Reader Line
+read_line = do
+  connection ← field number_of
+  most ← field (number_in 1 (2 ^ 64 - 1))
+  gives (Read connection most)
+
+-- serve C [K]
+unfoldable pub times_of : Reader ℕ
+times_of [] = Some (1, [])
+times_of (w ∷ ws) = number_in 1 (2 ^ 64 - 1) w then (λ n. Some (n, ws))
+
+unfoldable pub serve_line : Reader Line
+serve_line = do
+  connection ← field number_of
+  times ← times_of
+  gives (Serve connection times)
+
+-- a line's first word says its kind
+unfoldable pub keyword_of : List ℕ → Option Keyword
+keyword_of w =
+    if bytes_eq w (codes "script") then Some at.Version
+    else if bytes_eq w (codes "conns") then Some at.Connections
+    else if bytes_eq w (codes "tokens") then Some at.Tokens
+    else if bytes_eq w (codes "limit") then Some at.Limit
+    else if bytes_eq w (codes "level") then Some at.Level
+    else if bytes_eq w (codes "hold") then Some at.Hold
+    else if bytes_eq w (codes "fail") then Some at.Fail
+    else if bytes_eq w (codes "tool") then Some at.Tool
+    else if bytes_eq w (codes "run") then Some at.Run
+    else if bytes_eq w (codes "bytes") then Some at.Bytes
+    else if bytes_eq w (codes "ask") then Some at.Ask
+    else if bytes_eq w (codes "read") then Some at.Read
+    else if bytes_eq w (codes "serve") then Some at.Serve
+    else None
+
+unfoldable pub body : Keyword → Reader Line
+body at.Version = version_line
+body at.Connections = connections_line
+body at.Tokens = tokens_line
+body at.Limit = limit_line
+body at.Level = level_line
+body at.Hold = hold_line
+body at.Fail = fail_line
+body at.Tool = tool_line
+body at.Run = run_line
+body at.Bytes = bytes_line
+body at.Ask = ask_line
+body at.Read = read_line
+body at.Serve = serve_line
+
+-- no word is left over
+abbrev pub whole : Option (Line × List (List ℕ)) → Option Line
+whole None = None
+whole (Some (line, [])) = Some line
+whole (Some (line, w ∷ ws)) = None
+
+unfoldable pub line_of : List (List ℕ) → Option Line
+line_of ws = word ws then (λ p. keyword_of p.0 then (λ k. whole (body k p.1)))

@@ -1,0 +1,324 @@
+//! Lines, kind by kind.
+ghost use Rattle.std.specs.Prelude.{◌≡◌, []};
+ghost use Rattle.sc_script.specs.Reading.{Means, Reads};
+ghost use Rattle.sc_script.specs.Lines.{version_line, connections_line, tokens_line, limit_line, level_line, hold_line, fail_line, tool_line, run_line, bytes_line, compile_request, ask_line, read_line, times_of, serve_line, keyword_of, body, line_of, objects_onto, no_names, is_new_object, tokens_onto, variables_onto, literal};
+
+use crate::fault::LineError;
+use crate::fields::{
+    hex_bytes, kind, number, number_within, object, status, store_key, text_token, token, variable,
+};
+use crate::line::{HoldLine, Line, RunLine, Tool};
+use crate::parts::Words;
+use sc_entry::{ByteText, Counts, Items, Object};
+use sc_model::{Compile, Objects, Output, Request, RunAnswer, RunOutput, Variable};
+use std::alloc::Global;
+
+/// The kinds of lines.
+#[derive(Clone, Copy)]
+pub enum Keyword {
+    Version,
+    Connections,
+    Tokens,
+    Limit,
+    Level,
+    Hold,
+    Fail,
+    Tool,
+    Run,
+    Bytes,
+    Ask,
+    Read,
+    Serve,
+}
+
+fn literal(text: &[u8], word: &[u8]) -> Result<(), LineError>
+    ensures { Means (literal text.now word.now) result }
+{
+    if word == text {
+        return Ok(());
+    }
+    Err(LineError::Bad)
+}
+
+fn is_new_object(sofar: &[Object], names: &Counts, object: &Object) -> bool
+    ensures { result ≡ is_new_object sofar.now names.now object.now }
+{
+    sofar.len() < 65532 && names.get(&object.name) == 0
+}
+
+fn objects(alloc: Global, words: &mut Words<'_>) -> Result<Items<Object>, LineError>
+    ensures { Reads (objects_onto [] no_names words.old) result words.new }
+{
+    let mut items = Items::new(alloc);
+    let mut names = Counts::new(alloc);
+    while let Some(word) = words.next() {
+        let object = object(alloc, word)?;
+        if !is_new_object(items.as_slice(), &names, &object) {
+            return Err(LineError::Bad);
+        }
+        names.add(&object.name, 1)?;
+        items.push(object)?;
+    }
+    Ok(items)
+}
+
+fn tokens(alloc: Global, words: &mut Words<'_>) -> Result<Items<ByteText>, LineError>
+    ensures { Reads (tokens_onto [] words.old) result words.new }
+{
+    let mut items = Items::new(alloc);
+    while let Some(word) = words.next() {
+        items.push(token(alloc, word)?)?;
+    }
+    Ok(items)
+}
+
+fn variables(alloc: Global, words: &mut Words<'_>) -> Result<Items<Variable>, LineError>
+    ensures { Reads (variables_onto [] words.old) result words.new }
+{
+    let mut items = Items::new(alloc);
+    while let Some(word) = words.next() {
+        if word == b"--".as_slice() {
+            return Ok(items);
+        }
+        items.push(variable(alloc, word)?)?;
+    }
+    Err(LineError::Bad)
+}
+
+#[tactic(auto, unfolding(crate::specs::Lines::version_line))]
+fn version_line(words: &mut Words<'_>) -> Result<Line, LineError>
+    ensures { Reads (version_line words.old) result words.new }
+{
+    number_within(1, 1, words.word()?)?;
+    Ok(Line::Version)
+}
+
+#[tactic(auto, unfolding(crate::specs::Lines::connections_line))]
+fn connections_line(words: &mut Words<'_>) -> Result<Line, LineError>
+    ensures { Reads (connections_line words.old) result words.new }
+{
+    let connections = number_within(0, 1024, words.word()?)?;
+    Ok(Line::Connections(connections))
+}
+
+#[tactic(auto, unfolding(crate::specs::Lines::tokens_line))]
+fn tokens_line(words: &mut Words<'_>) -> Result<Line, LineError>
+    ensures { Reads (tokens_line words.old) result words.new }
+{
+    let tokens = number_within(1, 65535, words.word()?)?;
+    Ok(Line::Tokens(tokens))
+}
+
+#[tactic(auto, unfolding(crate::specs::Lines::limit_line))]
+fn limit_line(words: &mut Words<'_>) -> Result<Line, LineError>
+    ensures { Reads (limit_line words.old) result words.new }
+{
+    let limit = number_within(1, 16_777_216, words.word()?)?;
+    Ok(Line::Limit(limit))
+}
+
+#[tactic(auto, unfolding(crate::specs::Lines::level_line))]
+fn level_line(words: &mut Words<'_>) -> Result<Line, LineError>
+    ensures { Reads (level_line words.old) result words.new }
+{
+    literal(b"remote", words.word()?)?;
+    literal(b"rw", words.word()?)?;
+    Ok(Line::Level)
+}
+
+#[tactic(auto, unfolding(crate::specs::Lines::hold_line))]
+fn hold_line(alloc: Global, words: &mut Words<'_>) -> Result<Line, LineError>
+    ensures { Reads (hold_line words.old) result words.new }
+{
+    let level = number(words.word()?)?;
+    let key = store_key(alloc, words.word()?)?;
+    let bytes = token(alloc, words.word()?)?;
+    Ok(Line::Hold(HoldLine { level, key, bytes }))
+}
+
+#[tactic(auto, unfolding(crate::specs::Lines::fail_line))]
+fn fail_line(words: &mut Words<'_>) -> Result<Line, LineError>
+    ensures { Reads (fail_line words.old) result words.new }
+{
+    let level = number(words.word()?)?;
+    let call = number(words.word()?)?;
+    Ok(Line::Fail { level, call })
+}
+
+#[tactic(auto, unfolding(crate::specs::Lines::tool_line))]
+fn tool_line(alloc: Global, words: &mut Words<'_>) -> Result<Line, LineError>
+    ensures { Reads (tool_line words.old) result words.new }
+{
+    let path = token(alloc, words.word()?)?;
+    let moment = number(words.word()?)?;
+    let kind = kind(words.word()?)?;
+    Ok(Line::Tool(Tool { path, moment, kind }))
+}
+
+#[tactic(auto, unfolding(crate::specs::Lines::run_line))]
+fn run_line(alloc: Global, words: &mut Words<'_>) -> Result<Line, LineError>
+    ensures { Reads (run_line words.old) result words.new }
+{
+    let key = text_token(alloc, words.word()?)?;
+    let status = status(words.word()?)?;
+    let stdout = token(alloc, words.word()?)?;
+    let stderr = token(alloc, words.word()?)?;
+    let objects = objects(alloc, words)?;
+    Ok(Line::Run(RunLine {
+        key,
+        answer: RunAnswer::Output(RunOutput {
+            output: Output {
+                status,
+                stdout,
+                stderr,
+            },
+            objects: Objects::Collected(objects),
+        }),
+    }))
+}
+
+#[tactic(auto, unfolding(crate::specs::Lines::bytes_line))]
+fn bytes_line(alloc: Global, words: &mut Words<'_>) -> Result<Line, LineError>
+    ensures { Reads (bytes_line words.old) result words.new }
+{
+    let connection = number(words.word()?)?;
+    let bytes = hex_bytes(alloc, words.word()?)?;
+    Ok(Line::Bytes { connection, bytes })
+}
+
+#[tactic(auto, unfolding(crate::specs::Lines::compile_request))]
+fn compile_request(alloc: Global, words: &mut Words<'_>) -> Result<Request, LineError>
+    ensures { Reads (compile_request words.old) result words.new }
+{
+    let exe = token(alloc, words.word()?)?;
+    let cwd = token(alloc, words.word()?)?;
+    let env_vars = variables(alloc, words)?;
+    let args = tokens(alloc, words)?;
+    Ok(Request::Compile(Compile {
+        exe,
+        cwd,
+        args,
+        env_vars,
+    }))
+}
+
+#[tactic(auto, unfolding(crate::specs::Lines::ask_line))]
+fn ask_line(alloc: Global, words: &mut Words<'_>) -> Result<Line, LineError>
+    ensures { Reads (ask_line words.old) result words.new }
+{
+    let connection = number(words.word()?)?;
+    literal(b"compile", words.word()?)?;
+    let request = compile_request(alloc, words)?;
+    Ok(Line::Ask {
+        connection,
+        request,
+    })
+}
+
+#[tactic(auto, unfolding(crate::specs::Lines::read_line))]
+fn read_line(words: &mut Words<'_>) -> Result<Line, LineError>
+    ensures { Reads (read_line words.old) result words.new }
+{
+    let connection = number(words.word()?)?;
+    let most = number_within(1, u64::MAX, words.word()?)?;
+    Ok(Line::Read { connection, most })
+}
+
+#[tactic(auto, unfolding(crate::specs::Lines::times_of))]
+fn times_of(words: &mut Words<'_>) -> Result<u64, LineError>
+    ensures { Reads (times_of words.old) result words.new }
+{
+    match words.next() {
+        None => Ok(1),
+        Some(word) => number_within(1, u64::MAX, word),
+    }
+}
+
+#[tactic(auto, unfolding(crate::specs::Lines::serve_line))]
+fn serve_line(words: &mut Words<'_>) -> Result<Line, LineError>
+    ensures { Reads (serve_line words.old) result words.new }
+{
+    let connection = number(words.word()?)?;
+    let times = times_of(words)?;
+    Ok(Line::Serve { connection, times })
+}
+
+#[tactic(auto, unfolding(crate::specs::Lines::keyword_of))]
+fn first_word(word: &[u8]) -> Result<Keyword, LineError>
+    ensures { Means (keyword_of word.now) result }
+{
+    if word == b"script".as_slice() {
+        return Ok(Keyword::Version);
+    }
+    if word == b"conns".as_slice() {
+        return Ok(Keyword::Connections);
+    }
+    if word == b"tokens".as_slice() {
+        return Ok(Keyword::Tokens);
+    }
+    if word == b"limit".as_slice() {
+        return Ok(Keyword::Limit);
+    }
+    if word == b"level".as_slice() {
+        return Ok(Keyword::Level);
+    }
+    if word == b"hold".as_slice() {
+        return Ok(Keyword::Hold);
+    }
+    if word == b"fail".as_slice() {
+        return Ok(Keyword::Fail);
+    }
+    if word == b"tool".as_slice() {
+        return Ok(Keyword::Tool);
+    }
+    if word == b"run".as_slice() {
+        return Ok(Keyword::Run);
+    }
+    if word == b"bytes".as_slice() {
+        return Ok(Keyword::Bytes);
+    }
+    if word == b"ask".as_slice() {
+        return Ok(Keyword::Ask);
+    }
+    if word == b"read".as_slice() {
+        return Ok(Keyword::Read);
+    }
+    if word == b"serve".as_slice() {
+        return Ok(Keyword::Serve);
+    }
+    Err(LineError::Bad)
+}
+
+#[tactic(auto, unfolding(crate::specs::Lines::body))]
+fn body(alloc: Global, keyword: Keyword, words: &mut Words<'_>) -> Result<Line, LineError>
+    ensures { Reads (body keyword words.old) result words.new }
+{
+    match keyword {
+        Keyword::Version => version_line(words),
+        Keyword::Connections => connections_line(words),
+        Keyword::Tokens => tokens_line(words),
+        Keyword::Limit => limit_line(words),
+        Keyword::Level => level_line(words),
+        Keyword::Hold => hold_line(alloc, words),
+        Keyword::Fail => fail_line(words),
+        Keyword::Tool => tool_line(alloc, words),
+        Keyword::Run => run_line(alloc, words),
+        Keyword::Bytes => bytes_line(alloc, words),
+        Keyword::Ask => ask_line(alloc, words),
+        Keyword::Read => read_line(words),
+        Keyword::Serve => serve_line(words),
+    }
+}
+
+/// What a line says.
+#[tactic(auto, unfolding(crate::specs::Lines::line_of))]
+pub fn line_at(alloc: Global, words: &mut Words<'_>) -> Result<Line, LineError>
+    ensures { Means (line_of words.old) result }
+{
+    let keyword = first_word(words.word()?)?;
+    let line = body(alloc, keyword, words)?;
+    match words.next() {
+        None => Ok(line),
+        Some(_) => Err(LineError::Bad),
+    }
+}
