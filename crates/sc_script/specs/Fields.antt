@@ -2,15 +2,17 @@
 use Rattle.std.specs.Prelude.{◌≡◌, ℕ, ◌+◌, ◌-◌, ◌*◌, ◌^◌, List, [], ◌∷◌, ◌++◌, length, Option, Some, None, Result, Ok, Err, Bool, true, false, not, ◌&&◌, ◌||◌, ◌==◌, nat_le, nat_lt, if◌then◌else◌, codes, bytes_eq}
 use Rattle.std.specs.Str.{is_utf8}
 use Rattle.hex.specs.Hex.{decode_of}
+use Rattle.sc_compile.specs.declared.tool.ToolKind.{ToolKind}
+use Rattle.sc_compile.specs.declared.tool.ToolKind.TheVariants.{Compiler, NotACompiler}
 use Rattle.sc_entry.specs.Keys.{is_store_key}
 use Rattle.sc_entry.specs.declared.object.Object.{Object}
+use Rattle.sc_model.specs.declared.event.CCompilerKind.TheVariants.{Gcc}
+use Rattle.sc_model.specs.declared.event.CompilerKind.TheVariants.{C}
 use Rattle.sc_model.specs.declared.event.Status.{Status}
 use Rattle.sc_model.specs.declared.event.Status.TheVariants.{Code, Signal}
 use Rattle.sc_model.specs.declared.message.Variable.{Variable}
 use Rattle.sc_script.specs.Reading.{◌>>=◌, only_if}
 use Rattle.sc_script.specs.Parts.{cut_at}
-use Rattle.sc_script.specs.declared.line.ToolKind.{ToolKind}
-use Rattle.sc_script.specs.declared.line.ToolKind.TheVariants.{Gcc, Unknown}
 
 -- a number below 2^64 in decimal, behind the digits so far
 abbrev pub digits_onto : ℕ → List ℕ → Option ℕ
@@ -117,8 +119,8 @@ status_of (c ∷ word) =
 
 unfoldable pub kind_of : List ℕ → Option ToolKind
 kind_of word =
-    if bytes_eq word (codes "gcc") then Some Gcc
-    else if bytes_eq word (codes "none") then Some Unknown
+    if bytes_eq word (codes "gcc") then Some (Compiler (C Gcc))
+    else if bytes_eq word (codes "none") then Some NotACompiler
     else None
 
 abbrev pub decoded : {E : Type 0} → Result (List ℕ) E → Option (List ℕ)

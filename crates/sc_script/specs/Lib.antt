@@ -2,3 +2,11 @@ pub mod Reading
 pub mod Parts
 pub mod Fields
 pub mod Lines
+pub mod Inputs
+pub mod Frames
+pub mod Scripts
+pub mod Tokens
+pub mod Numbers
+pub mod Replies
+pub mod Counters
+pub mod Commands

@@ -210,5 +210,5 @@ whole None = None
 whole (Some (line, [])) = Some line
 whole (Some (line, w ∷ ws)) = None
 
-unfoldable pub line_of : List (List ℕ) → Option Line
-line_of ws = word ws then (λ p. keyword_of p.0 then (λ k. whole (body k p.1)))
+unfoldable pub line_of_words : List (List ℕ) → Option Line
+line_of_words ws = word ws then (λ p. keyword_of p.0 then (λ k. whole (body k p.1)))

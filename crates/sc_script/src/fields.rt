@@ -1,5 +1,5 @@
 //! What a word says.
-ghost use Rattle.std.specs.Prelude.{◌≡◌, ◌<◌, List, ℕ, IfSome, length};
+ghost use Rattle.std.specs.Prelude.{◌≡◌, ◌<◌, ◌≤◌, List, ℕ, IfOk, IfSome, length};
 ghost use Rattle.std.specs.Option.{option_map};
 ghost use Rattle.std.specs.Str.{is_utf8};
 ghost use Rattle.sc_entry.specs.Keys.{is_key_byte, are_key_bytes, is_store_key};
@@ -7,11 +7,11 @@ ghost use Rattle.sc_script.specs.Reading.{Means};
 ghost use Rattle.sc_script.specs.Fields.{digits_onto, number_of, number_in, stands, hex_digit, byte_of, bytes_onto, escape_onto, bytes_after, bytes_of_token, text_of_bytes, text_of_token, store_key_of, pair_of, variable_of, is_object_name, object_of, status_of, kind_of, hex_of};
 
 use crate::fault::LineError;
-use crate::line::ToolKind;
 use crate::parts::cut;
 use hex::FromHexError;
+use sc_compile::ToolKind;
 use sc_entry::{ByteText, Object, Text};
-use sc_model::{Status, Variable};
+use sc_model::{CCompilerKind, CompilerKind, Status, Variable};
 use std::alloc::Global;
 
 fn digits(number: u64, word: &[u8]) -> Option<u64>
@@ -49,7 +49,8 @@ pub fn number(word: &[u8]) -> Result<u64, LineError>
 
 #[tactic(auto, unfolding(crate::specs::Fields::number_in))]
 pub fn number_within(low: u64, high: u64, word: &[u8]) -> Result<u64, LineError>
-    ensures { Means (number_in low high word.now) result }
+    ensures read { Means (number_in low high word.now) result }
+    ensures within { IfOk result (λ n. (low ≤ n) × (n ≤ high)) }
 {
     let number = number(word)?;
     if low <= number && number <= high {
@@ -250,13 +251,13 @@ pub fn status(word: &[u8]) -> Result<Status, LineError>
 {
     if let [b's', signal @ ..] = word {
         let signal = number_within(1, 126, signal)?;
-        return Ok(Status::Signal(signal));
+        return Ok(Status::Signal(signal as u8));
     }
     if word.is_empty() {
         return Err(LineError::Bad);
     }
     let code = number_within(0, 255, word)?;
-    Ok(Status::Code(code))
+    Ok(Status::Code(code as u8))
 }
 
 #[tactic(auto, unfolding(crate::specs::Fields::kind_of))]
@@ -264,10 +265,10 @@ pub fn kind(word: &[u8]) -> Result<ToolKind, LineError>
     ensures { Means (kind_of word.now) result }
 {
     if word == b"gcc".as_slice() {
-        return Ok(ToolKind::Gcc);
+        return Ok(ToolKind::Compiler(CompilerKind::C(CCompilerKind::Gcc)));
     }
     if word == b"none".as_slice() {
-        return Ok(ToolKind::Unknown);
+        return Ok(ToolKind::NotACompiler);
     }
     Err(LineError::Bad)
 }

@@ -2,15 +2,26 @@
 //! and lines of a report.
 #![tactic(auto)]
 
+mod counters;
+mod draft;
 mod fault;
 mod fields;
+mod frames;
+mod inputs;
+mod laws;
 mod line;
 mod lines;
 mod parts;
+mod reading;
+mod replies;
+mod script;
+mod tokens;
+mod words;
 
-pub use line::{RunLine, Tool, ToolKind};
-pub use lines::line_at;
-pub use parts::Words;
-pub use line::{HoldLine, Line};
-pub use fault::LineError;
-pub use fields::stands_for_itself;
+pub use counters::put_counters;
+pub use laws::{numbers_are_read_again, tokens_are_read_again};
+pub use reading::read_script;
+pub use replies::put_reply;
+pub use script::{Script, ScriptError};
+pub use tokens::{put, put_line, put_named, put_number, put_token};
+pub use words::{Command, parse_words};

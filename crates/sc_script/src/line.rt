@@ -1,30 +1,7 @@
 //! What a line of a script says.
+use sc_compile::{RunLine, Tool};
 use sc_entry::{ByteText, Text};
-use sc_model::{Request, RunAnswer};
-
-/// Which compiler stands at a path.
-#[derive(Clone, Copy)]
-pub enum ToolKind {
-    Gcc,
-    /// No compiler: the path is refused.
-    Unknown,
-}
-
-/// What the probe tells of a path.
-#[derive(Drop)]
-pub struct Tool {
-    pub path: ByteText,
-    /// When the file was changed.
-    pub moment: u64,
-    pub kind: ToolKind,
-}
-
-/// What a run under a key answers.
-#[derive(Drop)]
-pub struct RunLine {
-    pub key: Text,
-    pub answer: RunAnswer,
-}
+use sc_model::Request;
 
 /// What a level holds at the start.
 #[derive(Drop)]

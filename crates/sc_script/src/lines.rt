@@ -1,14 +1,15 @@
 //! Lines, kind by kind.
 ghost use Rattle.std.specs.Prelude.{◌≡◌, []};
 ghost use Rattle.sc_script.specs.Reading.{Means, Reads};
-ghost use Rattle.sc_script.specs.Lines.{version_line, connections_line, tokens_line, limit_line, level_line, hold_line, fail_line, tool_line, run_line, bytes_line, compile_request, ask_line, read_line, times_of, serve_line, keyword_of, body, line_of, objects_onto, no_names, is_new_object, tokens_onto, variables_onto, literal};
+ghost use Rattle.sc_script.specs.Lines.{version_line, connections_line, tokens_line, limit_line, level_line, hold_line, fail_line, tool_line, run_line, bytes_line, compile_request, ask_line, read_line, times_of, serve_line, keyword_of, body, line_of_words, objects_onto, no_names, is_new_object, tokens_onto, variables_onto, literal};
 
 use crate::fault::LineError;
 use crate::fields::{
     hex_bytes, kind, number, number_within, object, status, store_key, text_token, token, variable,
 };
-use crate::line::{HoldLine, Line, RunLine, Tool};
+use crate::line::{HoldLine, Line};
 use crate::parts::Words;
+use sc_compile::{RunLine, Tool};
 use sc_entry::{ByteText, Counts, Items, Object};
 use sc_model::{Compile, Objects, Output, Request, RunAnswer, RunOutput, Variable};
 use std::alloc::Global;
@@ -311,9 +312,9 @@ fn body(alloc: Global, keyword: Keyword, words: &mut Words<'_>) -> Result<Line, 
 }
 
 /// What a line says.
-#[tactic(auto, unfolding(crate::specs::Lines::line_of))]
+#[tactic(auto, unfolding(crate::specs::Lines::line_of_words))]
 pub fn line_at(alloc: Global, words: &mut Words<'_>) -> Result<Line, LineError>
-    ensures { Means (line_of words.old) result }
+    ensures { Means (line_of_words words.old) result }
 {
     let keyword = first_word(words.word()?)?;
     let line = body(alloc, keyword, words)?;

@@ -1,0 +1,291 @@
+//! A script that is read line by line, and where its lines may stand.
+ghost use Rattle.std.specs.Prelude.{◌≡◌, ◌++◌, OnOk, IfOk, replicate};
+ghost use Rattle.sc_model.specs.declared.event.Step.TheVariants.{Serve};
+ghost use Rattle.sc_script.specs.Reading.{Leaves};
+ghost use Rattle.sc_script.specs.Scripts.{nothing, is_level, is_connection, has_room, may_set, held_name, with_version, with_connections, with_tokens, with_limit, with_level, with_hold, with_fail, with_tool, with_run, with_bytes, with_read, with_serve, with_line, finished, Answers};
+
+use crate::fault::LineError;
+use crate::frames::frame;
+use crate::inputs::Inputs;
+use crate::line::{HoldLine, Line};
+use crate::script::{Script, ScriptError};
+use sc_compile::{RunLine, Tool};
+use sc_entry::{ByteText, Counts, Items, NoMemory, Text};
+use sc_model::Step;
+use std::alloc::Global;
+
+/// The most steps that a script may have, each repeat counted.
+const MOST_STEPS: u64 = 10_000_000;
+
+/// What the lines so far say.
+#[derive(Drop)]
+pub struct Draft {
+    /// Whether the first line has come.
+    pub begun: bool,
+    /// Whether input or a step has come.
+    pub started: bool,
+    /// Whether the number of connections has come.
+    pub connected: bool,
+    pub tokens: Option<u64>,
+    pub limit: Option<u64>,
+    pub levels: u64,
+    /// Each level's keys that are held.
+    pub held: Counts,
+    pub holds: Items<(Text, ByteText)>,
+    pub fails: Items<u64>,
+    pub tools: Items<Tool>,
+    pub runs: Items<RunLine>,
+    pub inputs: Inputs,
+    pub steps: Items<Step>,
+}
+
+fn name_held(alloc: Global, level: u64, key: &Text) -> Result<Text, NoMemory>
+    ensures { IfOk result (λ name. name ≡ held_name level key.now) }
+{
+    let key = key.as_str();
+    let name = format!(in alloc; "{level} {key}")?;
+    Ok(Text::from_string(name))
+}
+
+fn serve_often(steps: &mut Items<Step>, connection: u64, times: u64) -> Result<(), NoMemory>
+    ensures { OnOk result (steps.new ≡ steps.old ++ replicate times (Serve connection)) }
+{
+    for _ in 0..times {
+        steps.push(Step::Serve(connection))?;
+    }
+    Ok(())
+}
+
+impl Draft {
+    /// Before the first line.
+    pub fn new(alloc: Global) -> Draft
+        ensures { result ≡ nothing }
+    {
+        Draft {
+            begun: false,
+            started: false,
+            connected: false,
+            tokens: None,
+            limit: None,
+            levels: 0,
+            held: Counts::new(alloc),
+            holds: Items::new(alloc),
+            fails: Items::new(alloc),
+            tools: Items::new(alloc),
+            runs: Items::new(alloc),
+            inputs: Inputs::none(alloc),
+            steps: Items::new(alloc),
+        }
+    }
+
+    fn is_level(&self, level: u64) -> bool
+        ensures { result ≡ is_level level self.now }
+    {
+        level < self.levels
+    }
+
+    fn is_connection(&self, connection: u64) -> bool
+        ensures { result ≡ is_connection connection self.now }
+    {
+        connection < self.inputs.len() as u64
+    }
+
+    /// Whether so many steps more are few enough.
+    fn has_room(&self, times: u64) -> bool
+        ensures { result ≡ has_room times self.now }
+    {
+        let steps = self.steps.len() as u64;
+        steps <= MOST_STEPS && times <= MOST_STEPS - steps
+    }
+
+    fn may_set(&self) -> bool
+        ensures { result ≡ may_set self.now }
+    {
+        self.begun && !self.started
+    }
+
+    #[tactic(auto, unfolding(crate::specs::Scripts::with_version))]
+    fn add_version(&mut self) -> Result<(), LineError>
+        ensures { Leaves (with_version self.old) result self.new }
+    {
+        if self.begun {
+            return Err(LineError::Bad);
+        }
+        self.begun = true;
+        Ok(())
+    }
+
+    #[tactic(auto, unfolding(crate::specs::Scripts::with_connections))]
+    fn add_connections(&mut self, alloc: Global, connections: u64) -> Result<(), LineError>
+        ensures { Leaves (with_connections self.old connections) result self.new }
+    {
+        if !self.may_set() || self.connected {
+            return Err(LineError::Bad);
+        }
+        self.inputs = Inputs::new(alloc, connections)?;
+        self.connected = true;
+        Ok(())
+    }
+
+    #[tactic(auto, unfolding(crate::specs::Scripts::with_tokens))]
+    fn add_tokens(&mut self, tokens: u64) -> Result<(), LineError>
+        ensures { Leaves (with_tokens self.old tokens) result self.new }
+    {
+        if !self.may_set() || self.tokens.is_some() {
+            return Err(LineError::Bad);
+        }
+        self.tokens = Some(tokens);
+        Ok(())
+    }
+
+    #[tactic(auto, unfolding(crate::specs::Scripts::with_limit))]
+    fn add_limit(&mut self, limit: u64) -> Result<(), LineError>
+        ensures { Leaves (with_limit self.old limit) result self.new }
+    {
+        if !self.may_set() || self.limit.is_some() {
+            return Err(LineError::Bad);
+        }
+        self.limit = Some(limit);
+        Ok(())
+    }
+
+    #[tactic(auto, unfolding(crate::specs::Scripts::with_level))]
+    fn add_level(&mut self) -> Result<(), LineError>
+        ensures { Leaves (with_level self.old) result self.new }
+    {
+        if !self.begun || self.levels >= 16 {
+            return Err(LineError::Bad);
+        }
+        self.levels += 1;
+        Ok(())
+    }
+
+    #[tactic(auto, unfolding(crate::specs::Scripts::with_hold))]
+    fn add_hold(&mut self, alloc: Global, hold: HoldLine) -> Result<(), LineError>
+        ensures { Leaves (with_hold self.old hold) result self.new }
+    {
+        let name = name_held(alloc, hold.level, &hold.key)?;
+        if !self.begun || !self.is_level(hold.level) || self.held.get(&name) != 0 {
+            return Err(LineError::Bad);
+        }
+        self.held.add(&name, 1)?;
+        self.holds.push((hold.key, hold.bytes))?;
+        Ok(())
+    }
+
+    #[tactic(auto, unfolding(crate::specs::Scripts::with_fail))]
+    fn add_fail(&mut self, level: u64, call: u64) -> Result<(), LineError>
+        ensures { Leaves (with_fail self.old level call) result self.new }
+    {
+        if !self.begun || !self.is_level(level) {
+            return Err(LineError::Bad);
+        }
+        self.fails.push(call)?;
+        Ok(())
+    }
+
+    #[tactic(auto, unfolding(crate::specs::Scripts::with_tool))]
+    fn add_tool(&mut self, tool: Tool) -> Result<(), LineError>
+        ensures { Leaves (with_tool self.old tool) result self.new }
+    {
+        if !self.begun {
+            return Err(LineError::Bad);
+        }
+        self.tools.push(tool)?;
+        Ok(())
+    }
+
+    #[tactic(auto, unfolding(crate::specs::Scripts::with_run))]
+    fn add_run(&mut self, run: RunLine) -> Result<(), LineError>
+        ensures { Leaves (with_run self.old run) result self.new }
+    {
+        if !self.begun {
+            return Err(LineError::Bad);
+        }
+        self.runs.push(run)?;
+        Ok(())
+    }
+
+    #[tactic(auto, unfolding(crate::specs::Scripts::with_bytes))]
+    fn add_bytes(&mut self, connection: u64, bytes: &[u8]) -> Result<(), LineError>
+        ensures { Leaves (with_bytes self.old connection bytes.now) result self.new }
+    {
+        if !self.begun || !self.is_connection(connection) {
+            return Err(LineError::Bad);
+        }
+        self.inputs.append(connection as usize, bytes)?;
+        self.started = true;
+        Ok(())
+    }
+
+    #[tactic(auto, unfolding(crate::specs::Scripts::with_read))]
+    fn add_read(&mut self, connection: u64, most: u64) -> Result<(), LineError>
+        ensures { Leaves (with_read self.old connection most) result self.new }
+    {
+        if !self.begun || !self.is_connection(connection) || !self.has_room(1) {
+            return Err(LineError::Bad);
+        }
+        self.steps.push(Step::Read(connection, most))?;
+        self.started = true;
+        Ok(())
+    }
+
+    #[tactic(auto, unfolding(crate::specs::Scripts::with_serve))]
+    fn add_serve(&mut self, connection: u64, times: u64) -> Result<(), LineError>
+        ensures { Leaves (with_serve self.old connection times) result self.new }
+    {
+        if !self.begun || !self.is_connection(connection) || !self.has_room(times) {
+            return Err(LineError::Bad);
+        }
+        serve_often(&mut self.steps, connection, times)?;
+        self.started = true;
+        Ok(())
+    }
+
+    /// Adds a line, where it may stand here.
+    #[tactic(auto, unfolding(crate::specs::Scripts::with_line))]
+    pub fn add(&mut self, alloc: Global, line: Line) -> Result<(), LineError>
+        ensures { Leaves (with_line self.old line) result self.new }
+    {
+        match line {
+            Line::Version => self.add_version(),
+            Line::Connections(connections) => self.add_connections(alloc, connections),
+            Line::Tokens(tokens) => self.add_tokens(tokens),
+            Line::Limit(limit) => self.add_limit(limit),
+            Line::Level => self.add_level(),
+            Line::Hold(hold) => self.add_hold(alloc, hold),
+            Line::Fail { level, call } => self.add_fail(level, call),
+            Line::Tool(tool) => self.add_tool(tool),
+            Line::Run(run) => self.add_run(run),
+            Line::Bytes { connection, bytes } => self.add_bytes(connection, bytes.as_slice()),
+            Line::Ask {
+                connection,
+                request,
+            } => {
+                let bytes = frame(alloc, &request)?;
+                self.add_bytes(connection, bytes.as_slice())
+            }
+            Line::Read { connection, most } => self.add_read(connection, most),
+            Line::Serve { connection, times } => self.add_serve(connection, times),
+        }
+    }
+
+    /// The script that the lines so far are, where `number` counts the line behind the last.
+    pub fn finish(self, number: u64) -> Result<Script, ScriptError>
+        ensures { Answers (finished number self) result }
+    {
+        if !self.begun || self.levels != 1 {
+            return Err(ScriptError::Bad(number));
+        }
+        Ok(Script {
+            inputs: self.inputs.into_items(),
+            tokens: self.tokens.unwrap_or(1),
+            limit: self.limit.unwrap_or(8_388_608),
+            holds: self.holds,
+            fails: self.fails,
+            tools: self.tools,
+            runs: self.runs,
+            steps: self.steps,
+        })
+    }
+}
