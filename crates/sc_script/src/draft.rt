@@ -39,6 +39,7 @@ pub struct Draft {
     pub steps: Items<Step>,
 }
 
+#[tactic(auto, unfolding(crate::specs::Scripts::held_name))]
 fn name_held(alloc: Global, level: u64, key: &Text) -> Result<Text, NoMemory>
     ensures { IfOk result (λ name. name ≡ held_name level key.now) }
 {
