@@ -25,3 +25,6 @@ pub use replies::put_reply;
 pub use script::{Script, ScriptError};
 pub use tokens::{put, put_line, put_named, put_number, put_token};
 pub use words::{Command, parse_words};
+
+#[cfg(test)]
+mod tests;
