@@ -122,7 +122,7 @@ same_after n true zero m x (r ∷ rs) p e q h =
 same_after n true (suc i) m x (r ∷ rs) p e q h =
     let a = above_at r.number i rs p h.0 e in
     ap (λ v. given_of r ∷ v) (same_after n true i m x rs p e q h.1)
-        ∙ sym (ap (λ b. cond b (map given_of rs) (given_of r ∷ drop_given n (map given_of rs))) (ne_eqb r.number n (λ z. omega (arith, a, q, z))))
+    ∙ sym (ap (λ b. cond b (map given_of rs) (given_of r ∷ drop_given n (map given_of rs))) (ne_eqb r.number n (λ z. omega (arith, a, q, z))))
 same_after n false zero m x (r ∷ rs) p e q h = refl
 same_after n false (suc i) m x (r ∷ rs) p e q h = ap (λ v. given_of r ∷ v) (same_after n false i m x rs p e q h.1)
 
@@ -188,10 +188,12 @@ module _ (s : Setup) where
       let f = from_hands n e.moment e.what in
       let none : (i : ℕ) → n ≤ i → written i (e ∷ t) ≡ [] = λ i k. w i ∙ h.none i k in
       record {
-          same = map_append ps gs ∙ ap (λ v. v ++ gs) h.same ∙ ap (λ v. left_writes t ++ hands v e.moment e.what) h.handed ∙ sym l;
-          handed = ap (λ v. v + length (hands v e.moment e.what)) h.handed ∙ sym (length-append (given t) (hands (length (given t)) e.moment e.what));
-          below = below_append n ps gs h.below f; apart = apart_append n ps gs h.apart h.below f;
-          stages = stages_append (e ∷ t) n ps gs st f none; none = λ i k. none i (omega arith);
+        same = map_append ps gs ∙ ap (λ v. v ++ gs) h.same ∙ ap (λ v. left_writes t ++ hands v e.moment e.what) h.handed ∙ sym l;
+        handed = ap (λ v. v + length (hands v e.moment e.what)) h.handed ∙ sym (length-append (given t) (hands (length (given t)) e.moment e.what));
+        below = below_append n ps gs h.below f;
+        apart = apart_append n ps gs h.apart h.below f;
+        stages = stages_append (e ∷ t) n ps gs st f none;
+        none = λ i k. none i (omega arith);
       }
 
   write_is : (r : Request) (st : Stage) (kind : LevelKind) (l : ℕ) (b : Bytes) (x : What) → Fits s r (due_stage st kind l b) x → IsWrite x
@@ -238,10 +240,11 @@ module _ (s : Setup) where
       let d : r ≡ p = (cc) in
       let j : n ≡ r.number = q ∙ ap (λ v. v.number) (sym d) in
       let own = written r.number t in
-      let g : written r.number (record { moment = m; owner = OfWrite n; what = x } ∷ t) ≡ At m x ∷ own = subst (λ v. written_by r.number (OfWrite v) m x own ≡ At m x ∷ own) (sym j) (written_same r.number m x own) in
-      (ap (due_back s.levels r.handed) g ∙ stage_step r.handed r.stage (kind_at s.levels r.handed.level) m x own w eb,
-       ap reserved_since g ∙ since_same m x own ∙ ap (λ v. reserved_after v m x) st.1,
-       stages_other t n m x rs (subst (λ v. AllAbove v rs) (sym j) h.0) st.2)
+      let g : written r.number (record { moment = m; owner = OfWrite n; what = x } ∷ t) ≡ At m x ∷ own = subst (λ v. written_by r.number (OfWrite v) m x own ≡ At m x ∷ own) (sym j) (written_same r.number m x own) in (
+        ap (due_back s.levels r.handed) g ∙ stage_step r.handed r.stage (kind_at s.levels r.handed.level) m x own w eb,
+        ap reserved_since g ∙ since_same m x own ∙ ap (λ v. reserved_after v m x) st.1,
+        stages_other t n m x rs (subst (λ v. AllAbove v rs) (sym j) h.0) st.2,
+      )
   stages_after t n b (suc i) m x (r ∷ rs) p e q w eb h st =
       let a = above_at r.number i rs p h.0 e in
       let g = written_other r.number n m x (written r.number t) (λ z. omega (arith, a, q, z)) in
@@ -254,12 +257,13 @@ module _ (s : Setup) where
       let k = length (given t) in
       let none = hands_none k m x w in
       record {
-          same = same_after p.number (ends_write x) i m x ps p e refl h.apart ∙ ap (drop_done (OfWrite p.number) (ends_write x)) h.same
-              ∙ sym (ap (λ v. drop_done (OfWrite p.number) (ends_write x) (left_writes t) ++ v) none ∙ append-nil (drop_done (OfWrite p.number) (ends_write x) (left_writes t)));
-          handed = h.handed ∙ sym (ap length (ap (λ v. given t ++ v) none ∙ append-nil (given t)));
-          below = below_after n (ends_write x) i m x ps h.below; apart = apart_after (ends_write x) i m x ps h.apart;
-          stages = stages_after t p.number (ends_write x) i m x ps p e refl w refl h.apart h.stages;
-          none = λ j l. let b = below_at n i ps p h.below e in written_other j p.number m x (written j t) (λ z. omega (arith, b, z)) ∙ h.none j l;
+        same = same_after p.number (ends_write x) i m x ps p e refl h.apart ∙ ap (drop_done (OfWrite p.number) (ends_write x)) h.same
+            ∙ sym (ap (λ v. drop_done (OfWrite p.number) (ends_write x) (left_writes t) ++ v) none ∙ append-nil (drop_done (OfWrite p.number) (ends_write x) (left_writes t)));
+        handed = h.handed ∙ sym (ap length (ap (λ v. given t ++ v) none ∙ append-nil (given t)));
+        below = below_after n (ends_write x) i m x ps h.below;
+        apart = apart_after (ends_write x) i m x ps h.apart;
+        stages = stages_after t p.number (ends_write x) i m x ps p e refl w refl h.apart h.stages;
+        none = λ j l. let b = below_at n i ps p h.below e in written_other j p.number m x (written j t) (λ z. omega (arith, b, z)) ∙ h.none j l;
       }
 
   pub back_nth : (t : List Event) (ps : List Pending) (n i : ℕ) (p : Pending) → BackTie t ps n → pending_at i ps ≡ Some p → nth i (left_writes t) ≡ Some (given_of p)

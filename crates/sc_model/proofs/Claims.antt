@@ -68,4 +68,3 @@ module _ (s : Script) where
   next_fits t (Read d k) c n x h = absurd h
   next_fits t (Back i) c n x h = absurd h
   next_fits t (Pass k) c n x h = absurd h
-

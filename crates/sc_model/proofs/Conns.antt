@@ -109,11 +109,29 @@ module _ (s : Script) where
   conn_new on input =
       let none : (m : ℕ) → Lawful s.setup (request (s.reader.requests input) m) [] = λ m. tt in
       record {
-          left = input; bytes = refl; queue = on.none; rest = on.nothing; got = refl; closed = refl; out = refl; long = refl; last = refl; outcome = refl; reserved = refl; unfinished = λ r e. (cc);
-          holds = record {
-              following = s.reader.requests (s.reader.rest [] ++ input); comes = sym (on.requests [] input); within = omega arith; ties = ties_new s.setup _; before = λ m l. absurd (omega arith);
-              later = λ m l. refl; absent = λ m l. refl; sends = refl; lawful = none;
-          };
+        left = input;
+        bytes = refl;
+        queue = on.none;
+        rest = on.nothing;
+        got = refl;
+        closed = refl;
+        out = refl;
+        long = refl;
+        last = refl;
+        outcome = refl;
+        reserved = refl;
+        unfinished = λ r e. (cc);
+        holds = record {
+          following = s.reader.requests (s.reader.rest [] ++ input);
+          comes = sym (on.requests [] input);
+          within = omega arith;
+          ties = ties_new s.setup _;
+          before = λ m l. absurd (omega arith);
+          later = λ m l. refl;
+          absent = λ m l. refl;
+          sends = refl;
+          lawful = none;
+        };
       }
 
   -- more bytes come
@@ -126,20 +144,29 @@ module _ (s : Script) where
       let grown : s.reader.requests (taken t ++ bytes) ≡ reqs t ++ s.reader.requests (k.rest ++ bytes) = on.requests (taken t) bytes ∙ ap (λ v. reqs t ++ s.reader.requests (v ++ bytes)) c.rest in
       let longer : length (reqs t) ≤ length (s.reader.requests (taken t ++ bytes)) = omega (arith, length-append (reqs t) (s.reader.requests (k.rest ++ bytes)), ap length grown) in
       record {
-          left = drop n c.left; bytes = whole;
-          queue = ap (drop k.at) grown ∙ drop_append k.at (reqs t) (s.reader.requests (k.rest ++ bytes)) h.within ∙ ap (λ v. v ++ s.reader.requests (k.rest ++ bytes)) c.queue;
-          rest = on.rest (taken t) bytes ∙ ap (λ v. s.reader.rest (v ++ bytes)) c.rest;
-          got = omega (arith, length-append (taken t) bytes, c.got);
-          closed = c.closed; out = c.out; long = c.long; last = c.last; outcome = c.outcome; reserved = c.reserved; unfinished = c.unfinished;
-          holds = record {
-              following = s.reader.requests (s.reader.rest (taken t ++ bytes) ++ drop n c.left);
-              comes = sym (on.requests (taken t ++ bytes) (drop n c.left)) ∙ ap s.reader.requests whole;
-              within = omega (arith, longer, h.within);
-              ties = h.ties; before = h.before; later = h.later;
-              absent = λ m l. h.absent m (omega (arith, longer, l));
-              sends = h.sends ∙ ap (λ v. v ++ sent_of (owned k.at t)) (sym (upto_same (s.reader.requests input) k.at t (Came bytes ∷ t) (λ m l. refl)));
-              lawful = h.lawful;
-          };
+        left = drop n c.left;
+        bytes = whole;
+        queue = ap (drop k.at) grown ∙ drop_append k.at (reqs t) (s.reader.requests (k.rest ++ bytes)) h.within ∙ ap (λ v. v ++ s.reader.requests (k.rest ++ bytes)) c.queue;
+        rest = on.rest (taken t) bytes ∙ ap (λ v. s.reader.rest (v ++ bytes)) c.rest;
+        got = omega (arith, length-append (taken t) bytes, c.got);
+        closed = c.closed;
+        out = c.out;
+        long = c.long;
+        last = c.last;
+        outcome = c.outcome;
+        reserved = c.reserved;
+        unfinished = c.unfinished;
+        holds = record {
+          following = s.reader.requests (s.reader.rest (taken t ++ bytes) ++ drop n c.left);
+          comes = sym (on.requests (taken t ++ bytes) (drop n c.left)) ∙ ap s.reader.requests whole;
+          within = omega (arith, longer, h.within);
+          ties = h.ties;
+          before = h.before;
+          later = h.later;
+          absent = λ m l. h.absent m (omega (arith, longer, l));
+          sends = h.sends ∙ ap (λ v. v ++ sent_of (owned k.at t)) (sym (upto_same (s.reader.requests input) k.at t (Came bytes ∷ t) (λ m l. refl)));
+          lawful = h.lawful;
+        };
       }
 
   -- its end was met
@@ -147,11 +174,29 @@ module _ (s : Script) where
   conn_shut input t k c =
       let h = c.holds in
       record {
-          left = c.left; bytes = c.bytes; queue = c.queue; rest = c.rest; got = c.got; closed = refl; out = c.out; long = c.long; last = c.last; outcome = c.outcome; reserved = c.reserved; unfinished = c.unfinished;
-          holds = record {
-              following = h.following; comes = h.comes; within = h.within; ties = h.ties; before = h.before; later = h.later; absent = h.absent;
-              sends = h.sends ∙ ap (λ v. v ++ sent_of (owned k.at t)) (sym (upto_same (s.reader.requests input) k.at t (Shut ∷ t) (λ m l. refl))); lawful = h.lawful;
-          };
+        left = c.left;
+        bytes = c.bytes;
+        queue = c.queue;
+        rest = c.rest;
+        got = c.got;
+        closed = refl;
+        out = c.out;
+        long = c.long;
+        last = c.last;
+        outcome = c.outcome;
+        reserved = c.reserved;
+        unfinished = c.unfinished;
+        holds = record {
+          following = h.following;
+          comes = h.comes;
+          within = h.within;
+          ties = h.ties;
+          before = h.before;
+          later = h.later;
+          absent = h.absent;
+          sends = h.sends ∙ ap (λ v. v ++ sent_of (owned k.at t)) (sym (upto_same (s.reader.requests input) k.at t (Shut ∷ t) (λ m l. refl)));
+          lawful = h.lawful;
+        };
       }
 
   pub came_is : (input : List ℕ) (t : List Mine) (k : Conn) → ConnTie input t k → 0 < length k.queue → k.at < length (reqs t)
@@ -162,7 +207,7 @@ module _ (s : Script) where
   current_is input t k c l =
       let a = came_is input t k c l in
       ap (λ v. get_or v 0 no_request) (sym c.queue) ∙ drop_get k.at (reqs t) no_request
-          ∙ sym (get_or_append_left (reqs t) c.holds.following no_request k.at a) ∙ ap (λ v. get_or v k.at no_request) c.holds.comes
+      ∙ sym (get_or_append_left (reqs t) c.holds.following no_request k.at a) ∙ ap (λ v. get_or v k.at no_request) c.holds.comes
 
   -- one event of the request that is served, which may then be over
   holds_did : (rs : List Request) (t : List Mine) (n : ℕ) (p : Phase) (z : ℕ) (x : What) → n < length (reqs t) → Holds rs t n p → Fits s.setup (request rs n) (due_at s.setup (request rs n) p) x → Holds rs (Did n z x ∷ t) n (after s.setup (request rs n) p z x)
@@ -172,16 +217,18 @@ module _ (s : Script) where
       let other : (m : ℕ) → (n ≡ m → ⊥) → owned m (Did n z x ∷ t) ≡ owned m t = λ m d. owned_other m n z x t d in
       let ties : Ties s.setup r (At z x ∷ owned n t) (after s.setup r p z x) = ties_step s.setup r (owned n t) p z x h.ties f in
       record {
-          following = h.following; comes = h.comes; within = h.within;
-          ties = subst (λ v. Ties s.setup r v (after s.setup r p z x)) (sym same) ties;
-          before = λ m l. ap (λ v. due s.setup (request rs m) v) (other m (λ e. omega arith)) ∙ h.before m l;
-          later = λ m l. other m (λ e. omega arith) ∙ h.later m l;
-          absent = λ m l. other m (λ e. omega arith) ∙ h.absent m l;
-          sends = ap (λ v. v ++ sent_by x) h.sends ∙ append_assoc (frames_upto s.setup rs n t) (sent_of (owned n t)) (sent_by x)
-              ∙ ap (λ v. v ++ (sent_of (owned n t) ++ sent_by x)) (sym (upto_same rs n t (Did n z x ∷ t) (λ m l. other m (λ e. omega arith))))
-              ∙ ap (λ v. frames_upto s.setup rs n (Did n z x ∷ t) ++ sent_of v) (sym same);
-          lawful = λ m. ⊎_elim (λ (e : n ≡ m). subst (λ j. Lawful s.setup (request rs j) (owned j (Did n z x ∷ t))) e (subst (λ v. Lawful s.setup r v) (sym same) ties.lawful))
-              (λ (d : n ≡ m → ⊥). subst (λ v. Lawful s.setup (request rs m) v) (sym (other m d)) (h.lawful m)) (cases_eq n m);
+        following = h.following;
+        comes = h.comes;
+        within = h.within;
+        ties = subst (λ v. Ties s.setup r v (after s.setup r p z x)) (sym same) ties;
+        before = λ m l. ap (λ v. due s.setup (request rs m) v) (other m (λ e. omega arith)) ∙ h.before m l;
+        later = λ m l. other m (λ e. omega arith) ∙ h.later m l;
+        absent = λ m l. other m (λ e. omega arith) ∙ h.absent m l;
+        sends = ap (λ v. v ++ sent_by x) h.sends ∙ append_assoc (frames_upto s.setup rs n t) (sent_of (owned n t)) (sent_by x)
+            ∙ ap (λ v. v ++ (sent_of (owned n t) ++ sent_by x)) (sym (upto_same rs n t (Did n z x ∷ t) (λ m l. other m (λ e. omega arith))))
+            ∙ ap (λ v. frames_upto s.setup rs n (Did n z x ∷ t) ++ sent_of v) (sym same);
+        lawful = λ m. ⊎_elim (λ (e : n ≡ m). subst (λ j. Lawful s.setup (request rs j) (owned j (Did n z x ∷ t))) e (subst (λ v. Lawful s.setup r v) (sym same) ties.lawful))
+            (λ (d : n ≡ m → ⊥). subst (λ v. Lawful s.setup (request rs m) v) (sym (other m d)) (h.lawful m)) (cases_eq n m);
       }
 
   -- the next request, where this one is over
@@ -191,13 +238,16 @@ module _ (s : Script) where
       let none = h.later (suc n) (omega arith) in
       let all_of = frames_are s.setup r (owned n t) h.ties.lawful ∙ ap (λ v. sent_of (owned n t) ++ owed v) h.ties.is_due ∙ append-nil (sent_of (owned n t)) in
       record {
-          following = h.following; comes = h.comes; within = omega arith;
-          ties = subst (λ v. Ties s.setup (request rs (suc n)) v AtBegin) (sym none) (ties_new s.setup _);
-          before = λ m j. ⊎_elim (λ (d : m ≡ n). subst (λ v. due_of s.setup rs v t ≡ Over) (sym d) h.ties.is_due) (λ (d : m ≡ n → ⊥). h.before m (let z : m < n = omega (arith, d) in z)) (cases_eq m n);
-          later = λ m j. h.later m (omega arith); absent = h.absent;
-          sends = h.sends ∙ ap (λ v. frames_upto s.setup rs n t ++ v) (sym all_of) ∙ sym (append-nil (frames_upto s.setup rs n t ++ frames s.setup r (owned n t)))
-              ∙ ap (λ v. (frames_upto s.setup rs n t ++ frames s.setup r (owned n t)) ++ sent_of v) (sym none);
-          lawful = h.lawful;
+        following = h.following;
+        comes = h.comes;
+        within = omega arith;
+        ties = subst (λ v. Ties s.setup (request rs (suc n)) v AtBegin) (sym none) (ties_new s.setup _);
+        before = λ m j. ⊎_elim (λ (d : m ≡ n). subst (λ v. due_of s.setup rs v t ≡ Over) (sym d) h.ties.is_due) (λ (d : m ≡ n → ⊥). h.before m (let z : m < n = omega (arith, d) in z)) (cases_eq m n);
+        later = λ m j. h.later m (omega arith);
+        absent = h.absent;
+        sends = h.sends ∙ ap (λ v. frames_upto s.setup rs n t ++ v) (sym all_of) ∙ sym (append-nil (frames_upto s.setup rs n t ++ frames s.setup r (owned n t)))
+            ∙ ap (λ v. (frames_upto s.setup rs n t ++ frames s.setup r (owned n t)) ++ sent_of v) (sym none);
+        lawful = h.lawful;
       }
 
   -- what is the same before the request is settled
@@ -221,9 +271,19 @@ module _ (s : Script) where
   settle_tie input t k AtOver l b h =
       let none = h.later (suc k.at) (omega arith) in
       record {
-          left = b.left; bytes = b.bytes; queue = sym (drop_suc k.at (reqs t)) ∙ ap (drop 1) b.queue; rest = b.rest; got = b.got; closed = b.closed; out = b.out; long = b.long;
-          last = ap last_at none; outcome = ap outcome_at none; reserved = ap reserved_since none;
-          holds = over_holds (s.reader.requests input) t k.at l h; unfinished = λ r e. (cc);
+        left = b.left;
+        bytes = b.bytes;
+        queue = sym (drop_suc k.at (reqs t)) ∙ ap (drop 1) b.queue;
+        rest = b.rest;
+        got = b.got;
+        closed = b.closed;
+        out = b.out;
+        long = b.long;
+        last = ap last_at none;
+        outcome = ap outcome_at none;
+        reserved = ap reserved_since none;
+        holds = over_holds (s.reader.requests input) t k.at l h;
+        unfinished = λ r e. (cc);
       }
   settle_tie input t k (AtWrite y [] g z) l b h = stays input t k (AtWrite y [] g z) b h (λ r e. (cc))
   settle_tie input t k (AtWrite y (j ∷ js) g z) l b h = stays input t k (AtWrite y (j ∷ js) g z) b h (λ r e. start_not (kind_at s.setup.levels j) j y e)
@@ -252,27 +312,35 @@ module _ (s : Script) where
       let h = holds_did (s.reader.requests input) t k.at k.phase z x w c.holds f2 in
       let same = owned_same k.at z x t in
       settle_tie input (Did k.at z x ∷ t) (told_by s.setup k z x) (after s.setup (current k) k.phase z x) w
-          (record {
-              left = c.left; bytes = c.bytes; queue = c.queue; rest = c.rest; got = c.got; closed = c.closed; out = frame_bytes-append s.setup (sent t) (sent_by x) ∙ ap (λ v. v ++ frame_bytes s.setup (sent_by x)) c.out; long = long_same k.at z x t ∙ ap (λ v. long_after v x) c.long;
-              last = ap last_at same; outcome = ap outcome_at same ∙ outcome_same z x (owned k.at t) ∙ ap (λ v. outcome_after v z x) c.outcome;
-              reserved = ap reserved_since same ∙ reserved_same z x (owned k.at t) ∙ ap (λ v. reserved_after v z x) c.reserved;
-          })
-          (subst (λ v. Holds (s.reader.requests input) (Did k.at z x ∷ t) k.at (after s.setup v k.phase z x)) (sym r) h)
+      (record {
+        left = c.left;
+        bytes = c.bytes;
+        queue = c.queue;
+        rest = c.rest;
+        got = c.got;
+        closed = c.closed;
+        out = frame_bytes-append s.setup (sent t) (sent_by x) ∙ ap (λ v. v ++ frame_bytes s.setup (sent_by x)) c.out;
+        long = long_same k.at z x t ∙ ap (λ v. long_after v x) c.long;
+        last = ap last_at same;
+        outcome = ap outcome_at same ∙ outcome_same z x (owned k.at t) ∙ ap (λ v. outcome_after v z x) c.outcome;
+        reserved = ap reserved_since same ∙ reserved_same z x (owned k.at t) ∙ ap (λ v. reserved_after v z x) c.reserved;
+      })
+      (subst (λ v. Holds (s.reader.requests input) (Did k.at z x ∷ t) k.at (after s.setup v k.phase z x)) (sym r) h)
 
   -- it is the first that isn't finished
   pub is_first : (input : List ℕ) (t : List Mine) (k : Conn) → ConnTie input t k → 0 < length k.queue → IsFirst s (s.reader.requests input) t k.at
   is_first input t k c l = record {
-      came = came_is input t k c l;
-      unfinished = λ o. c.unfinished (request (s.reader.requests input) k.at) (sym c.holds.ties.is_due ∙ o);
-      before = c.holds.before;
+    came = came_is input t k c l;
+    unfinished = λ o. c.unfinished (request (s.reader.requests input) k.at) (sym c.holds.ties.is_due ∙ o);
+    before = c.holds.before;
   }
 
   -- no other is
   pub first_only : (input : List ℕ) (t : List Mine) (k : Conn) (n : ℕ) → ConnTie input t k → IsFirst s (s.reader.requests input) t n → n ≡ k.at
   first_only input t k n c f =
       ⊎_elim (λ (e : n ≡ k.at). e) (λ (e : (n < k.at) ⊎ (k.at < n)).
-          ⊎_elim (λ (l : n < k.at). absurd (f.unfinished (c.holds.before n l)))
-                 (λ (l : k.at < n). absurd (c.unfinished (request (s.reader.requests input) k.at) (sym c.holds.ties.is_due ∙ f.before k.at l))) e) (cases_order n k.at)
+      ⊎_elim (λ (l : n < k.at). absurd (f.unfinished (c.holds.before n l)))
+      (λ (l : k.at < n). absurd (c.unfinished (request (s.reader.requests input) k.at) (sym c.holds.ties.is_due ∙ f.before k.at l))) e) (cases_order n k.at)
 
   -- it waits in the queue
   pub first_waits : (input : List ℕ) (t : List Mine) (k : Conn) (n : ℕ) → ConnTie input t k → IsFirst s (s.reader.requests input) t n → 0 < length k.queue
@@ -284,8 +352,8 @@ module _ (s : Script) where
   upto_later rs t n zero h l = absurd (omega arith)
   upto_later rs t n (suc L) h l =
       ⊎_elim (λ (e : n ≡ L). ap (λ v. frames_upto s.setup rs (suc v) t) (sym e))
-          (λ (d : n ≡ L → ⊥). let z : n < L = omega (arith, d) in
-              ap (λ v. frames_upto s.setup rs L t ++ frames s.setup (request rs L) v) (h L z) ∙ append-nil (frames_upto s.setup rs L t) ∙ upto_later rs t n L h z) (cases_eq n L)
+      (λ (d : n ≡ L → ⊥). let z : n < L = omega (arith, d) in
+      ap (λ v. frames_upto s.setup rs L t ++ frames s.setup (request rs L) v) (h L z) ∙ append-nil (frames_upto s.setup rs L t) ∙ upto_later rs t n L h z) (cases_eq n L)
 
   -- what a connection was sent is a prefix of what its requests are owed, one request after the other
   pub conn_prefix : (input : List ℕ) (t : List Mine) (k : Conn) → ConnTie input t k → IsPrefixOf (sent t) (frames_upto s.setup (s.reader.requests input) (length (reqs t)) t)
@@ -295,10 +363,11 @@ module _ (s : Script) where
       let n = k.at in
       let own = owned n t in
       let all_of = frames_are s.setup (request rs n) own h.ties.lawful in
-      ⊎_elim (λ (l : n < length (reqs t)).
-              (owed (due_of s.setup rs n t),
-               ap (λ v. v ++ owed (due_of s.setup rs n t)) h.sends ∙ append_assoc (frames_upto s.setup rs n t) (sent_of own) (owed (due_of s.setup rs n t))
-                  ∙ ap (λ v. frames_upto s.setup rs n t ++ v) (sym all_of) ∙ sym (upto_later rs t n (length (reqs t)) h.later l)))
-          (λ (l : length (reqs t) ≤ n).
-              let e : n ≡ length (reqs t) = omega (arith, h.within) in
-              ([], append-nil (sent t) ∙ h.sends ∙ ap (λ v. frames_upto s.setup rs n t ++ sent_of v) (h.absent n l) ∙ append-nil (frames_upto s.setup rs n t) ∙ ap (λ v. frames_upto s.setup rs v t) e)) (cases_lt n (length (reqs t)))
+      ⊎_elim (λ (l : n < length (reqs t)). (
+        owed (due_of s.setup rs n t),
+        ap (λ v. v ++ owed (due_of s.setup rs n t)) h.sends ∙ append_assoc (frames_upto s.setup rs n t) (sent_of own) (owed (due_of s.setup rs n t))
+            ∙ ap (λ v. frames_upto s.setup rs n t ++ v) (sym all_of) ∙ sym (upto_later rs t n (length (reqs t)) h.later l),
+      ))
+      (λ (l : length (reqs t) ≤ n).
+      let e : n ≡ length (reqs t) = omega (arith, h.within) in
+      ([], append-nil (sent t) ∙ h.sends ∙ ap (λ v. frames_upto s.setup rs n t ++ sent_of v) (h.absent n l) ∙ append-nil (frames_upto s.setup rs n t) ∙ ap (λ v. frames_upto s.setup rs v t) e)) (cases_lt n (length (reqs t)))

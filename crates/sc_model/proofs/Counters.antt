@@ -27,19 +27,19 @@ length_set (x ∷ xs) (suc i) v = let ih = length_set xs i v in omega (arith, ih
 pub row_at : (ls : List LevelStats) (n l k : ℕ) (w before : LevelStats) → length ls ≡ n → get_or ls l no_level_stats ≡ before → get_or (counted_at (Some k) w ls) l no_level_stats ≡ cond (nat_lt l n && eqb k l) (add_level before w) before
 row_at ls n l k w before len e =
     ⊎_elim (λ (r : l < n).
-            ⊎_elim (λ (q : k ≡ l).
-                    ap (λ v. get_or (set ls v (add_level (get_or ls v no_level_stats) w)) l no_level_stats) q
-                        ∙ get_or-set_same ls l (add_level (get_or ls l no_level_stats) w) no_level_stats (omega (arith, len, r))
-                        ∙ ap (λ v. add_level v w) e ∙ sym (ap (λ b. cond b (add_level before w) before) (and_from (nat_lt l n) (eqb k l) (lt-ltb l n r) (eq-eqb k l q))))
-                (λ (q : k ≡ l → ⊥).
-                    get_or-set_other ls k l (add_level (get_or ls k no_level_stats) w) no_level_stats (λ z. q (sym z)) ∙ e
-                        ∙ sym (ap (λ b. cond (nat_lt l n && b) (add_level before w) before) (ne_eqb k l q) ∙ and_no (nat_lt l n)))
-                (cases_eq k l))
-        (λ (r : n ≤ l).
-            let out : get_or ls l no_level_stats ≡ no_level_stats = get_past ls l no_level_stats (omega (arith, len, r)) in
-            get_past (set ls k (add_level (get_or ls k no_level_stats) w)) l no_level_stats (omega (arith, len, r, length_set ls k (add_level (get_or ls k no_level_stats) w)))
-                ∙ sym out ∙ e ∙ sym (ap (λ b. cond (b && eqb k l) (add_level before w) before) (le-ltb l n r)))
-        (cases_lt l n)
+    ⊎_elim (λ (q : k ≡ l).
+    ap (λ v. get_or (set ls v (add_level (get_or ls v no_level_stats) w)) l no_level_stats) q
+    ∙ get_or-set_same ls l (add_level (get_or ls l no_level_stats) w) no_level_stats (omega (arith, len, r))
+    ∙ ap (λ v. add_level v w) e ∙ sym (ap (λ b. cond b (add_level before w) before) (and_from (nat_lt l n) (eqb k l) (lt-ltb l n r) (eq-eqb k l q))))
+    (λ (q : k ≡ l → ⊥).
+    get_or-set_other ls k l (add_level (get_or ls k no_level_stats) w) no_level_stats (λ z. q (sym z)) ∙ e
+    ∙ sym (ap (λ b. cond (nat_lt l n && b) (add_level before w) before) (ne_eqb k l q) ∙ and_no (nat_lt l n)))
+    (cases_eq k l))
+    (λ (r : n ≤ l).
+    let out : get_or ls l no_level_stats ≡ no_level_stats = get_past ls l no_level_stats (omega (arith, len, r)) in
+    get_past (set ls k (add_level (get_or ls k no_level_stats) w)) l no_level_stats (omega (arith, len, r, length_set ls k (add_level (get_or ls k no_level_stats) w)))
+    ∙ sym out ∙ e ∙ sym (ap (λ b. cond (b && eqb k l) (add_level before w) before) (le-ltb l n r)))
+    (cases_lt l n)
   where
     and_no : (b : Bool) → cond (b && false) (add_level before w) before ≡ before
     and_no true = refl

@@ -53,18 +53,18 @@ put_seen : (files : Files) (q d p b : List ℕ) → find_file (put_file files q 
 put_seen files q d p b e =
     let g : cond (eq_by_cmp (slice_cmp nat_cmp) p q) (Some d) (find_file files p) ≡ Some b = sym (get-insert nat_list_cmp_total files q d p) ∙ e in
     ⊎_elim (λ (y : eq_by_cmp (slice_cmp nat_cmp) p q ≡ true).
-            let z : Some d ≡ Some b = subst (λ v. cond v (Some d) (find_file files p) ≡ Some b) y g in
-            inr (same_path p q y, (cc)))
-        (λ (y : eq_by_cmp (slice_cmp nat_cmp) p q ≡ false). inl (subst (λ v. cond v (Some d) (find_file files p) ≡ Some b) y g))
-        (cases_Bool (eq_by_cmp (slice_cmp nat_cmp) p q))
+    let z : Some d ≡ Some b = subst (λ v. cond v (Some d) (find_file files p) ≡ Some b) y g in
+    inr (same_path p q y, (cc)))
+    (λ (y : eq_by_cmp (slice_cmp nat_cmp) p q ≡ false). inl (subst (λ v. cond v (Some d) (find_file files p) ≡ Some b) y g))
+    (cases_Bool (eq_by_cmp (slice_cmp nat_cmp) p q))
 
 drop_part_of : (files : Files) (q p b : List ℕ) → find_file (drop_file files q) p ≡ Some b → find_file files p ≡ Some b
 drop_part_of files q p b e =
     let g : cond (eq_by_cmp (slice_cmp nat_cmp) p q) None (find_file files p) ≡ Some b = sym (get-remove nat_list_cmp_total files q p) ∙ e in
     ⊎_elim (λ (y : eq_by_cmp (slice_cmp nat_cmp) p q ≡ true).
-            let z : None ≡ Some b = subst (λ v. cond v None (find_file files p) ≡ Some b) y g in (cc))
-        (λ (y : eq_by_cmp (slice_cmp nat_cmp) p q ≡ false). subst (λ v. cond v None (find_file files p) ≡ Some b) y g)
-        (cases_Bool (eq_by_cmp (slice_cmp nat_cmp) p q))
+    let z : None ≡ Some b = subst (λ v. cond v None (find_file files p) ≡ Some b) y g in (cc))
+    (λ (y : eq_by_cmp (slice_cmp nat_cmp) p q ≡ false). subst (λ v. cond v None (find_file files p) ≡ Some b) y g)
+    (cases_Bool (eq_by_cmp (slice_cmp nat_cmp) p q))
 
 evicts_part : (capacity n : ℕ) (ps : List (Bool × List ℕ)) (v w : Level) → Evicts capacity n ps v w → IsPart w.main v.main
 evicts_part capacity n [] v w h p b e = ap (λ m. find_file m p) (sym h.0) ∙ e
@@ -124,17 +124,17 @@ filled_held kind (WriteRefused c) v w k b h e = same_held kind v w k b h.1.0 e
 committed_held : (kind : LevelKind) (l : ℕ) (i d : List ℕ) (how : Written) (v w : Level) (k b : List ℕ) → IsStoreKey k → Commits kind i d how v w → held kind w k ≡ Some b → (held kind v k ≡ Some b) ⊎ PutsAt (Committed l i d how) k b
 committed_held Disk l i d WriteDone v w k b s h e =
     ⊎_elim (λ (y : find_file v.main (make_key_path k) ≡ Some b). inl y) (λ (y : (make_key_path k ≡ make_key_path i) × (d ≡ b)). inr (sym (key_same k i s h.0 y.0), y.1))
-        (put_seen v.main (make_key_path i) d (make_key_path k) b (ap (λ m. find_file m (make_key_path k)) (sym h.1) ∙ e))
+    (put_seen v.main (make_key_path i) d (make_key_path k) b (ap (λ m. find_file m (make_key_path k)) (sym h.1) ∙ e))
 committed_held Disk l i d (WriteRefused c) v w k b s h e = inl (same_held Disk v w k b h.1.0 e)
 committed_held Remote l i d how v w k b s h e = absurd h
 
 wrote_held : (kind : LevelKind) (l : ℕ) (i d : List ℕ) (mark : Bool) (x : Causes) (how : Written) (v w : Level) (k b : List ℕ) → IsStoreKey k → Puts_remote kind x i d how v w → held kind w k ≡ Some b → (held kind v k ≡ Some b) ⊎ PutsAt (Wrote l i d Whole mark how) k b
 wrote_held Remote l i d mark x WriteDone v w k b s h e =
     let seen : find_file (put_file v.main (normalize_key i) d) (normalize_key k) ≡ Some b =
-        ⊎_elim (λ (y : w.main ≡ put_file v.main (normalize_key i) d). ap (λ m. find_file m (normalize_key k)) (sym y) ∙ e)
-            (λ (y : IsPart w.main (put_file v.main (normalize_key i) d) × (held Remote w i ≡ Some d) × Rose v.losses w.losses). y.0 (normalize_key k) b e) h.4 in
+    ⊎_elim (λ (y : w.main ≡ put_file v.main (normalize_key i) d). ap (λ m. find_file m (normalize_key k)) (sym y) ∙ e)
+    (λ (y : IsPart w.main (put_file v.main (normalize_key i) d) × (held Remote w i ≡ Some d) × Rose v.losses w.losses). y.0 (normalize_key k) b e) h.4 in
     ⊎_elim (λ (y : find_file v.main (normalize_key k) ≡ Some b). inl y) (λ (y : (normalize_key k ≡ normalize_key i) × (d ≡ b)). inr (sym (normal_same k i s h.0 y.0), y.1))
-        (put_seen v.main (normalize_key i) d (normalize_key k) b seen)
+    (put_seen v.main (normalize_key i) d (normalize_key k) b seen)
 wrote_held Remote l i d mark x (WriteRefused c) v w k b s h e = inl (keeps_held Remote v w k b h.1 e)
 wrote_held Disk l i d mark x how v w k b s h e = absurd h
 

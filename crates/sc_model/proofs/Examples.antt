@@ -75,20 +75,24 @@ remote = record { kind = Remote; wrapped = false; configured = ModeReadWrite; mo
 
 abbrev setup : Setup
 setup = record {
-    codec = record { payload = λ g. []; entry = λ os. 1 ∷ []; objects = read_entry };
-    compilers = record { reads = λ c. None; keys = λ c k. None; color = λ c. ColorAuto; pretty = λ c. codes "/o"; is_note = λ c l. false; is_valid = λ b. true; kind_text = λ t. codes "C/C++"; full_text = λ t. codes "c [gcc]" };
-    workshop = λ k rs os. None;
-    scheduler = record { url = None; retry_text = λ n. [] };
-    store = record { location = []; type_name = []; basedirs = []; basedir_texts = []; flag = false; max_size = None };
-    levels = remote ∷ []; policy = Single; tokens = 1; limit = 100;
+  codec = record { payload = λ g. []; entry = λ os. 1 ∷ []; objects = read_entry };
+  compilers = record { reads = λ c. None; keys = λ c k. None; color = λ c. ColorAuto; pretty = λ c. codes "/o"; is_note = λ c l. false; is_valid = λ b. true; kind_text = λ t. codes "C/C++"; full_text = λ t. codes "c [gcc]" };
+  workshop = λ k rs os. None;
+  scheduler = record { url = None; retry_text = λ n. [] };
+  store = record { location = []; type_name = []; basedirs = []; basedir_texts = []; flag = false; max_size = None };
+  levels = remote ∷ [];
+  policy = Single;
+  tokens = 1;
+  limit = 100;
 }
 
 abbrev script : Request → Script
 script r = record {
-    setup = setup;
-    inputs = [] ∷ [];
-    reader = record { requests = λ b. r ∷ []; rest = λ b. []; ends = λ b c. IsOpen };
-    first = no_stats; first_levels = no_level_stats ∷ [];
+  setup = setup;
+  inputs = [] ∷ [];
+  reader = record { requests = λ b. r ∷ []; rest = λ b. []; ends = λ b c. IsOpen };
+  first = no_stats;
+  first_levels = no_level_stats ∷ [];
 }
 
 abbrev task : Task
@@ -135,7 +139,6 @@ row_1_lawful =
 trace_of : List Own → List Event
 trace_of [] = []
 trace_of (At m x ∷ own) = (record { moment = m; owner = OfRequest 0 0; what = x }) ∷ trace_of own
-
 
 -- row 2's second compile: seven events
 abbrev hit_row : ℕ → List ℕ → List Own → List Own

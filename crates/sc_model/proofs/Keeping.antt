@@ -130,8 +130,8 @@ module _ (s : Setup) where
       pick_one (Hit b mark) has miss =
           let own2 = At m (Asked j k mode (Hit b mark) hs) ∷ own in
           keeps_cond s r own2 (is_late job m) (missed_phase job (asked_miss s job m (Hit b mark)) m) (AtPlace job b (m - job.at))
-              (missed_keeps r own2 job (asked_miss s job m (Hit b mark)) m has miss refl refl)
-              (has, refl, ap (λ v. m - v.at) h.job_is, subst (λ v. HasHit job.found.key b (At m (Asked j k v (Hit b mark) hs) ∷ own)) (sym em) (inl (ek, refl)))
+          (missed_keeps r own2 job (asked_miss s job m (Hit b mark)) m has miss refl refl)
+          (has, refl, ap (λ v. m - v.at) h.job_is, subst (λ v. HasHit job.found.key b (At m (Asked j k v (Hit b mark) hs) ∷ own)) (sym em) (inl (ek, refl)))
       pick_one Miss has miss =
           let own2 = At m (Asked j k mode Miss hs) ∷ own in
           keeps_cond s r own2 (nat_lt (suc l) (length s.levels)) (AtAsk job (suc l)) (missed_phase job (asked_miss s job m Miss) m) has (missed_keeps r own2 job (asked_miss s job m Miss) m has miss refl refl)
@@ -172,16 +172,16 @@ module _ (s : Setup) where
       let j = judge work.job work.miss out in
       let job = h.has.job_is in
       judged_keeps r own2 j work.miss work.dist (m - work.from) work.job.task (run_bytes s work.job true out)
-          (ending_of (run_notes s r work.job.task (RanOutput out)) (finish_run s r work.job work.miss (RanOutput out)))
-          (record {
-              compile = h.has.compile;
-              last_is = ap (λ v. finish_run s r v (miss_of s r own) (RanOutput out)) job ∙ ap (λ v. finish_run s r work.job v (RanOutput out)) h.miss_is;
-              notes_are = ap (λ v. run_notes s r v (RanOutput out)) h.has.task_is;
-              carries = ⊎_elim (λ (e : finish_judged s r j out.output ≡ finish_output s r out.output). inl (inl (inl e)))
-                  (λ (e : (chain : List (List ℕ)) × (out.objects ≡ Broken chain) × (finish_judged s r j out.output ≡ finish_fatal s r chain)). inr (inl e))
-                  (judged_carries r j out.output out.objects (λ chain e. broken_is out.output.status work.miss work.job.found.cacheable out.objects chain e));
-          })
-          (λ xs e. (ap (λ v. run_bytes s v true out) job, put_compile r own2 work.job.found.key (entry_of s out) h.has.compile (ap (λ v. v.found.key) job) (inl (stored_is out.output.status work.miss work.job.found.cacheable out.objects xs e, refl))))
+      (ending_of (run_notes s r work.job.task (RanOutput out)) (finish_run s r work.job work.miss (RanOutput out)))
+      (record {
+        compile = h.has.compile;
+        last_is = ap (λ v. finish_run s r v (miss_of s r own) (RanOutput out)) job ∙ ap (λ v. finish_run s r work.job v (RanOutput out)) h.miss_is;
+        notes_are = ap (λ v. run_notes s r v (RanOutput out)) h.has.task_is;
+        carries = ⊎_elim (λ (e : finish_judged s r j out.output ≡ finish_output s r out.output). inl (inl (inl e)))
+            (λ (e : (chain : List (List ℕ)) × (out.objects ≡ Broken chain) × (finish_judged s r j out.output ≡ finish_fatal s r chain)). inr (inl e))
+            (judged_carries r j out.output out.objects (λ chain e. broken_is out.output.status work.miss work.job.found.cacheable out.objects chain e));
+      })
+      (λ xs e. (ap (λ v. run_bytes s v true out) job, put_compile r own2 work.job.found.key (entry_of s out) h.has.compile (ap (λ v. v.found.key) job) (inl (stored_is out.output.status work.miss work.job.found.cacheable out.objects xs e, refl))))
   ran_keeps r own work m (RanError out) h = (tt, record { compile = h.has.compile; last_is = refl; notes_are = ap (λ v. run_notes s r v (RanError out)) h.has.task_is; carries = inl (inl (inl refl)) })
   ran_keeps r own work m (RanFault chain) h = (tt, record { compile = h.has.compile; last_is = refl; notes_are = ap (λ v. run_notes s r v (RanFault chain)) h.has.task_is; carries = inr (inl refl) })
 
@@ -191,16 +191,16 @@ module _ (s : Setup) where
       let j = judge work.job work.miss out in
       let job = h.has.job_is in
       judged_keeps r own2 j work.miss (DistOk server) (m - work.from) work.job.task (run_bytes s work.job false out)
-          (ending_of [] (finish_dist s r work.job work.miss (DistDone server out)))
-          (record {
-              compile = h.has.compile;
-              last_is = ap (λ v. finish_dist s r v (miss_of s r own) (DistDone server out)) job ∙ ap (λ v. finish_dist s r work.job v (DistDone server out)) h.miss_is;
-              notes_are = refl;
-              carries = ⊎_elim (λ (e : finish_judged s r j out.output ≡ finish_output s r out.output). inl (inl (inl e)))
-                  (λ (e : (chain : List (List ℕ)) × (out.objects ≡ Broken chain) × (finish_judged s r j out.output ≡ finish_fatal s r chain)). inr (inl e))
-                  (judged_carries r j out.output out.objects (λ chain e. broken_is out.output.status work.miss work.job.found.cacheable out.objects chain e));
-          })
-          (λ xs e. (ap (λ v. run_bytes s v false out) job, put_compile r own2 work.job.found.key (entry_of s out) h.has.compile (ap (λ v. v.found.key) job) (inl (stored_is out.output.status work.miss work.job.found.cacheable out.objects xs e, refl))))
+      (ending_of [] (finish_dist s r work.job work.miss (DistDone server out)))
+      (record {
+        compile = h.has.compile;
+        last_is = ap (λ v. finish_dist s r v (miss_of s r own) (DistDone server out)) job ∙ ap (λ v. finish_dist s r work.job v (DistDone server out)) h.miss_is;
+        notes_are = refl;
+        carries = ⊎_elim (λ (e : finish_judged s r j out.output ≡ finish_output s r out.output). inl (inl (inl e)))
+            (λ (e : (chain : List (List ℕ)) × (out.objects ≡ Broken chain) × (finish_judged s r j out.output ≡ finish_fatal s r chain)). inr (inl e))
+            (judged_carries r j out.output out.objects (λ chain e. broken_is out.output.status work.miss work.job.found.cacheable out.objects chain e));
+      })
+      (λ xs e. (ap (λ v. run_bytes s v false out) job, put_compile r own2 work.job.found.key (entry_of s out) h.has.compile (ap (λ v. v.found.key) job) (inl (stored_is out.output.status work.miss work.job.found.cacheable out.objects xs e, refl))))
   dist_keeps r own work m (DistHttp text) h = (tt, record { compile = h.has.compile; last_is = refl; notes_are = refl; carries = inr (inl refl) })
   dist_keeps r own work m (DistTooLarge text) h = (tt, record { compile = h.has.compile; last_is = refl; notes_are = refl; carries = inr (inl refl) })
   dist_keeps r own work m (DistOther text) h = record { has = record { compile = h.has.compile; job_is = h.has.job_is; task_is = h.has.task_is }; miss_is = h.miss_is; from_is = h.from_is; dist_is = refl }
@@ -261,19 +261,31 @@ module _ (s : Setup) where
       record { compile = kp.1.compile; last_is = kp.1.last_is; carries = kp.1.carries; stores = λ i. absurd (not_storable own m w t (subst NotMiss (sym f.0) kp.0) i) }
   keeps_step r own (AtStore v task b ending) m (Outcome w t) kp f =
       (refl, refl, kp.2, put_same r own (At m (Outcome w t) ∷ own) b.key b.bytes refl (λ h. h) kp.3, record { compile = kp.1.compile; last_is = kp.1.last_is; notes_are = kp.1.notes_are; carries = kp.1.carries })
-  keeps_step r own (AtWrite b (l ∷ ls) g ending) m (Reserved j k n WriteDone) kp f =
-      (goes_same (refused own) (drop (over own) (plan s.policy s.levels)) l ls kp.0, kp.1, kp.2, put_same r own (At m (Reserved j k n WriteDone) ∷ own) b.key b.bytes refl (λ h. h) kp.3,
-       ends_same r own (At m (Reserved j k n WriteDone) ∷ own) ending refl refl (λ v h. h) kp.4)
+  keeps_step r own (AtWrite b (l ∷ ls) g ending) m (Reserved j k n WriteDone) kp f = (
+    goes_same (refused own) (drop (over own) (plan s.policy s.levels)) l ls kp.0,
+    kp.1,
+    kp.2,
+    put_same r own (At m (Reserved j k n WriteDone) ∷ own) b.key b.bytes refl (λ h. h) kp.3,
+    ends_same r own (At m (Reserved j k n WriteDone) ∷ own) ending refl refl (λ v h. h) kp.4,
+  )
   keeps_step r own (AtWrite b (l ∷ ls) g ending) m (Reserved j k n (WriteRefused c)) kp f =
       let own2 = At m (Reserved j k n (WriteRefused c)) ∷ own in
-      let e = note_is s own g j l c kp.1 (reserve_is s r (kind_at s.levels l) l b j k n (WriteRefused c) f).0 in
-      (left_next s own own2 l ls (note g l c) refl e (goes_same (refused own) (drop (over own) (plan s.policy s.levels)) l ls kp.0), e, kp.2, put_same r own own2 b.key b.bytes refl (λ h. h) kp.3,
-       ends_same r own own2 ending refl refl (λ v h. h) kp.4)
+      let e = note_is s own g j l c kp.1 (reserve_is s r (kind_at s.levels l) l b j k n (WriteRefused c) f).0 in (
+        left_next s own own2 l ls (note g l c) refl e (goes_same (refused own) (drop (over own) (plan s.policy s.levels)) l ls kp.0),
+        e,
+        kp.2,
+        put_same r own own2 b.key b.bytes refl (λ h. h) kp.3,
+        ends_same r own own2 ending refl refl (λ v h. h) kp.4,
+      )
   keeps_step r own (AtWrite b (l ∷ ls) g ending) m (Wrote j k d mode mark w) kp f =
       let own2 = At m (Wrote j k d mode mark w) ∷ own in
-      let e = wrote_refused s own g m j l k d mode mark w kp.1 (wrote_is s r (kind_at s.levels l) l b j k d mode mark w f).0 in
-      (left_next s own own2 l ls (noted w g l) refl e (goes_same (refused own) (drop (over own) (plan s.policy s.levels)) l ls kp.0), e, kp.2, put_same r own own2 b.key b.bytes refl (λ h. h) kp.3,
-       ends_same r own own2 ending refl refl (λ v h. h) kp.4)
+      let e = wrote_refused s own g m j l k d mode mark w kp.1 (wrote_is s r (kind_at s.levels l) l b j k d mode mark w f).0 in (
+        left_next s own own2 l ls (noted w g l) refl e (goes_same (refused own) (drop (over own) (plan s.policy s.levels)) l ls kp.0),
+        e,
+        kp.2,
+        put_same r own own2 b.key b.bytes refl (λ h. h) kp.3,
+        ends_same r own own2 ending refl refl (λ v h. h) kp.4,
+      )
   keeps_step r own (AtWrite b (l ∷ ls) g ending) m x kp f = absurd (start_is s r (kind_at s.levels l) l b x f)
   keeps_step r own (AtWrite b [] g ending) m (WriteEnded put hs) kp f = finish_keeps r own ending m put hs kp.0 kp.4
   keeps_step r own (AtFill b l ls g ending) m (Filled j k d mark WriteDone) kp f =

@@ -56,17 +56,17 @@ gives_append [] hs i k b h = inr h
 gives_append (g ∷ gs) hs i k b h =
     let ih = gives_append gs hs i k b in
     ⊎_elim (λ (y : (g.number ≡ i) × (g.handed.key ≡ k) × (g.handed.bytes ≡ b)). inl (inl y))
-        (λ (y : Gives (gs ++ hs) i k b). ⊎_elim (λ (z : Gives gs i k b). inl (inr z)) (λ (z : Gives hs i k b). inr z) (ih y)) h
+    (λ (y : Gives (gs ++ hs) i k b). ⊎_elim (λ (z : Gives gs i k b). inl (inr z)) (λ (z : Gives hs i k b). inr z) (ih y)) h
 
 gives_drop : (n : ℕ) (gs : List Given) (i : ℕ) (k b : List ℕ) → Gives (drop_given n gs) i k b → Gives gs i k b
 gives_drop n [] i k b h = h
 gives_drop n (g ∷ gs) i k b h =
     let ih = gives_drop n gs i k b in
     ⊎_elim (λ (y : eqb g.number n ≡ true). inr (subst (λ v. Gives (cond v gs (g ∷ drop_given n gs)) i k b) y h))
-        (λ (y : eqb g.number n ≡ false).
-            let q : Gives (g ∷ drop_given n gs) i k b = subst (λ v. Gives (cond v gs (g ∷ drop_given n gs)) i k b) y h in
-            ⊎_elim (λ (z : (g.number ≡ i) × (g.handed.key ≡ k) × (g.handed.bytes ≡ b)). inl z) (λ (z : Gives (drop_given n gs) i k b). inr (ih z)) q)
-        (cases_Bool (eqb g.number n))
+    (λ (y : eqb g.number n ≡ false).
+    let q : Gives (g ∷ drop_given n gs) i k b = subst (λ v. Gives (cond v gs (g ∷ drop_given n gs)) i k b) y h in
+    ⊎_elim (λ (z : (g.number ≡ i) × (g.handed.key ≡ k) × (g.handed.bytes ≡ b)). inl z) (λ (z : Gives (drop_given n gs) i k b). inr (ih z)) q)
+    (cases_Bool (eqb g.number n))
 
 gives_done : (o : Owner) (d : Bool) (gs : List Given) (i : ℕ) (k b : List ℕ) → Gives (drop_done o d gs) i k b → Gives gs i k b
 gives_done (OfWrite n) true gs i k b h = gives_drop n gs i k b h
@@ -155,24 +155,29 @@ module _ (s : Script) where
       at_level j x nm h =
           let e2 : held (kind_at s.setup.levels l) (get_or (set w.levels j h.0) l no_level_held) k ≡ Some b = subst (λ v. held (kind_at s.setup.levels l) (level_at v l) k ≡ Some b) h.2 e in
           ⊎_elim (λ (y : get_or (set w.levels j h.0) l no_level_held ≡ get_or w.levels l no_level_held). inl (subst (λ v. held (kind_at s.setup.levels l) v k ≡ Some b) y e2))
-              (λ (y : (j ≡ l) × (get_or (set w.levels j h.0) l no_level_held ≡ h.0)).
-                  let e3 : held (kind_at s.setup.levels l) h.0 k ≡ Some b = subst (λ v. held (kind_at s.setup.levels l) v k ≡ Some b) y.1 e2 in
-                  let mv : MovesLevel s.setup (level_facts s.setup.levels l) (z j) x (level_at w l) h.0 = subst (λ v. MovesLevel s.setup (level_facts s.setup.levels v) (z j) x (level_at w v) h.0) y.0 h.1 in
-                  ⊎_elim (λ (q : held (kind_at s.setup.levels l) (level_at w l) k ≡ Some b). inl q) (λ (q : PutsAt x k b). inr (nm ∙ ap Some y.0, q))
-                      (level_held s.setup (level_facts s.setup.levels l) (z j) x (level_at w l) h.0 k b st mv e3))
-              (set_cases w.levels j h.0 no_level_held l)
+          (λ (y : (j ≡ l) × (get_or (set w.levels j h.0) l no_level_held ≡ h.0)).
+          let e3 : held (kind_at s.setup.levels l) h.0 k ≡ Some b = subst (λ v. held (kind_at s.setup.levels l) v k ≡ Some b) y.1 e2 in
+          let mv : MovesLevel s.setup (level_facts s.setup.levels l) (z j) x (level_at w l) h.0 = subst (λ v. MovesLevel s.setup (level_facts s.setup.levels v) (z j) x (level_at w v) h.0) y.0 h.1 in
+          ⊎_elim (λ (q : held (kind_at s.setup.levels l) (level_at w l) k ≡ Some b). inl q) (λ (q : PutsAt x k b). inr (nm ∙ ap Some y.0, q))
+          (level_held s.setup (level_facts s.setup.levels l) (z j) x (level_at w l) h.0 k b st mv e3))
+          (set_cases w.levels j h.0 no_level_held l)
+
       stays : w2.levels ≡ w.levels → held (kind_at s.setup.levels l) (level_at w l) k ≡ Some b
       stays q = subst (λ v. held (kind_at s.setup.levels l) (get_or v l no_level_held) k ≡ Some b) q e
+
       began : (told : Told) → MovesBegan s.setup told w w2 → w2.levels ≡ w.levels
       began (TellsDist info) h = ap (λ v. v.levels) h.7
       began _ h = ap (λ v. v.levels) h
+
       ended : (v : Verdict) → MovesOutcome v w w2 → w2.levels ≡ w.levels
       ended HttpError h = ap (λ v. v.levels) h
       ended _ h = ap (λ v. v.levels) h
+
       placed : (p : Placing) → MovesPlaced s.setup n p w w2 → w2.levels ≡ w.levels
       placed (Missing name) h = ap (λ v. v.levels) h.1
       placed PlaceDone h = ap (λ v. v.levels) h.1
       placed (PlaceFault chain) h = ap (λ v. v.levels) h.1.3
+
       by_kind : (x : What) → Moves s.setup n z x w w2 → (held (kind_at s.setup.levels l) (level_at w l) k ≡ Some b) ⊎ ((level_named x ≡ Some l) × PutsAt x k b)
       by_kind (Asked j i mode a hs) h = at_level j (Asked j i mode a hs) refl h
       by_kind (Reserved j i y how) h = at_level j (Reserved j i y how) refl h
@@ -239,8 +244,8 @@ module _ (s : Script) where
         pub entries_step : (o : Owner) (x : What) → NextStep s t p o x → Moves s.setup n z x w w2 → (l : ℕ) (k b : List ℕ) → IsStoreKey k → held (kind_at s.setup.levels l) (level_at w2 l) k ≡ Some b → (origins s start (record { moment = m; owner = o; what = x } ∷ t)).entry l k b
         entries_step o x h mv l k b st e =
             ⊎_elim (λ (y : held (kind_at s.setup.levels l) (level_at w l) k ≡ Some b). inl (holds l k b st y))
-                (λ (y : (level_named x ≡ Some l) × PutsAt x k b). inr (entry_of_put o x l k b y.0 y.1 (owner_puts o x k b h y.1)))
-                (world_held n z x w w2 l k b st mv e)
+            (λ (y : (level_named x ≡ Some l) × PutsAt x k b). inr (entry_of_put o x l k b y.0 y.1 (owner_puts o x k b h y.1)))
+            (world_held n z x w w2 l k b st mv e)
 
         -- a hit was there before, rightfully
         hit_entry : (j : ℕ) (i : List ℕ) (mode : Mode) (d : List ℕ) (mark : Bool) (hs : List Handed) → MovesAt s.setup j (z j) (Asked j i mode (Hit d mark) hs) w w2 → (mode ≡ Whole) ⊎ (mode ≡ Raw) → (origins s start t).entry j i d
@@ -248,8 +253,8 @@ module _ (s : Script) where
             let f = level_facts s.setup.levels j in
             let v = level_at w j in
             let a : IsStoreKey i × (held f.kind h.0 i ≡ Some d) =
-                ⊎_elim (λ (e : mode ≡ Whole). let q : Answers_whole s.setup.codec.objects f.kind i (Hit d mark) v h.0 = subst (λ u. Answers s.setup.codec.objects f (z j) i u (Hit d mark) v h.0) e h.1.answers in (q.0, q.1))
-                    (λ (e : mode ≡ Raw). let q : Answers_raw f.kind i (Hit d mark) v h.0 = subst (λ u. Answers s.setup.codec.objects f (z j) i u (Hit d mark) v h.0) e h.1.answers in (q.0, q.1)) y in
+            ⊎_elim (λ (e : mode ≡ Whole). let q : Answers_whole s.setup.codec.objects f.kind i (Hit d mark) v h.0 = subst (λ u. Answers s.setup.codec.objects f (z j) i u (Hit d mark) v h.0) e h.1.answers in (q.0, q.1))
+            (λ (e : mode ≡ Raw). let q : Answers_raw f.kind i (Hit d mark) v h.0 = subst (λ u. Answers s.setup.codec.objects f (z j) i u (Hit d mark) v h.0) e h.1.answers in (q.0, q.1)) y in
             holds j i d a.0 (keeps_held f.kind v h.0 i d h.1.keeps a.1)
 
         pub rightful_step : (x : What) → Moves s.setup n z x w w2 → Hits s start t x
@@ -306,5 +311,5 @@ module _ (s : Script) where
         pub writes_step : (o : Owner) (x : What) → NextStep s t p o x → Moves s.setup n z x w w2 → (g : ℕ) (k b : List ℕ) → Gives (left_writes (record { moment = m; owner = o; what = x } ∷ t)) g k b → (origins s start (record { moment = m; owner = o; what = x } ∷ t)).write g k b
         writes_step o x h mv g k b y =
             ⊎_elim (λ (q : Gives (drop_done o (ends_write x) (left_writes t)) g k b). inl (handing g k b (gives_done o (ends_write x) (left_writes t) g k b q)))
-                (λ (q : Gives (hands (length (given t)) m x) g k b). inr (new_hands o x h mv g k b q))
-                (gives_append (drop_done o (ends_write x) (left_writes t)) (hands (length (given t)) m x) g k b y)
+            (λ (q : Gives (hands (length (given t)) m x) g k b). inr (new_hands o x h mv g k b q))
+            (gives_append (drop_done o (ends_write x) (left_writes t)) (hands (length (given t)) m x) g k b y)

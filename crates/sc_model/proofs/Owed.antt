@@ -183,7 +183,7 @@ module _ (s : Setup) where
   frames_other : (r : Request) (own : List Own) (m : ℕ) (x : What) → NotSent x → Fits s r (due s r own) x → frames s r own ≡ sent_of own ++ owed (due s r own) → frames s r (At m x ∷ own) ≡ sent_of (At m x ∷ own) ++ owed (due s r (At m x ∷ own))
   frames_other r own m x nt f ih =
       ap (λ v. frames s r own ++ v) (owes r own m x nt)
-          ∙ ap (λ v. v ++ owed (due s r (At m x ∷ own))) (ih ∙ ap (λ v. sent_of own ++ v) (fits_owed r (due s r own) x nt f ∙ sym (sent_none x nt)))
+      ∙ ap (λ v. v ++ owed (due s r (At m x ∷ own))) (ih ∙ ap (λ v. sent_of own ++ v) (fits_owed r (due s r own) x nt f ∙ sym (sent_none x nt)))
 
   pub frames_are : (r : Request) (own : List Own) → Lawful s r own → frames s r own ≡ sent_of own ++ owed (due s r own)
   frames_are r [] l = refl

@@ -206,7 +206,7 @@ module _ (s : Setup) where
   pub key_due : (r : Request) (own : List Own) (task : Task) (m : ℕ) (first client : Bool) (step : KeyStep) → task_of own ≡ task → after_key s r own m first client step ≡ due_at s r (key_phase s r task m first client step)
   key_due r own task m first client (Key found) e =
       ap (λ (v : Task). after_control s (control r first) (record { task = v; found = found; at = m; client = client; first = first })) e
-          ∙ control_due r (control r first) (record { task = task; found = found; at = m; client = client; first = first }) m
+      ∙ control_due r (control r first) (record { task = task; found = found; at = m; client = client; first = first }) m
   key_due r own task m first client (KeyError out) e = ap (λ v. ToEnd KeyStepError (counted_task r v)) e
   key_due r own task m first client (KeyFault chain) e = ap (λ v. ToEnd FatalFault (counted_task r v)) e
 
@@ -222,7 +222,7 @@ module _ (s : Setup) where
   run_same : (r : Request) (own : List Own) (work : Work) (m : ℕ) (a : RunAnswer) → HasWork s r own work → run_verdict (job_of own) (miss_of s r own) (dist_of own) (m - work_from own) a ≡ run_verdict work.job work.miss work.dist (m - work.from) a
   run_same r own work m a h =
       ap (λ v. run_verdict v (miss_of s r own) (dist_of own) (m - work_from own) a) h.has.job_is ∙ ap (λ v. run_verdict work.job v (dist_of own) (m - work_from own) a) h.miss_is
-          ∙ ap (λ v. run_verdict work.job work.miss v (m - work_from own) a) h.dist_is ∙ ap (λ v. run_verdict work.job work.miss work.dist (m - v) a) h.from_is
+      ∙ ap (λ v. run_verdict work.job work.miss v (m - work_from own) a) h.dist_is ∙ ap (λ v. run_verdict work.job work.miss work.dist (m - v) a) h.from_is
 
   pub ran_due : (r : Request) (own : List Own) (work : Work) (m : ℕ) (a : RunAnswer) → HasWork s r own work → ToEnd (run_verdict (job_of own) (miss_of s r own) (dist_of own) (m - work_from own) a) (counted_task r (task_of own)) ≡ due_at s r (ran_phase s r work m a)
   ran_due r own work m a h =
@@ -240,7 +240,7 @@ module _ (s : Setup) where
   pub dist_due : (r : Request) (own : List Own) (work : Work) (m : ℕ) (d : DistAnswer) → HasWork s r own work → after_dist s r own m d ≡ due_at s r (dist_phase s r work m d)
   dist_due r own work m (DistDone server out) h =
       ap (λ v. ToEnd v (counted_task r (task_of own))) (dist_same r own work m (DistDone server out) h) ∙ ap (λ v. ToEnd (dist_verdict work.job work.miss (m - work.from) (DistDone server out)) (counted_task r v)) h.has.task_is
-          ∙ judged_due r (judge work.job work.miss out) _ work.job.task _ _
+      ∙ judged_due r (judge work.job work.miss out) _ work.job.task _ _
   dist_due r own work m (DistHttp text) h = ap (λ v. ToEnd HttpError (counted_task r v)) h.has.task_is
   dist_due r own work m (DistTooLarge text) h = ap (λ v. ToEnd FatalFault (counted_task r v)) h.has.task_is
   dist_due r own work m (DistOther text) h = refl

@@ -151,5 +151,5 @@ module _ (s : Setup) where
   due_step r own (PrePut b [] g) m (TooLong n) e0 kp f = ap stop e0
   due_step r own (SizeAsk l stats zs) m (Asked j k mode a hs) e0 kp f =
       ap (λ v. after_asked s r own m j k v a) f.2 ∙ ap (λ v. after_size s r (stats_of own) (with_size (sized own) a) v k) f.0 ∙ ap (λ v. after_size s r (stats_of own) (with_size (sized own) a) l v) f.1
-          ∙ ap (λ v. after_size s r v (with_size (sized own) a) l []) kp.0 ∙ ap (λ v. after_size s r stats (with_size v a) l []) kp.1 ∙ size_due s r stats (with_size zs a) l
+      ∙ ap (λ v. after_size s r v (with_size (sized own) a) l []) kp.0 ∙ ap (λ v. after_size s r stats (with_size v a) l []) kp.1 ∙ size_due s r stats (with_size zs a) l
   due_step _ _ _ _ _ e0 kp f = absurd f

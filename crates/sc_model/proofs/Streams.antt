@@ -36,16 +36,16 @@ module _ (limit : ℕ) (decode : List ℕ → Option Request) where
   framed_grows : (n : ℕ) (b more : List ℕ) → Grows (framed limit decode n b) more (framed limit decode n (b ++ more))
   framed_grows n b more =
       ⊎_elim (λ (big : limit < n). subst (λ v. Grows (cond v Bad (cond (nat_lt (length b) n) Part (decoded (decode (take n b)) (drop n b)))) more (cond v Bad (cond (nat_lt (length (b ++ more)) n) Part (decoded (decode (take n (b ++ more))) (drop n (b ++ more)))))) (sym (lt-ltb limit n big)) refl)
-          (λ (fits : n ≤ limit). subst (λ v. Grows (cond v Bad (cond (nat_lt (length b) n) Part (decoded (decode (take n b)) (drop n b)))) more (cond v Bad (cond (nat_lt (length (b ++ more)) n) Part (decoded (decode (take n (b ++ more))) (drop n (b ++ more)))))) (sym (le-ltb limit n fits))
-              (⊎_elim (λ (short : length b < n). subst (λ v. Grows (cond v Part (decoded (decode (take n b)) (drop n b))) more (cond (nat_lt (length (b ++ more)) n) Part (decoded (decode (take n (b ++ more))) (drop n (b ++ more))))) (sym (lt-ltb (length b) n short)) tt)
-                  (λ (whole : n ≤ length b).
-                      let l : n ≤ length (b ++ more) = omega (arith, whole, length-append b more) in
-                      subst (λ v. Grows (cond v Part (decoded (decode (take n b)) (drop n b))) more (cond (nat_lt (length (b ++ more)) n) Part (decoded (decode (take n (b ++ more))) (drop n (b ++ more))))) (sym (le-ltb (length b) n whole))
-                          (subst (λ v. Grows (decoded (decode (take n b)) (drop n b)) more (cond v Part (decoded (decode (take n (b ++ more))) (drop n (b ++ more))))) (sym (le-ltb (length (b ++ more)) n l))
-                              (subst (λ v. Grows (decoded (decode (take n b)) (drop n b)) more (decoded (decode v) (drop n (b ++ more)))) (sym (take_more n b more whole))
-                                  (subst (λ v. Grows (decoded (decode (take n b)) (drop n b)) more (decoded (decode (take n b)) v)) (sym (drop_more n b more whole)) (decoded_grows (decode (take n b)) (drop n b) more)))))
-                  (cases_lt (length b) n)))
-          (cases_lt limit n)
+      (λ (fits : n ≤ limit). subst (λ v. Grows (cond v Bad (cond (nat_lt (length b) n) Part (decoded (decode (take n b)) (drop n b)))) more (cond v Bad (cond (nat_lt (length (b ++ more)) n) Part (decoded (decode (take n (b ++ more))) (drop n (b ++ more)))))) (sym (le-ltb limit n fits))
+      (⊎_elim (λ (short : length b < n). subst (λ v. Grows (cond v Part (decoded (decode (take n b)) (drop n b))) more (cond (nat_lt (length (b ++ more)) n) Part (decoded (decode (take n (b ++ more))) (drop n (b ++ more))))) (sym (lt-ltb (length b) n short)) tt)
+      (λ (whole : n ≤ length b).
+      let l : n ≤ length (b ++ more) = omega (arith, whole, length-append b more) in
+      subst (λ v. Grows (cond v Part (decoded (decode (take n b)) (drop n b))) more (cond (nat_lt (length (b ++ more)) n) Part (decoded (decode (take n (b ++ more))) (drop n (b ++ more))))) (sym (le-ltb (length b) n whole))
+      (subst (λ v. Grows (decoded (decode (take n b)) (drop n b)) more (cond v Part (decoded (decode (take n (b ++ more))) (drop n (b ++ more))))) (sym (le-ltb (length (b ++ more)) n l))
+      (subst (λ v. Grows (decoded (decode (take n b)) (drop n b)) more (decoded (decode v) (drop n (b ++ more)))) (sym (take_more n b more whole))
+      (subst (λ v. Grows (decoded (decode (take n b)) (drop n b)) more (decoded (decode (take n b)) v)) (sym (drop_more n b more whole)) (decoded_grows (decode (take n b)) (drop n b) more)))))
+      (cases_lt (length b) n)))
+      (cases_lt limit n)
 
   front_grows : (b more : List ℕ) → Grows (front limit decode b) more (front limit decode (b ++ more))
   front_grows [] more = tt
@@ -77,13 +77,13 @@ module _ (limit : ℕ) (decode : List ℕ → Option Request) where
       let m : ℕ = suc (suc (suc (suc (length b)))) in
       let d = drop_shorter n b in
       shrinks_cond (nat_lt limit n) Bad (cond (nat_lt (length b) n) Part (decoded (decode (take n b)) (drop n b))) m tt
-          (shrinks_cond (nat_lt (length b) n) Part (decoded (decode (take n b)) (drop n b)) m tt (decoded_shrinks (decode (take n b)) (drop n b) m (omega (arith, d))))
+      (shrinks_cond (nat_lt (length b) n) Part (decoded (decode (take n b)) (drop n b)) m tt (decoded_shrinks (decode (take n b)) (drop n b) m (omega (arith, d))))
 
   abbrev reqs_of : ℕ → Front → List Request
-  reqs_of n f = elim f [ | Part ↦ [] | Bad ↦ [] | Frame r rest ↦ r ∷ read_requests limit decode n rest ]
+  reqs_of n f = elim f [ Part ↦ [] | Bad ↦ [] | Frame r rest ↦ r ∷ read_requests limit decode n rest ]
 
   abbrev rest_of : ℕ → List ℕ → Front → List ℕ
-  rest_of n b f = elim f [ | Part ↦ b | Bad ↦ b | Frame r rest ↦ read_rest limit decode n rest ]
+  rest_of n b f = elim f [ Part ↦ b | Bad ↦ b | Frame r rest ↦ read_rest limit decode n rest ]
 
   pub same_requests : (k j : ℕ) (b : List ℕ) → length b ≤ k → length b ≤ j → read_requests limit decode k b ≡ read_requests limit decode j b
   same_requests zero zero b l q = refl
@@ -134,6 +134,7 @@ module _ (limit : ℕ) (decode : List ℕ → Option Request) where
       first : (k : ℕ) (r : Request) (rest : List ℕ) → length (b ++ more) ≤ k → length rest < length b → front limit decode (b ++ more) ≡ Frame r (rest ++ more) → (i : ℕ) × (suc i ≡ k) × (read_requests limit decode k (b ++ more) ≡ r ∷ read_requests limit decode i (rest ++ more))
       first zero r rest q s g = absurd (omega (arith, q, s, length-append b more))
       first (suc i) r rest q s g = (i, refl, ap (reqs_of i) g)
+
       by_front : ((i : ℕ) (rest : List ℕ) → length rest ≤ n → length (rest ++ more) ≤ i → length (read_rest limit decode n rest ++ more) ≤ j → read_requests limit decode i (rest ++ more) ≡ read_requests limit decode n rest ++ read_requests limit decode j (read_rest limit decode n rest ++ more)) → (f : Front) → front limit decode b ≡ f → Shrinks f (length b) → Grows f more (front limit decode (b ++ more)) → length (rest_of n b f ++ more) ≤ j → read_requests limit decode k (b ++ more) ≡ reqs_of n f ++ read_requests limit decode j (rest_of n b f ++ more)
       by_front ih Part e s g p = same_requests k j (b ++ more) q p
       by_front ih Bad e s g p = same_requests k j (b ++ more) q p
@@ -149,6 +150,7 @@ module _ (limit : ℕ) (decode : List ℕ → Option Request) where
       first : (k : ℕ) (r : Request) (rest : List ℕ) → length (b ++ more) ≤ k → length rest < length b → front limit decode (b ++ more) ≡ Frame r (rest ++ more) → (i : ℕ) × (suc i ≡ k) × (read_rest limit decode k (b ++ more) ≡ read_rest limit decode i (rest ++ more))
       first zero r rest q s g = absurd (omega (arith, q, s, length-append b more))
       first (suc i) r rest q s g = (i, refl, ap (rest_of i (b ++ more)) g)
+
       by_front : ((i : ℕ) (rest : List ℕ) → length rest ≤ n → length (rest ++ more) ≤ i → length (read_rest limit decode n rest ++ more) ≤ j → read_rest limit decode i (rest ++ more) ≡ read_rest limit decode j (read_rest limit decode n rest ++ more)) → (f : Front) → Shrinks f (length b) → Grows f more (front limit decode (b ++ more)) → length (rest_of n b f ++ more) ≤ j → read_rest limit decode k (b ++ more) ≡ read_rest limit decode j (rest_of n b f ++ more)
       by_front ih Part s g p = same_rest k j (b ++ more) q p
       by_front ih Bad s g p = same_rest k j (b ++ more) q p
@@ -169,8 +171,9 @@ module _ (limit : ℕ) (decode : List ℕ → Option Request) where
 
   pub reads_on : ReadsOn (stream_reader limit decode)
   reads_on = record {
-      none = refl; nothing = refl;
-      requests = λ b more. more_requests (length b) (length (b ++ more)) (length (read_rest limit decode (length b) b ++ more)) b more (omega arith) (omega arith) (omega arith);
-      rest = λ b more. more_rest (length b) (length (b ++ more)) (length (read_rest limit decode (length b) b ++ more)) b more (omega arith) (omega arith) (omega arith);
-      ends = λ b closed. ap (λ v. end_at_front (front limit decode v) closed v) (sym (rest_again b));
+    none = refl;
+    nothing = refl;
+    requests = λ b more. more_requests (length b) (length (b ++ more)) (length (read_rest limit decode (length b) b ++ more)) b more (omega arith) (omega arith) (omega arith);
+    rest = λ b more. more_rest (length b) (length (b ++ more)) (length (read_rest limit decode (length b) b ++ more)) b more (omega arith) (omega arith) (omega arith);
+    ends = λ b closed. ap (λ v. end_at_front (front limit decode v) closed v) (sym (rest_again b));
   }

@@ -54,19 +54,19 @@ length_without c n [] h = absurd h
 length_without c n (o ∷ os) h =
     let ih = length_without c n os in
     ⊎_elim (λ (e : is c n o ≡ true). ap (λ b. suc (length (cond b os (o ∷ without c n os)))) e)
-        (λ (e : is c n o ≡ false). ap (λ b. suc (length (cond b os (o ∷ without c n os)))) e
-            ∙ ⊎_elim (λ (p : (o.0 ≡ c) × (o.1 ≡ n)). absurd (both_ways (is c n o) e (is_from c n o p))) (λ (g : Opens c n os). ap suc (ih g)) h)
-        (cases_Bool (is c n o))
+    (λ (e : is c n o ≡ false). ap (λ b. suc (length (cond b os (o ∷ without c n os)))) e
+    ∙ ⊎_elim (λ (p : (o.0 ≡ c) × (o.1 ≡ n)). absurd (both_ways (is c n o) e (is_from c n o p))) (λ (g : Opens c n os). ap suc (ih g)) h)
+    (cases_Bool (is c n o))
 
 pub without_keeps : (d m c n : ℕ) (os : List (ℕ × ℕ)) → ((d ≡ c) × (m ≡ n) → ⊥) → Opens c n os → Opens c n (without d m os)
 without_keeps d m c n [] ne h = h
 without_keeps d m c n (o ∷ os) ne h =
     let ih = without_keeps d m c n os ne in
     ⊎_elim (λ (e : is d m o ≡ true). subst (λ b. Opens c n (cond b os (o ∷ without d m os))) (sym e)
-            (⊎_elim (λ (p : (o.0 ≡ c) × (o.1 ≡ n)). let q = is_true d m o e in absurd (ne (sym q.0 ∙ p.0, sym q.1 ∙ p.1))) (λ (g : Opens c n os). g) h))
-        (λ (e : is d m o ≡ false). subst (λ b. Opens c n (cond b os (o ∷ without d m os))) (sym e)
-            (⊎_elim (λ (p : (o.0 ≡ c) × (o.1 ≡ n)). inl p) (λ (g : Opens c n os). inr (ih g)) h))
-        (cases_Bool (is d m o))
+    (⊎_elim (λ (p : (o.0 ≡ c) × (o.1 ≡ n)). let q = is_true d m o e in absurd (ne (sym q.0 ∙ p.0, sym q.1 ∙ p.1))) (λ (g : Opens c n os). g) h))
+    (λ (e : is d m o ≡ false). subst (λ b. Opens c n (cond b os (o ∷ without d m os))) (sym e)
+    (⊎_elim (λ (p : (o.0 ≡ c) × (o.1 ≡ n)). inl p) (λ (g : Opens c n os). inr (ih g)) h))
+    (cases_Bool (is d m o))
 
 -- an event of another request keeps what is open
 pub opened_keeps : (d m : ℕ) (x : What) (c n : ℕ) (os : List (ℕ × ℕ)) → ((d ≡ c) × (m ≡ n) → ⊥) → Opens c n os → Opens c n (opened (OfRequest d m) x os)

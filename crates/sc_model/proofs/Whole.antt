@@ -74,19 +74,24 @@ module _ (s : Script) where
 
   -- the key and the hit that the phase keeps are the job's
   moves_same : (r : Request) (own : List Own) (p : Phase) (x : What) (z : ℕ → ℕ) (w w2 : World) → Keeps s.setup r own p → Fits s.setup r (due_at s.setup r p) x → Moves s.setup (need_at s.setup r p) z x w w2 → Moves s.setup (need_of s.setup r own) z x w w2
-  moves_same r own (AtRun work) (Ran a) z w w2 kp f m =
-      (m.0, m.1, m.2, subst (λ v. IfTold (s.setup.workshop v.found.key w.runs v.found.outputs) (λ b. a ≡ b)) (sym kp.has.job_is) m.3,
-       subst (λ v. w2 ≡ record w { runs = and_one w.runs (v.found.key, a); shop_faults = m.0 }) (sym kp.has.job_is) m.4)
+  moves_same r own (AtRun work) (Ran a) z w w2 kp f m = (
+    m.0,
+    m.1,
+    m.2,
+    subst (λ v. IfTold (s.setup.workshop v.found.key w.runs v.found.outputs) (λ b. a ≡ b)) (sym kp.has.job_is) m.3,
+    subst (λ v. w2 ≡ record w { runs = and_one w.runs (v.found.key, a); shop_faults = m.0 }) (sym kp.has.job_is) m.4,
+  )
   moves_same r own (AtPlace job b d) (Placed p) z w w2 kp f m =
       let n2 : Need → Type 0 = λ v. MovesPlaced s.setup v p w w2 in
       placed p m
     where
       placed : (p : Placing) → MovesPlaced s.setup (need_at s.setup r (AtPlace job b d)) p w w2 → MovesPlaced s.setup (need_of s.setup r own) p w w2
       placed (Missing name) h = (ap (λ v. first_missing (s.setup.codec.objects v) (need_of s.setup r own).outputs) kp.1 ∙ ap (λ (v : Job). first_missing (s.setup.codec.objects b) (placed_of v.found.locally_preprocessed v.found.outputs)) kp.0.job_is ∙ h.0, h.1)
-      placed PlaceDone h =
-          (ap (λ v. first_missing (s.setup.codec.objects v) (need_of s.setup r own).outputs) kp.1 ∙ ap (λ (v : Job). first_missing (s.setup.codec.objects b) (placed_of v.found.locally_preprocessed v.found.outputs)) kp.0.job_is ∙ h.0,
-           h.1 ∙ ap (λ (v : Job). record w { placings = and_one w.placings (record { outputs = placed_of v.found.locally_preprocessed v.found.outputs; bytes = b }) }) (sym kp.0.job_is)
-               ∙ ap (λ (v : List ℕ). record w { placings = and_one w.placings (record { outputs = (need_of s.setup r own).outputs; bytes = v }) }) (sym kp.1))
+      placed PlaceDone h = (
+        ap (λ v. first_missing (s.setup.codec.objects v) (need_of s.setup r own).outputs) kp.1 ∙ ap (λ (v : Job). first_missing (s.setup.codec.objects b) (placed_of v.found.locally_preprocessed v.found.outputs)) kp.0.job_is ∙ h.0,
+        h.1 ∙ ap (λ (v : Job). record w { placings = and_one w.placings (record { outputs = placed_of v.found.locally_preprocessed v.found.outputs; bytes = b }) }) (sym kp.0.job_is)
+            ∙ ap (λ (v : List ℕ). record w { placings = and_one w.placings (record { outputs = (need_of s.setup r own).outputs; bytes = v }) }) (sym kp.1),
+      )
       placed (PlaceFault chain) h = (ap (λ v. first_missing (s.setup.codec.objects v) (need_of s.setup r own).outputs) kp.1 ∙ ap (λ (v : Job). first_missing (s.setup.codec.objects b) (placed_of v.found.locally_preprocessed v.found.outputs)) kp.0.job_is ∙ h.0, h.1)
   moves_same r own (AtWrite b (l ∷ ls) g ending) (Ran a) z w w2 kp f m = absurd (start_is s.setup r (kind_at s.setup.levels l) l b (Ran a) f)
   moves_same r own (AtWrite b [] g ending) (Ran a) z w w2 kp f m = absurd f
@@ -119,7 +124,7 @@ module _ (s : Script) where
         let a = moves_same (request (all s c) k.at) (owned k.at (about c t)) k.phase x (λ l. reserved_at l m.reserved) w0 g.7.0 tie.holds.ties.keeps f (subst (λ v. Moves s.setup (need_at s.setup v k.phase) (λ l. reserved_at l m.reserved) x w0 g.7.0) cur g.7.1) in
         let b : Moves s.setup (need_of s.setup (request (all s c) k.at) (owned k.at (about c t))) (λ l. reserved_at l (reservations t)) x w0 g.7.0 = subst (λ v. Moves s.setup (need_of s.setup (request (all s c) k.at) (owned k.at (about c t))) (λ l. reserved_at l v) x w0 g.7.0) h.reserved a in
         let q : Moves s.setup (need_of s.setup (request (all s d) j) (owned j (about d t))) (λ l. reserved_at l (reservations t)) x w0 g.7.0 =
-            subst (λ v. Moves s.setup (need_of s.setup (request (all s v) j) (owned j (about v t))) (λ l. reserved_at l (reservations t)) x w0 g.7.0) (sym g.0) (subst (λ v. Moves s.setup (need_of s.setup (request (all s c) v) (owned v (about c t))) (λ l. reserved_at l (reservations t)) x w0 g.7.0) (sym g.2) b) in
+        subst (λ v. Moves s.setup (need_of s.setup (request (all s v) j) (owned j (about v t))) (λ l. reserved_at l (reservations t)) x w0 g.7.0) (sym g.0) (subst (λ v. Moves s.setup (need_of s.setup (request (all s c) v) (owned v (about c t))) (λ l. reserved_at l (reservations t)) x w0 g.7.0) (sym g.2) b) in
         subst (λ v. Moves s.setup (need_of s.setup (request (all s d) j) (owned j (about d t))) (λ l. reserved_at l (reservations t)) x w0 v.world) (sym g.7.2) q
     serve_moves c z _ x m2 g = absurd g
 
@@ -171,23 +176,28 @@ module _ (s : Script) where
       let w0 = at_moment m.world (ticked m.world.moment e.what) in
       let mv = step_moves t m g.tie p e.moment e.owner e.what m2 d.1 in
       record {
-          rightful = (rightful_step s start t lawful g.hands p n z w0 m2.world e.moment g.holds e.what mv, g.rightful);
-          holds = entries_step s start t lawful g.hands p n z w0 m2.world e.moment g.holds e.owner e.what a.0 mv;
-          hands = writes_step s start t lawful g.hands p n z w0 m2.world e.moment g.holds e.owner e.what a.0 mv;
-          tie = a.1; leads = (m.world, g.leads, a.0, (d.0, step_moves t m g.tie p e.moment e.owner e.what m2 d.1, b));
-          ordered = (order_step t lawful p e.owner e.what a.0, g.ordered);
-          finished = (finish_step t lawful p e.owner e.what a.0, g.finished);
-          stored = (stored_step t lawful p e.owner e.what a.0, g.stored);
-          within = (omega (arith, a.1.tokens), g.within);
-          bytes = (b, (m.world, g.leads, g.bytes));
+        rightful = (rightful_step s start t lawful g.hands p n z w0 m2.world e.moment g.holds e.what mv, g.rightful);
+        holds = entries_step s start t lawful g.hands p n z w0 m2.world e.moment g.holds e.owner e.what a.0 mv;
+        hands = writes_step s start t lawful g.hands p n z w0 m2.world e.moment g.holds e.owner e.what a.0 mv;
+        tie = a.1;
+        leads = (m.world, g.leads, a.0, (d.0, step_moves t m g.tie p e.moment e.owner e.what m2 d.1, b));
+        ordered = (order_step t lawful p e.owner e.what a.0, g.ordered);
+        finished = (finish_step t lawful p e.owner e.what a.0, g.finished);
+        stored = (stored_step t lawful p e.owner e.what a.0, g.stored);
+        within = (omega (arith, a.1.tokens), g.within);
+        bytes = (b, (m.world, g.leads, g.bytes));
       }
 
   idle_tie : (m : Machine) → IsIdle s m → Tie s [] m
   idle_tie m i = record {
-      conns = λ c. subst (λ v. ConnTie s (input s c) [] v) (sym (i.conns c)) (conn_new s i.reads_on (input s c)); same_count = i.same_count;
-      tokens = omega (arith, i.free); stats = i.stats; opens = λ c n q. (cc); reserved = i.reserved;
-      back = subst (λ v. BackTie s.setup [] v m.handed) (sym i.background) (subst (λ v. BackTie s.setup [] [] v) (sym i.handed) (back_new s.setup));
-      levels = record { same_length = ap length i.level_stats ∙ i.level_count; is = λ p l. ap (λ v. get_or v l no_level_stats) i.level_stats };
+    conns = λ c. subst (λ v. ConnTie s (input s c) [] v) (sym (i.conns c)) (conn_new s i.reads_on (input s c));
+    same_count = i.same_count;
+    tokens = omega (arith, i.free);
+    stats = i.stats;
+    opens = λ c n q. (cc);
+    reserved = i.reserved;
+    back = subst (λ v. BackTie s.setup [] v m.handed) (sym i.background) (subst (λ v. BackTie s.setup [] [] v) (sym i.handed) (back_new s.setup));
+    levels = record { same_length = ap length i.level_stats ∙ i.level_count; is = λ p l. ap (λ v. get_or v l no_level_stats) i.level_stats };
   }
 
   good_run : (m0 : Machine) (ps : List Step) (t : List Event) (m : Machine) → IsIdle s m0 → Runs s m0 ps t m → Good m0.world ps t m
@@ -201,18 +211,24 @@ module _ (s : Script) where
       let g = good_run m0 ps t m i r in
       let on = i.reads_on in
       record {
-          leads = g.leads;
-          taken_bytes = λ c. ((g.tie.conns c).left, (g.tie.conns c).bytes);
-          ends = λ c l. get_map (end_at s) m.conns c new_conn IsOpen (omega (arith, l, g.tie.same_count))
-              ∙ ap (λ v. if_too_long v (s.reader.ends (conn m c).rest (conn m c).closed)) (sym (g.tie.conns c).long)
-              ∙ ap (λ v. if_too_long (too_long (about c t)) (s.reader.ends v (conn m c).closed)) (sym (g.tie.conns c).rest)
-              ∙ ap (λ v. if_too_long (too_long (about c t)) v) (sym (on.ends (taken (about c t)) (conn m c).closed))
-              ∙ ap (λ v. if_too_long (too_long (about c t)) (s.reader.ends (taken (about c t)) v)) (sym (g.tie.conns c).closed);
-          replies = λ c l. get_map (λ (k : Conn). k.out) m.conns c new_conn [] (omega (arith, l, g.tie.same_count)) ∙ sym (g.tie.conns c).out;
-          each_connection = (length-map m.conns (end_at s) ∙ g.tie.same_count, length-map m.conns (λ (k : Conn). k.out) ∙ g.tie.same_count);
-          each_level = shown_count s.setup.policy m.level_stats s.setup.levels g.tie.levels.same_length;
-          sends = λ c. conn_prefix s (input s c) (about c t) (conn m c) (g.tie.conns c);
-          in_order = g.ordered; finished = g.finished; rightful = g.rightful; stored_first = g.stored; bytes_within = g.bytes; runs_within = g.within;
-          counted = g.tie.stats;
-          levels_counted = λ p l q. ap (λ v. get_or v l no_level_stats) (shown_is s.setup.policy m.level_stats p) ∙ g.tie.levels.is p l; background = g.tie.back.same;
+        leads = g.leads;
+        taken_bytes = λ c. ((g.tie.conns c).left, (g.tie.conns c).bytes);
+        ends = λ c l. get_map (end_at s) m.conns c new_conn IsOpen (omega (arith, l, g.tie.same_count))
+            ∙ ap (λ v. if_too_long v (s.reader.ends (conn m c).rest (conn m c).closed)) (sym (g.tie.conns c).long)
+            ∙ ap (λ v. if_too_long (too_long (about c t)) (s.reader.ends v (conn m c).closed)) (sym (g.tie.conns c).rest)
+            ∙ ap (λ v. if_too_long (too_long (about c t)) v) (sym (on.ends (taken (about c t)) (conn m c).closed))
+            ∙ ap (λ v. if_too_long (too_long (about c t)) (s.reader.ends (taken (about c t)) v)) (sym (g.tie.conns c).closed);
+        replies = λ c l. get_map (λ (k : Conn). k.out) m.conns c new_conn [] (omega (arith, l, g.tie.same_count)) ∙ sym (g.tie.conns c).out;
+        each_connection = (length-map m.conns (end_at s) ∙ g.tie.same_count, length-map m.conns (λ (k : Conn). k.out) ∙ g.tie.same_count);
+        each_level = shown_count s.setup.policy m.level_stats s.setup.levels g.tie.levels.same_length;
+        sends = λ c. conn_prefix s (input s c) (about c t) (conn m c) (g.tie.conns c);
+        in_order = g.ordered;
+        finished = g.finished;
+        rightful = g.rightful;
+        stored_first = g.stored;
+        bytes_within = g.bytes;
+        runs_within = g.within;
+        counted = g.tie.stats;
+        levels_counted = λ p l q. ap (λ v. get_or v l no_level_stats) (shown_is s.setup.policy m.level_stats p) ∙ g.tie.levels.is p l;
+        background = g.tie.back.same;
       }

@@ -79,7 +79,7 @@ pub data Due : Type 0 where
 -- the sizes that are known, added; none where that is 0
 abbrev pub size_sum : List Sized → ℕ
 size_sum [] = 0
-size_sum (z ∷ zs) = elim z.size [ | None ↦ size_sum zs | Some n ↦ sat n (size_sum zs) ]
+size_sum (z ∷ zs) = elim z.size [ None ↦ size_sum zs | Some n ↦ sat n (size_sum zs) ]
 
 abbrev pub some_size : ℕ → Option ℕ
 some_size zero = None
@@ -95,7 +95,7 @@ cache_size (Levels ps) zs = some_size (size_sum zs)
 
 abbrev pub counters_in : List Sized → List LevelStats
 counters_in [] = []
-counters_in (z ∷ zs) = elim z.counters [ | None ↦ counters_in zs | Some c ↦ c ∷ counters_in zs ]
+counters_in (z ∷ zs) = elim z.counters [ None ↦ counters_in zs | Some c ↦ c ∷ counters_in zs ]
 
 abbrev pub multi_level : Policy → List Sized → Option (List LevelStats)
 multi_level Single zs = None
@@ -103,9 +103,13 @@ multi_level (Levels ps) zs = Some (counters_in zs)
 
 abbrev pub server_info : Setup → ServerStats → List Sized → ServerInfo
 server_info s stats zs = record {
-    stats = record stats { multi_level = multi_level s.policy zs };
-    cache_location = s.store.location; cache_size = cache_size s.policy zs; max_cache_size = s.store.max_size;
-    use_preprocessor_cache_mode = s.store.flag; version = codes "0.19.0"; basedirs = s.store.basedir_texts;
+  stats = record stats { multi_level = multi_level s.policy zs };
+  cache_location = s.store.location;
+  cache_size = cache_size s.policy zs;
+  max_cache_size = s.store.max_size;
+  use_preprocessor_cache_mode = s.store.flag;
+  version = codes "0.19.0";
+  basedirs = s.store.basedir_texts;
 }
 
 abbrev pub all_read_only : List LevelFacts → Bool
@@ -118,8 +122,12 @@ mode_of false = ModeReadWrite
 
 abbrev pub handshake : Setup → StorageHandshakeInfo
 handshake s = record {
-    location = s.store.location; cache_type_name = s.store.type_name; basedirs = s.store.basedirs; use_preprocessor_cache_mode = s.store.flag;
-    cache_mode = mode_of (not (is_none s.levels) && all_read_only s.levels); max_size = s.store.max_size;
+  location = s.store.location;
+  cache_type_name = s.store.type_name;
+  basedirs = s.store.basedirs;
+  use_preprocessor_cache_mode = s.store.flag;
+  cache_mode = mode_of (not (is_none s.levels) && all_read_only s.levels);
+  max_size = s.store.max_size;
 }
 
 -- the last reply of a request for statistics

@@ -1,4 +1,4 @@
--- What a request's own events tell of its job, the newest event first. 
+-- What a request's own events tell of its job, the newest event first.
 use Rattle.std.specs.Prelude.{ℕ, zero, suc, ◌+◌, ◌-◌, Bool, true, false, ◌==◌, if◌then◌else◌, List, [], ◌∷◌, ◌++◌, Option, Some, None, codes, bytes_eq, pos, negsuc, ℤ, nat_lt}
 use Rattle.sc_entry.specs.Entries.{find_object}
 use Rattle.sc_entry.specs.EntryAnswers.{bytes_of as data_of, stream_object}

@@ -183,13 +183,13 @@ judged_phase _ v task b ending = AtEnd v task ending
 abbrev pub ran_phase : Setup → Request → Work → ℕ → RunAnswer → Phase
 ran_phase s r work m (RanOutput out) =
     judged_phase (judge work.job work.miss out) (run_verdict work.job work.miss work.dist (m - work.from) (RanOutput out)) work.job.task
-        (run_bytes s work.job true out) (ending_of (run_notes s r work.job.task (RanOutput out)) (finish_run s r work.job work.miss (RanOutput out)))
+    (run_bytes s work.job true out) (ending_of (run_notes s r work.job.task (RanOutput out)) (finish_run s r work.job work.miss (RanOutput out)))
 ran_phase s r work m a = AtEnd (run_verdict work.job work.miss work.dist (m - work.from) a) work.job.task (ending_of (run_notes s r work.job.task a) (finish_run s r work.job work.miss a))
 
 abbrev pub dist_phase : Setup → Request → Work → ℕ → DistAnswer → Phase
 dist_phase s r work m (DistDone server out) =
     judged_phase (judge work.job work.miss out) (dist_verdict work.job work.miss (m - work.from) (DistDone server out)) work.job.task
-        (run_bytes s work.job false out) (ending_of [] (finish_dist s r work.job work.miss (DistDone server out)))
+    (run_bytes s work.job false out) (ending_of [] (finish_dist s r work.job work.miss (DistDone server out)))
 dist_phase s r work m (DistOther text) = AtTake (record work { dist = DistError })
 dist_phase s r work m d = AtEnd (dist_verdict work.job work.miss (m - work.from) d) work.job.task (ending_of [] (finish_dist s r work.job work.miss d))
 
@@ -383,21 +383,23 @@ Says s m _ = Unit {0}
 -- an event of the request that is served on connection c
 abbrev pub served : Setup → Machine → ℕ → ℕ → What → World → Machine
 served s m c z x w = record {
-    conns = slice_set m.conns c (advanced s (conn m c) z x);
-    free = free_after m.free x;
-    stats = count (zeroes x) m.stats (row s (current (conn m c)) (conn m c).outcome z x);
-    level_stats = counted_level s.policy (level_row Direct (conn m c).last (conn m c).reserved z x) x m.level_stats;
-    background = m.background ++ pend (hands m.handed z x);
-    handed = m.handed + length (hands m.handed z x);
-    reserved = reserved_by (OfRequest c (conn m c).at) x m.reserved;
-    world = w;
+  conns = slice_set m.conns c (advanced s (conn m c) z x);
+  free = free_after m.free x;
+  stats = count (zeroes x) m.stats (row s (current (conn m c)) (conn m c).outcome z x);
+  level_stats = counted_level s.policy (level_row Direct (conn m c).last (conn m c).reserved z x) x m.level_stats;
+  background = m.background ++ pend (hands m.handed z x);
+  handed = m.handed + length (hands m.handed z x);
+  reserved = reserved_by (OfRequest c (conn m c).at) x m.reserved;
+  world = w;
 }
 
 -- an event of the ith handed write that is left
 abbrev pub backed : Setup → Machine → ℕ → Pending → ℕ → What → World → Machine
 backed s m i p z x w = record m {
-    level_stats = counted_level s.policy (level_row (by_backfill p.backfill p.at) 0 p.since z x) x m.level_stats;
-    background = pending_after (ends_write x) i z x m.background; reserved = reserved_by (OfWrite p.number) x m.reserved; world = w;
+  level_stats = counted_level s.policy (level_row (by_backfill p.backfill p.at) 0 p.since z x) x m.level_stats;
+  background = pending_after (ends_write x) i z x m.background;
+  reserved = reserved_by (OfWrite p.number) x m.reserved;
+  world = w;
 }
 
 abbrev pub IsStopped : Machine → Setup → ℕ → Type 0
@@ -480,6 +482,9 @@ shown_levels (Levels ps) ls = ls
 
 abbrev pub result_of_run : Script → Machine → Result_of_run
 result_of_run s m = record {
-    stats = m.stats; level_stats = shown_levels s.setup.policy m.level_stats; background = map given_of m.background;
-    ends = map (end_at s) m.conns; out = map (λ k. k.out) m.conns;
+  stats = m.stats;
+  level_stats = shown_levels s.setup.policy m.level_stats;
+  background = map given_of m.background;
+  ends = map (end_at s) m.conns;
+  out = map (λ k. k.out) m.conns;
 }

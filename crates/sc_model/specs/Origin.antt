@@ -73,8 +73,8 @@ origins s start [] = record { entry = λ l k b. held (kind_at s.setup.levels l) 
 origins s start (e ∷ t) =
     let o = origins s start t in
     record {
-        entry = λ l k b. o.entry l k b ⊎ entry_by s t o e.owner e.what l k b;
-        write = λ i k b. o.write i k b ⊎ write_by s t o e.owner e.moment e.what i k b;
+      entry = λ l k b. o.entry l k b ⊎ entry_by s t o e.owner e.what l k b;
+      write = λ i k b. o.write i k b ⊎ write_by s t o e.owner e.moment e.what i k b;
     }
 
 abbrev pub Origin : Script → World → List Event → ℕ → List ℕ → List ℕ → Type 0

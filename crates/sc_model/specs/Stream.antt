@@ -27,11 +27,11 @@ front limit decode _ = Part
 
 abbrev pub read_requests : ℕ → (List ℕ → Option Request) → ℕ → List ℕ → List Request
 read_requests limit decode zero b = []
-read_requests limit decode (suc n) b = elim (front limit decode b) [ | Part ↦ [] | Bad ↦ [] | Frame r rest ↦ r ∷ read_requests limit decode n rest ]
+read_requests limit decode (suc n) b = elim (front limit decode b) [ Part ↦ [] | Bad ↦ [] | Frame r rest ↦ r ∷ read_requests limit decode n rest ]
 
 abbrev pub read_rest : ℕ → (List ℕ → Option Request) → ℕ → List ℕ → List ℕ
 read_rest limit decode zero b = b
-read_rest limit decode (suc n) b = elim (front limit decode b) [ | Part ↦ b | Bad ↦ b | Frame r rest ↦ read_rest limit decode n rest ]
+read_rest limit decode (suc n) b = elim (front limit decode b) [ Part ↦ b | Bad ↦ b | Frame r rest ↦ read_rest limit decode n rest ]
 
 abbrev pub end_left : Bool → List ℕ → End
 end_left false b = IsOpen
@@ -46,7 +46,7 @@ end_at_front (Frame r rest) closed b = IsOpen
 -- the reader of a limit and of what payloads spell
 abbrev pub stream_reader : ℕ → (List ℕ → Option Request) → Reader
 stream_reader limit decode = record {
-    requests = λ b. read_requests limit decode (length b) b;
-    rest = λ b. read_rest limit decode (length b) b;
-    ends = λ b closed. end_at_front (front limit decode (read_rest limit decode (length b) b)) closed (read_rest limit decode (length b) b);
+  requests = λ b. read_requests limit decode (length b) b;
+  rest = λ b. read_rest limit decode (length b) b;
+  ends = λ b closed. end_at_front (front limit decode (read_rest limit decode (length b) b)) closed (read_rest limit decode (length b) b);
 }

@@ -363,7 +363,7 @@ Tells_status s now (FailWithMessage text) info f g = info ≡ NotConnected s.sch
 Tells_status s now (RetryCreateAt due_at) info f g = info ≡ NotConnected s.scheduler.url (s.scheduler.retry_text (due_at - now))
 
 abbrev pub IsBrokenRun : RunOutput → Type 0
-IsBrokenRun out = elim out.objects [ | Collected os ↦ ⊥ | Broken chain ↦ Unit {0} ]
+IsBrokenRun out = elim out.objects [ Collected os ↦ ⊥ | Broken chain ↦ Unit {0} ]
 
 -- a run's fault comes only where the workshop's count rose, a client's other answers only where its own did
 abbrev pub RunCause : RunAnswer → ℕ → ℕ → Type 0

@@ -1,11 +1,11 @@
 //! What happens.
 ghost use Rattle.std.specs.Prelude.{◌≡◌};
 
-use std::alloc::AllocError;
 use crate::level::{Cause, Handed, Put};
 use crate::message::{Request, Response, StorageHandshakeInfo};
-use sc_stats::{DistInfo, LevelStats, ServerStats};
 use sc_entry::{ByteText, FileObjectSource, Items, Object, Text};
+use sc_stats::{DistInfo, LevelStats, ServerStats};
+use std::alloc::AllocError;
 
 #[derive(Drop)]
 pub enum Step {

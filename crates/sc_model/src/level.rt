@@ -1,9 +1,9 @@
 //! Stores, as the daemon's definitions see them.
 ghost use Rattle.std.specs.Prelude.{◌≡◌};
 
-use std::alloc::AllocError;
 use crate::message::CacheMode;
 use sc_entry::{ByteText, Items, Text};
+use std::alloc::AllocError;
 
 /// Why a store refuses.
 #[derive(Clone, Copy)]

@@ -6,6 +6,13 @@ mod level;
 mod message;
 mod phase;
 
+ghost use Rattle.std.specs.Prelude.{List};
+ghost use Rattle.sc_model.specs.declared.event.Event.{Event};
+ghost use Rattle.sc_model.specs.declared.event.Step.{Step};
+ghost use Rattle.sc_model.specs.Script.{Script};
+ghost use Rattle.sc_model.specs.Machine.{Machine, IsIdle, Runs, result_of_run};
+ghost use Rattle.sc_model.specs.Headline.{Headline};
+
 pub use event::{
     Answer, CCompilerKind, CompilerKind, DistAnswer, DistType, Event, KeyFound, KeyStep, Language,
     MissType, Mode, Objects, Output, Owner, Parsed, Placing, RunAnswer, RunOutput, Status, Step,
@@ -20,15 +27,7 @@ pub use message::{
 };
 pub use phase::{Bytes, Ending, Job, Pending, Phase, Refusal, Sized, Stage, Work};
 
-ghost use Rattle.std.specs.Prelude.{List};
-ghost use Rattle.sc_model.specs.declared.event.Event.{Event};
-ghost use Rattle.sc_model.specs.declared.event.Step.{Step};
-ghost use Rattle.sc_model.specs.Script.{Script};
-ghost use Rattle.sc_model.specs.Machine.{Machine, IsIdle, Runs, result_of_run};
-ghost use Rattle.sc_model.specs.Headline.{Headline};
-
 /// The headline holds of every run of the machine, from an idle one.
 pub fn every_run()
     ensures { (s : Script) (m0 : Machine) (steps : List Step) (t : List Event) (m : Machine) → IsIdle s m0 → Runs s m0 steps t m → Headline s m0.world steps t m.world (result_of_run s m) }
-{
-}
+{}

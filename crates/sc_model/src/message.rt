@@ -1,9 +1,9 @@
 //! What goes over a connection.
 ghost use Rattle.std.specs.Prelude.{◌≡◌};
 
-use std::alloc::AllocError;
-use sc_stats::{DistInfo, ServerInfo, ServerStats};
 use sc_entry::{ByteText, Items, Text};
+use sc_stats::{DistInfo, ServerInfo, ServerStats};
+use std::alloc::AllocError;
 
 #[derive(Drop)]
 pub struct Variable {
@@ -136,9 +136,16 @@ impl Clone for Request {
             Request::StorageHandshake => Ok(Request::StorageHandshake),
             Request::StorageGetPath(inner) => Ok(Request::StorageGetPath(inner.clone()?)),
             Request::StorageGetRaw(inner) => Ok(Request::StorageGetRaw(inner.clone()?)),
-            Request::StoragePutRaw(first, second) => Ok(Request::StoragePutRaw(first.clone()?, second.clone()?)),
-            Request::StorageGetPreprocessorEntry(inner) => Ok(Request::StorageGetPreprocessorEntry(inner.clone()?)),
-            Request::StoragePutPreprocessorEntry(first, second) => Ok(Request::StoragePutPreprocessorEntry(first.clone()?, second.clone()?)),
+            Request::StoragePutRaw(first, second) => Ok(Request::StoragePutRaw(
+                first.clone()?,
+                second.clone()?,
+            )),
+            Request::StorageGetPreprocessorEntry(inner) => Ok(Request::StorageGetPreprocessorEntry(
+                inner.clone()?,
+            )),
+            Request::StoragePutPreprocessorEntry(first, second) => Ok(
+                Request::StoragePutPreprocessorEntry(first.clone()?, second.clone()?),
+            ),
             Request::RecordStats(inner) => Ok(Request::RecordStats(inner.clone()?)),
         }
     }

@@ -2,8 +2,8 @@
 use crate::event::{DistType, KeyFound, MissType, Task, Verdict};
 use crate::level::{Cause, Handed};
 use crate::message::{CompileFinished, Response};
-use sc_stats::ServerStats;
 use sc_entry::{ByteText, Items, Queue, Text};
+use sc_stats::ServerStats;
 
 /// A job whose key was found.
 #[derive(Drop)]
