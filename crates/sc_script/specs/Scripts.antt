@@ -1,7 +1,7 @@
 -- When a script is good, what it says, and which of its lines is the first bad one.
 use Rattle.std.specs.Prelude.{◌≡◌, ℕ, ◌+◌, List, [], ◌∷◌, ◌++◌, length, take, replicate, Option, Some, None, is_none, Result, Ok, Err, Bool, true, false, not, ◌&&◌, ◌==◌, nat_lt, nat_le, if◌then◌else◌, unwrap_or, codes, decimal}
 use Rattle.std.specs.FinMap as map
-use Rattle.sc_compile.specs.declared.run_line.RunLine.{RunLine}
+use Rattle.sc_script.specs.declared.run_rule.RunRule.{RunRule}
 use Rattle.sc_compile.specs.declared.tool.Tool.{Tool as Told}
 use Rattle.sc_entry.specs.Tally.{Tally, count_of, counted}
 use Rattle.sc_model.specs.declared.event.Step.TheVariants.{Read as ReadStep, Serve as ServeStep}
@@ -84,7 +84,7 @@ with_fail d level call = only_if (d.begun && is_level level d) (record d { fails
 unfoldable pub with_tool : Draft → Told → Option Draft
 with_tool d tool = only_if d.begun (record d { tools = d.tools ++ tool ∷ [] })
 
-unfoldable pub with_run : Draft → RunLine → Option Draft
+unfoldable pub with_run : Draft → RunRule → Option Draft
 with_run d run = only_if d.begun (record d { runs = d.runs ++ run ∷ [] })
 
 -- bytes that come on a connection that is there

@@ -8,8 +8,9 @@ use crate::fault::LineError;
 use crate::frames::frame;
 use crate::inputs::Inputs;
 use crate::line::{HoldLine, Line};
+use crate::run_rule::RunRule;
 use crate::script::{Script, ScriptError};
-use sc_compile::{RunLine, Tool};
+use sc_compile::Tool;
 use sc_entry::{ByteText, Counts, Items, NoMemory, Text};
 use sc_model::Step;
 use std::alloc::Global;
@@ -34,7 +35,7 @@ pub struct Draft {
     pub holds: Items<(Text, ByteText)>,
     pub fails: Items<u64>,
     pub tools: Items<Tool>,
-    pub runs: Items<RunLine>,
+    pub runs: Items<RunRule>,
     pub inputs: Inputs,
     pub steps: Items<Step>,
 }
@@ -197,7 +198,7 @@ impl Draft {
     }
 
     #[tactic(auto, unfolding(crate::specs::Scripts::with_run))]
-    fn add_run(&mut self, run: RunLine) -> Result<(), LineError>
+    fn add_run(&mut self, run: RunRule) -> Result<(), LineError>
         ensures { Leaves (with_run self.old run) result self.new }
     {
         if !self.begun {

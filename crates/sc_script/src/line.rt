@@ -1,5 +1,6 @@
 //! What a line of a script says.
-use sc_compile::{RunLine, Tool};
+use crate::run_rule::RunRule;
+use sc_compile::Tool;
 use sc_entry::{ByteText, Text};
 use sc_model::Request;
 
@@ -24,7 +25,7 @@ pub enum Line {
     /// The call on a level's device that fails.
     Fail { level: u64, call: u64 },
     Tool(Tool),
-    Run(RunLine),
+    Run(RunRule),
     /// Bytes that come on a connection.
     Bytes { connection: u64, bytes: ByteText },
     /// A request that comes on a connection.

@@ -9,7 +9,8 @@ use crate::fields::{
 };
 use crate::line::{HoldLine, Line};
 use crate::parts::Words;
-use sc_compile::{RunLine, Tool};
+use crate::run_rule::RunRule;
+use sc_compile::Tool;
 use sc_entry::{ByteText, Counts, Items, Object};
 use sc_model::{Compile, Objects, Output, Request, RunAnswer, RunOutput, Variable};
 use std::alloc::Global;
@@ -165,7 +166,7 @@ fn run_line(alloc: Global, words: &mut Words<'_>) -> Result<Line, LineError>
     let stdout = token(alloc, words.word()?)?;
     let stderr = token(alloc, words.word()?)?;
     let objects = objects(alloc, words)?;
-    Ok(Line::Run(RunLine {
+    Ok(Line::Run(RunRule {
         key,
         answer: RunAnswer::Output(RunOutput {
             output: Output {

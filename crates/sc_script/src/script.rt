@@ -1,5 +1,6 @@
 //! What a script says.
-use sc_compile::{RunLine, Tool};
+use crate::run_rule::RunRule;
+use sc_compile::Tool;
 use sc_entry::{ByteText, Items, Text};
 use sc_model::Step;
 
@@ -16,7 +17,7 @@ pub struct Script {
     /// The numbers of the calls on the level's device that fail, counted from 1; a 0 is without effect.
     pub fails: Items<u64>,
     pub tools: Items<Tool>,
-    pub runs: Items<RunLine>,
+    pub runs: Items<RunRule>,
     /// Each step by itself: a line with a count stands for so many.
     pub steps: Items<Step>,
 }
