@@ -96,7 +96,6 @@ impl<K: Eq + Hash, V, S: BuildHasher, M: Meter<K, V>> LruCache<K, V, S, M> {
     /// The number of pairs.
     pub fn len(&self) -> usize
         ensures len { result ≡ length self.now.entries }
-        ensures positions { result ≡ length self.now.slots }
         ensures distinct { IsDistinct K.eq (keys_of self.now.entries) }
     {
         self.order.len()

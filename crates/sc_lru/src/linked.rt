@@ -55,7 +55,6 @@ impl<K: Eq + Hash, V, S: BuildHasher> Order<K, V, S> {
     /// The number of pairs.
     pub fn len(&self) -> usize
         ensures len { result ≡ length self.now.entries }
-        ensures positions { result ≡ length self.now.slots }
         ensures distinct { IsDistinct K.eq (keys_of self.now.entries) }
     {
         let _ = &self.first;

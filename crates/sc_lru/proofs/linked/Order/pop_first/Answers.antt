@@ -1,4 +1,4 @@
-use Rattle.std.proofs.Common.{sym, ap, ◌<◌, length, arith, drop, slice_get}
+use Rattle.std.proofs.Common.{◌∙◌, sym, ap, ◌≡◌, ◌<◌, Some, length, arith, drop, slice_get}
 use Rattle.sc_lru.proofs.Orders.{is_placed, first_within, popped}
 use Rattle.sc_lru.proofs.linked.Order.pop_first.Goals as goal
 
