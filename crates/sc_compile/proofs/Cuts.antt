@@ -1,5 +1,5 @@
 -- A list is cut at the first place where a byte stands.
-use Rattle.std.proofs.Common.{◌≡◌, ℕ, zero, suc, ◌+◌, ◌-◌, ◌<◌, ◌≢◌, ◌==◌, List, [], ◌∷◌, length, take, drop, get_or, refl, arith, eq-eqb, true, false, add-one, Some, None}
+use Rattle.std.proofs.Common.{◌≡◌, ℕ, zero, suc, ◌+◌, ◌-◌, ◌<◌, ◌≢◌, ◌==◌, List, [], ◌∷◌, length, take, drop, get_or, refl, arith, eq-eqb, false, add-one, Some, None}
 use Rattle.std.proofs.Math.Seq.{take-length}
 use Rattle.std.proofs.lemmas.List.{length-drop}
 use Rattle.std.proofs.lemmas.Grind.{common_steps}

@@ -1,4 +1,5 @@
 pub mod Cuts
+pub mod Goods
 pub mod Making
 pub mod Named
 pub mod Naming

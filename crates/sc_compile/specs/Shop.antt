@@ -1,5 +1,5 @@
 -- A workshop in memory: its lines, what it did, and how often it failed.
-use Rattle.std.specs.Prelude.{◌≡◌, ℕ, suc, zero, if◌then◌else◌, List, [], ◌∷◌, ◌++◌, String, unwrap_or}
+use Rattle.std.specs.Prelude.{◌≡◌, ℕ, suc, if◌then◌else◌, List, [], ◌∷◌, ◌++◌, String, unwrap_or}
 use Rattle.std.specs.Global.{Global, Vec}
 use Rattle.std.specs.Option.{option_map_or}
 use Rattle.std.specs.Str.{bytes_eq}

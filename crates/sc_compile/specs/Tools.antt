@@ -1,8 +1,7 @@
 -- What a table of tools answers on a path, and what compilers behind such a table tell.
-use Rattle.std.specs.Prelude.{◌≡◌, ℕ, Bool, true, false, ◌==◌, if◌then◌else◌, List, [], ◌∷◌, Option, Some, None, codes, slice_index_or, option_map}
+use Rattle.std.specs.Prelude.{ℕ, Bool, ◌==◌, if◌then◌else◌, List, [], ◌∷◌, Option, Some, None, codes, slice_index_or, option_map}
 use Rattle.std.specs.Str.{bytes_eq}
 use Rattle.sc_model.specs.Script.{Compilers}
-use Rattle.sc_model.specs.declared.event.CompilerKind.{CompilerKind}
 use Rattle.sc_model.specs.declared.event.KeyStep.{KeyStep}
 use Rattle.sc_model.specs.declared.event.KeyStep.TheVariants.{Key}
 use Rattle.sc_model.specs.declared.event.Parsed.{Parsed}

@@ -1,11 +1,12 @@
 -- How a run's output is judged, without what it carries.
 use Rattle.sc_job.specs.declared.verdict.Judgement.{Judgement}
-use Rattle.sc_job.specs.declared.verdict.Judgement.TheVariants.{Broken, Failed, NotCacheable, NotCached, Stored}
-use Rattle.sc_model.specs.Job.{IsBroken, IsFailed, IsNotCacheable, IsNotCached, IsStored, Judged}
+use Rattle.sc_job.specs.declared.verdict.Judgement.TheVariants.{Cacheable, Failed, NotCacheable, NotCached}
+use Rattle.sc_model.specs.Job.{IsFailed, IsNotCacheable, IsNotCached, Judged, judge_objects}
+use Rattle.sc_model.specs.declared.event.Objects.{Objects}
 
-abbrev pub judgement_of : Judged → Judgement
-judgement_of IsFailed = Failed
-judgement_of IsNotCached = NotCached
-judgement_of IsNotCacheable = NotCacheable
-judgement_of (IsBroken chain) = Broken
-judgement_of (IsStored os) = Stored
+-- what an output is, by what is said of it and its objects
+abbrev pub judged_by : Judgement → Objects → Judged
+judged_by Failed objects = IsFailed
+judged_by NotCached objects = IsNotCached
+judged_by NotCacheable objects = IsNotCacheable
+judged_by Cacheable objects = judge_objects objects

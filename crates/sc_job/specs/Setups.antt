@@ -1,5 +1,6 @@
 -- What a daemon is: its real spellings, what its probe and its workshop tell, its levels and its limits.
 use Rattle.std.specs.Prelude.{◌≡◌, ℕ, Bool, false, List, [], ◌∷◌, Option, None}
+use Rattle.sc_compile.specs.Answers.{told_answer}
 use Rattle.sc_compile.specs.Tools.{plain_compilers}
 use Rattle.sc_compile.specs.declared.run_line.RunLine.{RunLine}
 use Rattle.sc_compile.specs.declared.tool.Tool.{Tool}
@@ -29,7 +30,7 @@ setup c = record {
   codec = real_codec;
   compilers = plain_compilers c.table;
   scheduler = record { url = None; retry_text = λ n. [] };
-  workshop = λ k runs outputs. None;
+  workshop = told_answer c.lines;
   store = record { location = []; type_name = []; basedirs = []; basedir_texts = []; flag = false; max_size = None };
   levels = c.levels;
   policy = c.policy;

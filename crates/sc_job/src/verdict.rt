@@ -1,9 +1,10 @@
 //! What a run's output comes to.
 ghost use Rattle.std.specs.Prelude.{◌≡◌};
-ghost use Rattle.sc_job.specs.Judgements.{judgement_of};
+ghost use Rattle.sc_job.specs.Judgements.{judged_by};
 ghost use Rattle.sc_model.specs.Job.{judge as judged, judge_miss};
+ghost use Rattle.sc_model.specs.declared.event.Objects.{Objects};
 
-use sc_model::{Job, MissType, Objects, RunOutput, Status};
+use sc_model::{Job, MissType, RunOutput, Status};
 
 /// What a run's output is: the first of these that holds.
 #[derive(Clone, Copy)]
@@ -13,34 +14,31 @@ pub enum Judgement {
     /// Its request asked for no cache.
     NotCached,
     NotCacheable,
-    /// Its objects could not be collected.
-    Broken,
-    Stored,
+    /// It is stored, where its objects could be collected.
+    Cacheable,
 }
 
 /// Judges a run's output under the miss that it was run for.
 pub fn judge(job: &Job, miss: MissType, out: &RunOutput) -> Judgement
-    ensures { result ≡ judgement_of (judged job.now miss out.now) }
+    ensures { judged job.now miss out.now ≡ judged_by result out.now.objects }
 {
     match out.output.status {
-        Status::Code(0) => judge_success(job, miss, out),
+        Status::Code(0) => judge_success(job, miss),
         Status::Code(_) => Judgement::Failed,
         Status::Signal(_) => Judgement::Failed,
         Status::Neither => Judgement::Failed,
     }
 }
 
-fn judge_success(job: &Job, miss: MissType, out: &RunOutput) -> Judgement
-    ensures { result ≡ judgement_of (judge_miss miss job.now.found.cacheable out.now.objects) }
+fn judge_success(job: &Job, miss: MissType) -> Judgement
+    ensures { (objects : Objects) → judge_miss miss job.now.found.cacheable objects ≡ judged_by result objects }
 {
     if let MissType::ForcedNoCache = miss {
         return Judgement::NotCached;
     }
-    if !job.found.cacheable {
-        return Judgement::NotCacheable;
-    }
-    match &out.objects {
-        Objects::Collected(_) => Judgement::Stored,
-        Objects::Broken(_) => Judgement::Broken,
+    if job.found.cacheable {
+        Judgement::Cacheable
+    } else {
+        Judgement::NotCacheable
     }
 }

@@ -125,127 +125,127 @@ abbrev stored_after : Request → MissType → DistType → ℕ → List Own →
 stored_after r miss dist m own =
     At m (Sent (reply r)) ∷ At m (WriteEnded PutDone []) ∷ At m (Wrote 0 key (1 ∷ []) Whole true WriteDone) ∷ At m (Outcome (CacheMiss miss dist 0) task) ∷ At m (ran (Code 0)) ∷ At m TokenTaken ∷ own
 
--- row 1: ten events, and then nothing more
-row_1 : due setup (compile []) (stored_after (compile []) Normal NoDist 0 (asked (compile []) 0 Miss)) ≡ Over
-row_1 = refl
+-- a miss that is run and stored: ten events, and then nothing more
+stored_miss : due setup (compile []) (stored_after (compile []) Normal NoDist 0 (asked (compile []) 0 Miss)) ≡ Over
+stored_miss = refl
 
-row_1_count : length (stored_after (compile []) Normal NoDist 0 (asked (compile []) 0 Miss)) ≡ 10
-row_1_count = refl
+stored_miss_count : length (stored_after (compile []) Normal NoDist 0 (asked (compile []) 0 Miss)) ≡ 10
+stored_miss_count = refl
 
-row_1_lawful : Lawful setup (compile []) (stored_after (compile []) Normal NoDist 0 (asked (compile []) 0 Miss))
-row_1_lawful =
+stored_miss_lawful : Lawful setup (compile []) (stored_after (compile []) Normal NoDist 0 (asked (compile []) 0 Miss))
+stored_miss_lawful =
     ((refl, omega arith), ((refl, refl), ((refl, refl, refl, refl, refl), ((refl, refl), (tt, (tt, ((refl, refl, refl, refl), ((refl, tt), ((refl, omega arith), ((refl, tt), tt))))))))))
 
 trace_of : List Own → List Event
 trace_of [] = []
 trace_of (At m x ∷ own) = (record { moment = m; owner = OfRequest 0 0; what = x }) ∷ trace_of own
 
--- row 2's second compile: seven events
+-- the same compile again, a hit: seven events
 abbrev hit_row : ℕ → List ℕ → List Own → List Own
 hit_row m b own = At m (Sent (reply (compile []))) ∷ At m (Outcome (CacheHit m) task) ∷ At m (Placed PlaceDone) ∷ own
 
-row_2 : Lawful setup (compile []) (hit_row 0 (1 ∷ []) (asked (compile []) 0 (Hit (1 ∷ []) true)))
-row_2 = ((refl, omega arith), ((refl, refl), (tt, ((refl, refl, refl, refl), ((refl, tt), ((refl, omega arith), ((refl, tt), tt)))))))
+hit_lawful : Lawful setup (compile []) (hit_row 0 (1 ∷ []) (asked (compile []) 0 (Hit (1 ∷ []) true)))
+hit_lawful = ((refl, omega arith), ((refl, refl), (tt, ((refl, refl, refl, refl), ((refl, tt), ((refl, omega arith), ((refl, tt), tt)))))))
 
-row_2_count : length (hit_row 0 (1 ∷ []) (asked (compile []) 0 (Hit (1 ∷ []) true))) ≡ 7
-row_2_count = refl
+hit_count : length (hit_row 0 (1 ∷ []) (asked (compile []) 0 (Hit (1 ∷ []) true))) ≡ 7
+hit_count = refl
 
--- row 4: status 1, eight events, and nothing is stored
+-- a run of status 1: eight events, and nothing is stored
 abbrev failed_row : List Own
 failed_row =
     At 0 (Outcome (CompileFailed NoDist 0) task) ∷ At 0 (Ran (RanOutput (record { output = record { status = Code 1; stdout = []; stderr = codes "bad" }; objects = Collected [] }))) ∷ At 0 TokenTaken ∷ asked (compile []) 0 Miss
 
-row_4 : due setup (compile []) failed_row ≡ ToFinish [] (record { retcode = Some (pos 1); signal = None; stdout = []; stderr = codes "bad"; color_mode = ColorAuto })
-row_4 = refl
+failed_reply : due setup (compile []) failed_row ≡ ToFinish [] (record { retcode = Some (pos 1); signal = None; stdout = []; stderr = codes "bad"; color_mode = ColorAuto })
+failed_reply = refl
 
-row_4_count : length failed_row ≡ 7
-row_4_count = refl
+failed_count : length failed_row ≡ 7
+failed_count = refl
 
--- row 5: both variables, no lookup, no write
+-- both variables: no lookup, no write
 abbrev uncached : Request
 uncached = compile (variable (codes "SCCACHE_NO_CACHE") ∷ variable (codes "SCCACHE_RECACHE") ∷ [])
 
-row_5 : due setup uncached (begun uncached false true) ≡ ToTake
-row_5 = refl
+uncached_runs : due setup uncached (begun uncached false true) ≡ ToTake
+uncached_runs = refl
 
-row_5_end : due setup uncached (At 0 (ran (Code 0)) ∷ At 0 TokenTaken ∷ begun uncached false true) ≡ ToEnd (NotCached NoDist 0) task
-row_5_end = refl
+uncached_outcome : due setup uncached (At 0 (ran (Code 0)) ∷ At 0 TokenTaken ∷ begun uncached false true) ≡ ToEnd (NotCached NoDist 0) task
+uncached_outcome = refl
 
--- row 17: bytes that spell no entry are a read error; a hit that lacks obj is one too
-row_17 : due setup (compile []) (At 0 (ran (Code 0)) ∷ At 0 TokenTaken ∷ asked (compile []) 0 (Refused BadEntry)) ≡ ToEnd (CacheMiss CacheReadError NoDist 0) task
-row_17 = refl
+-- bytes that spell no entry are a read error; a hit that lacks obj is one too
+broken_entry_outcome : due setup (compile []) (At 0 (ran (Code 0)) ∷ At 0 TokenTaken ∷ asked (compile []) 0 (Refused BadEntry)) ≡ ToEnd (CacheMiss CacheReadError NoDist 0) task
+broken_entry_outcome = refl
 
-row_17_missing : due setup (compile []) (At 0 (ran (Code 0)) ∷ At 0 TokenTaken ∷ At 0 (Placed (Missing name_obj)) ∷ asked (compile []) 0 (Hit (2 ∷ []) false)) ≡ ToEnd (CacheMiss CacheReadError NoDist 0) task
-row_17_missing = refl
+lacking_hit_outcome : due setup (compile []) (At 0 (ran (Code 0)) ∷ At 0 TokenTaken ∷ At 0 (Placed (Missing name_obj)) ∷ asked (compile []) 0 (Hit (2 ∷ []) false)) ≡ ToEnd (CacheMiss CacheReadError NoDist 0) task
+lacking_hit_outcome = refl
 
-row_17_names : first_missing (read_entry (2 ∷ [])) (placed_of true outputs) ≡ Some name_obj
-row_17_names = refl
+lacking_hit_name : first_missing (read_entry (2 ∷ [])) (placed_of true outputs) ≡ Some name_obj
+lacking_hit_name = refl
 
-row_17_count : length (stored_after (compile []) CacheReadError NoDist 0 (At 0 (Placed (Missing name_obj)) ∷ asked (compile []) 0 (Hit (2 ∷ []) false))) ≡ 11
-row_17_count = refl
+lacking_hit_count : length (stored_after (compile []) CacheReadError NoDist 0 (At 0 (Placed (Missing name_obj)) ∷ asked (compile []) 0 (Hit (2 ∷ []) false))) ≡ 11
+lacking_hit_count = refl
 
--- row 33: a client and --dep: Keyed again, then distributed
+-- a client and --dep: Keyed again, then distributed
 abbrev distributed : List Own
 distributed = At 0 (keyed false true false) ∷ At 0 (Asked 0 key Whole Miss []) ∷ begun (compile []) true false
 
-row_33_again : due setup (compile []) (At 0 (Asked 0 key Whole Miss []) ∷ begun (compile []) true false) ≡ ToKey false
-row_33_again = refl
+distributed_keyed_again : due setup (compile []) (At 0 (Asked 0 key Whole Miss []) ∷ begun (compile []) true false) ≡ ToKey false
+distributed_keyed_again = refl
 
-row_33_dist : due setup (compile []) distributed ≡ ToDist
-row_33_dist = refl
+distributed_due : due setup (compile []) distributed ≡ ToDist
+distributed_due = refl
 
-row_33_done : due setup (compile []) (At 0 (Dist (DistDone (codes "srv") (record { output = record { status = Code 0; stdout = 104 ∷ 105 ∷ []; stderr = [] }; objects = Collected (obj ∷ []) }))) ∷ distributed) ≡ ToEnd (CacheMiss ForcedRecache (DistOk (codes "srv")) 0) task
-row_33_done = refl
+distributed_done : due setup (compile []) (At 0 (Dist (DistDone (codes "srv") (record { output = record { status = Code 0; stdout = 104 ∷ 105 ∷ []; stderr = [] }; objects = Collected (obj ∷ []) }))) ∷ distributed) ≡ ToEnd (CacheMiss ForcedRecache (DistOk (codes "srv")) 0) task
+distributed_done = refl
 
-row_33_other : due setup (compile []) (At 0 (ran (Code 0)) ∷ At 0 TokenTaken ∷ At 0 (Dist (DistOther (codes "lost"))) ∷ distributed) ≡ ToEnd (CacheMiss ForcedRecache DistError 0) task
-row_33_other = refl
+distributed_lost : due setup (compile []) (At 0 (ran (Code 0)) ∷ At 0 TokenTaken ∷ At 0 (Dist (DistOther (codes "lost"))) ∷ distributed) ≡ ToEnd (CacheMiss ForcedRecache DistError 0) task
+distributed_lost = refl
 
-row_33_count : length (stored_after (compile []) ForcedRecache DistError 0 (At 0 (Dist (DistOther (codes "lost"))) ∷ distributed)) ≡ 12
-row_33_count = refl
+distributed_count : length (stored_after (compile []) ForcedRecache DistError 0 (At 0 (Dist (DistOther (codes "lost"))) ∷ distributed)) ≡ 12
+distributed_count = refl
 
--- row 34: locally preprocessed, with a client: no second key step
-row_34 : due setup (compile []) (At 0 (Outcome HttpError task) ∷ At 0 (Dist (DistHttp (codes "gone"))) ∷ At 0 (Asked 0 key Whole Miss []) ∷ begun (compile []) true true)
+-- locally preprocessed, with a client: no second key step
+distributed_http_reply : due setup (compile []) (At 0 (Outcome HttpError task) ∷ At 0 (Dist (DistHttp (codes "gone"))) ∷ At 0 (Asked 0 key Whole Miss []) ∷ begun (compile []) true true)
     ≡ ToFinish [] (record { retcode = Some (pos 1); signal = None; stdout = []; stderr = codes "[\"/o\"] http error status: gone"; color_mode = ColorAuto })
-row_34 = refl
+distributed_http_reply = refl
 
--- row 35: later than 60 s, and just in time
-row_35_late : due setup (compile []) (At 60000000001 (ran (Code 0)) ∷ At 60000000001 TokenTaken ∷ asked (compile []) 60000000001 (Hit (1 ∷ []) true)) ≡ ToEnd (CacheMiss TimedOut NoDist 0) task
-row_35_late = refl
+-- a hit later than 60 s, and just in time
+late_hit_runs : due setup (compile []) (At 60000000001 (ran (Code 0)) ∷ At 60000000001 TokenTaken ∷ asked (compile []) 60000000001 (Hit (1 ∷ []) true)) ≡ ToEnd (CacheMiss TimedOut NoDist 0) task
+late_hit_runs = refl
 
-row_35_time : due setup (compile []) (asked (compile []) 60000000000 (Hit (1 ∷ []) true)) ≡ ToPlace
-row_35_time = refl
+hit_in_time_places : due setup (compile []) (asked (compile []) 60000000000 (Hit (1 ∷ []) true)) ≡ ToPlace
+hit_in_time_places = refl
 
--- rows 14, 15 and 45: which levels are written, and which writes are handed on
+-- which levels are written, and which writes are handed on
 abbrev three : List LevelFacts
 three = remote ∷ remote ∷ remote ∷ []
 
-row_14 : plan (Levels (Required ∷ Required ∷ Required ∷ [])) three ≡ 0 ∷ 1 ∷ 2 ∷ []
-row_14 = refl
+all_levels_written : plan (Levels (Required ∷ Required ∷ Required ∷ [])) three ≡ 0 ∷ 1 ∷ 2 ∷ []
+all_levels_written = refl
 
-row_14_backfills : backfilled (Levels (Required ∷ Required ∷ Required ∷ [])) three 2 ≡ 0 ∷ 1 ∷ []
-row_14_backfills = refl
+third_level_backfills : backfilled (Levels (Required ∷ Required ∷ Required ∷ [])) three 2 ≡ 0 ∷ 1 ∷ []
+third_level_backfills = refl
 
-row_15 : goes_on (RefusedAt 0 Io) (background (Levels (Required ∷ Background ∷ [])) (remote ∷ remote ∷ [])) ≡ []
-row_15 = refl
+refused_level_hands_none : goes_on (RefusedAt 0 Io) (background (Levels (Required ∷ Background ∷ [])) (remote ∷ remote ∷ [])) ≡ []
+refused_level_hands_none = refl
 
-row_15_read_only : plan (Levels (Required ∷ Required ∷ [])) (record remote { mode = ModeReadOnly } ∷ remote ∷ []) ≡ 1 ∷ []
-row_15_read_only = refl
+read_only_level_skipped : plan (Levels (Required ∷ Required ∷ [])) (record remote { mode = ModeReadOnly } ∷ remote ∷ []) ≡ 1 ∷ []
+read_only_level_skipped = refl
 
-row_45 : plan (Levels (Required ∷ Off ∷ Background ∷ [])) three ≡ 0 ∷ []
-row_45 = refl
+required_level_alone : plan (Levels (Required ∷ Off ∷ Background ∷ [])) three ≡ 0 ∷ []
+required_level_alone = refl
 
-row_45_handed : background (Levels (Required ∷ Off ∷ Background ∷ [])) three ≡ 2 ∷ []
-row_45_handed = refl
+background_level_handed : background (Levels (Required ∷ Off ∷ Background ∷ [])) three ≡ 2 ∷ []
+background_level_handed = refl
 
--- the scalar counters of row 1
-row_1_total : (total (script (compile [])) (trace_of (stored_after (compile []) Normal NoDist 0 (asked (compile []) 0 Miss)))).cache_writes ≡ 1
+-- the scalar counters of that stored miss
+stored_miss_writes : (total (script (compile [])) (trace_of (stored_after (compile []) Normal NoDist 0 (asked (compile []) 0 Miss)))).cache_writes ≡ 1
 unfolding trace_of
-row_1_total = refl
+stored_miss_writes = refl
 
-row_1_total_compilations : (total (script (compile [])) (trace_of (stored_after (compile []) Normal NoDist 0 (asked (compile []) 0 Miss)))).compilations ≡ 1
+stored_miss_compilations : (total (script (compile [])) (trace_of (stored_after (compile []) Normal NoDist 0 (asked (compile []) 0 Miss)))).compilations ≡ 1
 unfolding trace_of
-row_1_total_compilations = refl
+stored_miss_compilations = refl
 
-row_1_total_errors : (total (script (compile [])) (trace_of (stored_after (compile []) Normal NoDist 0 (asked (compile []) 0 Miss)))).cache_write_errors ≡ 0
+stored_miss_write_errors : (total (script (compile [])) (trace_of (stored_after (compile []) Normal NoDist 0 (asked (compile []) 0 Miss)))).cache_write_errors ≡ 0
 unfolding trace_of
-row_1_total_errors = refl
+stored_miss_write_errors = refl

@@ -27,6 +27,3 @@ pub use run_rule::RunRule;
 pub use script::{Script, ScriptError};
 pub use tokens::{put, put_line, put_named, put_number, put_token};
 pub use words::{Command, parse_words};
-
-#[cfg(test)]
-mod tests;

@@ -1,5 +1,5 @@
 -- Requests: the number of the variant, then its fields.
-use Rattle.std.specs.Prelude.{◌≡◌, ℕ, ◌⊎◌, List, Option, refl}
+use Rattle.std.specs.Prelude.{◌≡◌, ℕ, ◌⊎◌, List, Option, Some, None, refl}
 use Rattle.std.proofs.Common.{inl, inr, lit<}
 use Rattle.sc_wire.specs.Codec.{Codec, nothing, ◌&◌, same_as, read_all}
 use Rattle.sc_wire.specs.Lists.{byte_text, text}
@@ -94,3 +94,12 @@ spell_request message = request.spell message
 -- the request that all of the bytes spell
 unfoldable pub read_request : List ℕ → Option Request
 read_request bytes = read_all request bytes
+
+-- the requests that a daemon serves so far: compiles
+abbrev pub served_of : Option Request → Option Request
+served_of (Some (CompileRequest compiled)) = Some (CompileRequest compiled)
+served_of _ = None
+
+-- the request that all of the bytes spell, where it is served
+unfoldable pub read_served : List ℕ → Option Request
+read_served bytes = served_of (read_request bytes)

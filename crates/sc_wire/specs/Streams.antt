@@ -1,10 +1,12 @@
 -- The requests of a stream that comes in pieces, as the daemon's definitions read them.
-use Rattle.std.specs.Prelude.{◌≡◌, ℕ, Bool, List, [], ◌∷◌, ◌++◌, Option, Some, None, Result, Ok, Err}
+use Rattle.std.specs.Prelude.{◌≡◌, ℕ, ◌≤◌, Bool, List, [], ◌∷◌, ◌++◌, length, drop, Option, Some, None, Result, Ok, Err}
 use Rattle.sc_model.specs.Script.{Reader}
 use Rattle.sc_model.specs.Stream.{Bad, Frame, Front, Part, front, stream_reader}
+use Rattle.sc_model.specs.declared.message.Compile.{Compile}
 use Rattle.sc_model.specs.declared.message.Request.{Request}
+use Rattle.sc_model.specs.declared.message.Request.TheVariants.{Compile as CompileRequest}
 use Rattle.sc_wire.specs.Frames.{Framing}
-use Rattle.sc_wire.specs.Requests.{read_request}
+use Rattle.sc_wire.specs.Requests.{read_request, read_served}
 use Rattle.sc_wire.specs.declared.error.DecodeError.{DecodeError}
 use Rattle.sc_wire.specs.declared.error.DecodeError.TheVariants.{NoMemory, BadFrame}
 
@@ -19,16 +21,38 @@ GivesRequest (Ok None) at_front old new = (at_front ≡ Part) × (new ≡ old)
 GivesRequest (Err NoMemory) at_front old new = new ≡ old
 GivesRequest (Err BadFrame) at_front old new = (at_front ≡ Bad) × (new ≡ old)
 
+-- what stands at the front of a daemon's input, of the requests that are served
+abbrev pub served_front : ℕ → List ℕ → Front
+served_front limit bytes = front limit read_served bytes
+
+-- The compile that was shown is that at the front, with the length of its frame.
+abbrev pub ShowsServed : Result (Option (Compile × ℕ)) DecodeError → List ℕ → Front → Type 0
+ShowsServed (Ok (Some p)) bytes at_front = (at_front ≡ Frame (CompileRequest p.0) (drop p.1 bytes)) × (p.1 ≤ length bytes)
+ShowsServed (Ok None) bytes at_front = at_front ≡ Part
+ShowsServed (Err NoMemory) bytes at_front = Unit {0}
+ShowsServed (Err BadFrame) bytes at_front = at_front ≡ Bad
+
+-- The compile at the front is given and leaves with its frame. Else nothing changes.
+abbrev pub GivesServed : Result (Option Compile) DecodeError → Front → Framing → Framing → Type 0
+GivesServed (Ok (Some compiled)) at_front old new = (at_front ≡ Frame (CompileRequest compiled) new.rest) × (new.limit ≡ old.limit)
+GivesServed (Ok None) at_front old new = (at_front ≡ Part) × (new ≡ old)
+GivesServed (Err NoMemory) at_front old new = new ≡ old
+GivesServed (Err BadFrame) at_front old new = (at_front ≡ Bad) × (new ≡ old)
+
 -- the requests of bytes, the bytes behind them and the end, as the daemon reads them
 abbrev pub request_reader : ℕ → Reader
 request_reader limit = stream_reader limit read_request
 
+-- the same, of the requests that are served
+abbrev pub served_reader : ℕ → Reader
+served_reader limit = stream_reader limit read_served
+
 -- Of the bytes that were fed, some requests were taken and some bytes are still held: together they are what the
 -- fed bytes spell.
-pub record Follows (limit : ℕ) (fed : List ℕ) (taken : List Request) (held : List ℕ) : Type 0 where
-  pub requests : (request_reader limit).requests fed ≡ taken ++ (request_reader limit).requests held
-  pub rest : (request_reader limit).rest fed ≡ (request_reader limit).rest held
-  pub ends : (closed : Bool) → (request_reader limit).ends fed closed ≡ (request_reader limit).ends held closed
+pub record Follows (limit : ℕ) (decode : List ℕ → Option Request) (fed : List ℕ) (taken : List Request) (held : List ℕ) : Type 0 where
+  pub requests : (stream_reader limit decode).requests fed ≡ taken ++ (stream_reader limit decode).requests held
+  pub rest : (stream_reader limit decode).rest fed ≡ (stream_reader limit decode).rest held
+  pub ends : (closed : Bool) → (stream_reader limit decode).ends fed closed ≡ (stream_reader limit decode).ends held closed
 
 -- no whole good frame stands at the front
 abbrev pub IsStopped : Front → Type 0
@@ -37,13 +61,13 @@ IsStopped Bad = Unit {0}
 IsStopped (Frame request rest) = ⊥
 
 -- Requests come whole, whatever the cutting.
-pub record AnyCutting (limit : ℕ) : Type 0 where
+pub record AnyCutting (limit : ℕ) (decode : List ℕ → Option Request) : Type 0 where
   -- a framer at its start
-  pub none : Follows limit [] [] []
+  pub none : Follows limit decode [] [] []
   -- a piece is fed
-  pub fed : (fed : List ℕ) (taken : List Request) (held piece : List ℕ) → Follows limit fed taken held → Follows limit (fed ++ piece) taken (held ++ piece)
+  pub fed : (fed : List ℕ) (taken : List Request) (held piece : List ℕ) → Follows limit decode fed taken held → Follows limit decode (fed ++ piece) taken (held ++ piece)
   -- a request is taken
-  pub given : (fed : List ℕ) (taken : List Request) (held : List ℕ) (request : Request) (rest : List ℕ) → request_front limit held ≡ Frame request rest → Follows limit fed taken held → Follows limit fed (taken ++ request ∷ []) rest
+  pub given : (fed : List ℕ) (taken : List Request) (held : List ℕ) (request : Request) (rest : List ℕ) → front limit decode held ≡ Frame request rest → Follows limit decode fed taken held → Follows limit decode fed (taken ++ request ∷ []) rest
   -- no request stands at the front: all that were fed are taken
-  pub all_taken : (fed : List ℕ) (taken : List Request) (held : List ℕ) → IsStopped (request_front limit held) → Follows limit fed taken held → (request_reader limit).requests fed ≡ taken
-  pub all_rest : (fed : List ℕ) (taken : List Request) (held : List ℕ) → IsStopped (request_front limit held) → Follows limit fed taken held → (request_reader limit).rest fed ≡ held
+  pub all_taken : (fed : List ℕ) (taken : List Request) (held : List ℕ) → IsStopped (front limit decode held) → Follows limit decode fed taken held → (stream_reader limit decode).requests fed ≡ taken
+  pub all_rest : (fed : List ℕ) (taken : List Request) (held : List ℕ) → IsStopped (front limit decode held) → Follows limit decode fed taken held → (stream_reader limit decode).rest fed ≡ held

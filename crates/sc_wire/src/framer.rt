@@ -1,13 +1,16 @@
 //! Frames out of bytes that come in any pieces.
-ghost use Rattle.std.specs.Prelude.{◌≡◌, ◌↔◌, ℕ, ◌++◌, ◌≤◌, [], length, drop, IsTrue, OnOk, OnErr};
+ghost use Rattle.std.specs.Prelude.{◌≡◌, ◌↔◌, ℕ, ◌++◌, ◌≤◌, List, [], Option, Some, option_map, length, drop, IsTrue, OnOk, OnErr};
+ghost use Rattle.sc_model.specs.declared.message.Request.{Request};
 ghost use Rattle.sc_wire.specs.Frames.{cut, ahead, Shows, ShowsMessage, GivesPayload, GivesMessage};
-ghost use Rattle.sc_wire.specs.Streams.{request_front, GivesRequest, AnyCutting};
+ghost use Rattle.sc_model.specs.declared.message.Request.TheVariants.{Compile as CompileRequest};
+ghost use Rattle.sc_wire.specs.Requests.{served_of};
+ghost use Rattle.sc_wire.specs.Streams.{request_front, served_front, GivesRequest, GivesServed, ShowsServed, AnyCutting};
 
 use crate::bincode::BincodeCodec;
 use crate::error::DecodeError;
 use crate::wire::Wire;
 use sc_entry::{ByteText, NoMemory};
-use sc_model::Request;
+use sc_model::{Compile, Request};
 use std::alloc::Global;
 use std::marker::Model;
 
@@ -63,6 +66,44 @@ fn front_message<M: Wire + Drop>(
             let message = BincodeCodec::decode::<M>(alloc, payload)?;
             Ok(Some((message, 4 + payload.len())))
         }
+    }
+}
+
+/// The compile that a request is: no other is served so far.
+fn only_served(request: Request) -> Option<Compile>
+    ensures { option_map CompileRequest result ≡ served_of (Some request) }
+{
+    match request {
+        Request::Compile(compiled) => Some(compiled),
+        Request::ZeroStats => None,
+        Request::GetStats => None,
+        Request::DistStatus => None,
+        Request::Shutdown => None,
+        Request::StorageHandshake => None,
+        Request::StorageGetPath(_) => None,
+        Request::StorageGetRaw(_) => None,
+        Request::StoragePutRaw(_, _) => None,
+        Request::StorageGetPreprocessorEntry(_) => None,
+        Request::StoragePutPreprocessorEntry(_, _) => None,
+        Request::RecordStats(_) => None,
+    }
+}
+
+/// The compile at the front, with the length of its frame.
+#[tactic(auto, using(crate::proofs::Requested::none_served, crate::proofs::Requested::bad_served, crate::proofs::Requested::message_served))]
+fn front_served(
+    alloc: Global,
+    limit: u32,
+    bytes: &[u8],
+) -> Result<Option<(Compile, usize)>, DecodeError>
+    ensures { ShowsServed result bytes.now (served_front limit bytes.now) }
+{
+    match front_message::<Request>(alloc, limit, bytes)? {
+        None => Ok(None),
+        Some((request, len)) => match only_served(request) {
+            Some(compiled) => Ok(Some((compiled, len))),
+            None => Err(DecodeError::BadFrame),
+        },
     }
 }
 
@@ -144,10 +185,23 @@ impl Framer {
     {
         self.next_message::<Request>(alloc)
     }
+
+    /// The compile of the next frame. Other requests are no served ones so far: `BadFrame`, and they stay so.
+    pub fn next_served(&mut self, alloc: Global) -> Result<Option<Compile>, DecodeError>
+        ensures { GivesServed result (served_front self.old.limit self.old.rest) self.old self.new }
+    {
+        match front_served(alloc, self.limit, &self.held[self.start..])? {
+            Some((compiled, len)) => {
+                self.start += len;
+                Ok(Some(compiled))
+            }
+            None => Ok(None),
+        }
+    }
 }
 
 /// Whatever the cutting: after any feeds and any requests taken, what was taken and what is held is what the fed
 /// bytes spell; and once no request stands at the front, all of theirs are taken.
 pub fn any_cutting()
-    ensures { (limit : ℕ) → AnyCutting limit }
+    ensures { (limit : ℕ) (decode : List ℕ → Option Request) → AnyCutting limit decode }
 {}

@@ -1,6 +1,6 @@
-use Rattle.std.proofs.Common.{◌≡◌, ◌++◌, ◌∷◌, [], true, false, codes, rules, sym, ◌∙◌, subst, ap, arith}
+use Rattle.std.proofs.Common.{◌≡◌, true, false, codes, rules, ◌∙◌}
 use Rattle.std.specs.Str.{bytes_eq}
-use Rattle.sc_compile.proofs.Outputs.{OneMore, one_more}
+use Rattle.sc_compile.proofs.Outputs.{one_more}
 use Rattle.sc_compile.proofs.arguments.outputs.Goals as goal
 
 pub loop-word-smaller : goal.loop-word-smaller

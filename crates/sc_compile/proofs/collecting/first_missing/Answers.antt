@@ -1,4 +1,4 @@
-use Rattle.std.proofs.Common.{◌≡◌, ◌∙◌, sym, not, ◌&&◌, Bool, true, false}
+use Rattle.std.proofs.Common.{◌∙◌, sym}
 use Rattle.std.specs.BTreeSet.{contains_text}
 use Rattle.sc_compile.proofs.Objects.{missing_here, missing_on}
 use Rattle.sc_compile.proofs.collecting.first_missing.Goals as goal

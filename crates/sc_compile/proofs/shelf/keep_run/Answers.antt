@@ -1,4 +1,4 @@
-use Rattle.std.proofs.Common.{◌≡◌, ◌≤◌, ◌-◌, ◌^◌, length, arith, rules}
+use Rattle.std.proofs.Common.{◌≤◌, ◌-◌, ◌^◌, length, rules}
 use Rattle.sc_compile.specs.Shop.{taken_at}
 use Rattle.sc_compile.proofs.Shelves.{counts_on}
 use Rattle.sc_compile.proofs.shelf.keep_run.Goals as goal

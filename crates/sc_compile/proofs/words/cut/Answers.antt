@@ -1,4 +1,4 @@
-use Rattle.std.proofs.Common.{ℕ, ◌<◌, ◌≢◌, get_or, length, arith, rules}
+use Rattle.std.proofs.Common.{arith}
 use Rattle.sc_compile.proofs.Cuts.{cut_none, cut_here, rest_of}
 use Rattle.sc_compile.proofs.words.cut.Goals as goal
 

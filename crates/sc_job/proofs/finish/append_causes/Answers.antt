@@ -1,4 +1,4 @@
-use Rattle.std.proofs.Common.{◌≡◌, ◌+◌, ◌++◌, [], drop, ap, sym, ◌∙◌, arith, rules, append-nil}
+use Rattle.std.proofs.Common.{◌+◌, ◌++◌, drop, ap, ◌∙◌, arith, rules, append-nil}
 use Rattle.std.proofs.lemmas.Grind.{common_steps}
 use Rattle.sc_model.specs.Job.{caused_by}
 use Rattle.sc_job.proofs.Causes.{cause_written}

@@ -3,7 +3,6 @@ use Rattle.std.proofs.lemmas.Result.{IfOk-weaker}
 use Rattle.sc_model.specs.Rows.{began_row, written_row}
 use Rattle.sc_model.specs.declared.message.Compile.{Compile as CompileRequest}
 use Rattle.sc_model.specs.declared.message.Request.TheVariants.{Compile as OfCompile}
-use Rattle.sc_stats.specs.declared.counters.ServerStats.{ServerStats}
 use Rattle.sc_job.specs.Setups.{Config}
 use Rattle.sc_job.proofs.rows.row_of.Goals as goal
 

@@ -1,4 +1,4 @@
-use Rattle.std.proofs.Common.{◌≡◌, ◌+◌, ◌++◌, ◌∷◌, [], codes, None, ap, sym, ◌∙◌, subst, rules, arith, take, drop, append-nil, get_or}
+use Rattle.std.proofs.Common.{◌≡◌, ◌+◌, ◌++◌, ◌∷◌, [], codes, ap, sym, ◌∙◌, subst, take, drop}
 use Rattle.std.proofs.lemmas.List.{take_more, take_all}
 use Rattle.sc_entry.specs.Entries.{entry}
 use Rattle.sc_entry.specs.EntryAnswers.{PutAnswer, put_refusal, stream_object, stream_refusal}

@@ -1,9 +1,8 @@
-use Rattle.std.proofs.Common.{◌≡◌, ◌<◌, None, Some, List, Option, ℕ, length, ap, sym, ◌∙◌, subst, arith}
+use Rattle.std.proofs.Common.{◌≡◌, Some, List, Option, ℕ, ap, sym, ◌∙◌, subst, arith}
 use Rattle.std.specs.Option.{option_map}
 use Rattle.sc_model.specs.declared.event.RunAnswer.{RunAnswer}
 use Rattle.sc_compile.specs.Answers.{answers_of, count_runs, next_of}
-use Rattle.sc_compile.specs.Shop.{Shop, places_from}
-use Rattle.sc_compile.specs.declared.run_line.RunLine.{RunLine}
+use Rattle.sc_compile.specs.Shop.{Shop}
 use Rattle.sc_compile.proofs.Shelves.{next_none, next_found}
 use Rattle.sc_compile.proofs.script_workshop.ScriptWorkshop.next_answer.Goals as goal
 

@@ -1,0 +1,124 @@
+ghost use Rattle.std.specs.Prelude.{◌≡◌, ◌<◌, ℕ, Bool, false, length, IfOk, List};
+ghost use Rattle.sc_compile.specs.Tools.{reading};
+ghost use Rattle.sc_hold.specs.Quiet.{IsQuiet};
+ghost use Rattle.sc_entry.specs.Causes.{IfTold};
+ghost use Rattle.sc_job.specs.Setups.{Config, setup};
+ghost use Rattle.sc_model.specs.Collected.{GoodAnswer};
+ghost use Rattle.sc_model.specs.Follows.{kind_at};
+ghost use Rattle.sc_model.specs.Plan.{backfills, handed_by, plan, put_answer};
+ghost use Rattle.sc_model.specs.World.{Need, keys_of};
+ghost use Rattle.sc_model.specs.declared.event.KeyStep.TheVariants.{Key};
+ghost use Rattle.sc_model.specs.declared.event.What.{What};
+ghost use Rattle.sc_model.specs.declared.event.What.TheVariants.{Asked as AskedEvent, Keyed, Placed, Ran, Wrote};
+ghost use Rattle.sc_model.specs.declared.event.Mode.TheVariants.{Whole};
+ghost use Rattle.sc_model.specs.declared.level.LevelKind.TheVariants.{Remote};
+ghost use Rattle.sc_model.specs.declared.level.Policy.TheVariants.{Single};
+ghost use Rattle.sc_model.specs.declared.message.Request.TheVariants.{Compile as CompileOf};
+
+use sc_entry::{ByteText, FileObjectSource, Items, NoMemory, Queue, Text};
+use sc_model::{
+    Answer, Bytes, Compile, Handed, KeyFound, Mode, Parsed, Placing, Put, Refusal, RunAnswer,
+    Written,
+};
+use std::alloc::Global;
+
+/// A lookup's answer at one level, and the writes that it hands on.
+#[derive(Drop)]
+pub struct Lookup {
+    pub answer: Answer,
+    pub handed: Items<Handed>,
+}
+
+/// A put's answer, and the writes that it hands on.
+#[derive(Drop)]
+pub struct PutEnd {
+    pub answer: Put,
+    pub handed: Items<Handed>,
+}
+
+/// What one action of a request works on: a daemon of one's own, or one behind locks.
+pub trait Hold {
+    /// What the daemon is made of. No action changes it.
+    ghost config: { Self → Config };
+
+    /// How the hold may move by an event of a request that needs this of its parts.
+    ghost moves: { Self → Need → What → Self → Type 0 };
+
+    /// Its clock.
+    ghost moment: { Self → ℕ };
+
+    fn now(&self) -> u64
+        ensures { result ≡ moment self.now };
+
+    /// The greatest payload of a frame.
+    fn limit(&self) -> u32
+        ensures { result ≡ (config self.now).limit };
+
+    fn level_count(&self) -> u64
+        ensures { result ≡ length (config self.now).levels };
+
+    /// The levels that are written before an answer.
+    fn plan(&self, alloc: Global) -> Result<Queue<u64>, NoMemory>
+        ensures { IfOk result (λ levels. levels ≡ plan (config self.now).policy (config self.now).levels) };
+
+    /// What a put comes to.
+    fn put_end(&self, alloc: Global, bytes: &Bytes, refusal: Refusal) -> Result<PutEnd, NoMemory>
+        ensures answer { IfOk result (λ end. end.answer ≡ put_answer (config self.now).policy (config self.now).levels refusal) }
+        ensures handed { IfOk result (λ end. end.handed ≡ handed_by (config self.now).policy (config self.now).levels bytes.now refusal) };
+
+    /// What a compile's words are, by the compiler at its path.
+    fn begin(&self, alloc: Global, request: &Compile) -> Result<Parsed, NoMemory>
+        ensures { IfOk result (λ parsed. IfTold (reading (config self.now).table request.now) (λ told. parsed ≡ told)) };
+
+    /// The key step of a compile. So far there is no distributed client.
+    fn key(&mut self, alloc: Global, request: &Compile, first: bool) -> Result<KeyFound, NoMemory>
+        ensures moves { IfOk result (λ found. (n : Need) → n.keys ≡ keys_of (setup (config self.old)) (CompileOf request.now) → moves self.old n (Keyed first false (Key found)) self.new) }
+        ensures same { IfOk result (λ found. config self.new ≡ config self.old) };
+
+    /// Asks a level.
+    fn ask(&mut self, alloc: Global, level: u64, key: &Text, mode: Mode) -> Result<Lookup, NoMemory>
+        requires { level < length (config self.old).levels }
+        ensures moves { IfOk result (λ lookup. (n : Need) → moves self.old n (AskedEvent level key.now mode lookup.answer lookup.handed) self.new) }
+        ensures handed { IfOk result (λ lookup. lookup.handed ≡ backfills (config self.old).policy (config self.old).levels level key.now mode lookup.answer) }
+        ensures same { IfOk result (λ lookup. config self.new ≡ config self.old) };
+
+    /// Places a hit's outputs.
+    fn place(
+        &mut self,
+        alloc: Global,
+        key: &Text,
+        outputs: &[FileObjectSource],
+        entry: &ByteText,
+    ) -> Result<Placing, NoMemory>
+        ensures moves { IfOk result (λ placing. (n : Need) → n.outputs ≡ outputs.now → n.hit ≡ entry.now → moves self.old n (Placed placing) self.new) }
+        ensures same { IfOk result (λ placing. config self.new ≡ config self.old) };
+
+    /// Runs a compile.
+    fn run(
+        &mut self,
+        alloc: Global,
+        request: &Compile,
+        key: &Text,
+        outputs: &[FileObjectSource],
+    ) -> Result<RunAnswer, NoMemory>
+        ensures moves { IfOk result (λ answer. (n : Need) → n.key ≡ key.now → n.wanted ≡ outputs.now → moves self.old n (Ran answer) self.new) }
+        ensures good { IfOk result (λ answer. GoodAnswer answer) }
+        ensures same { IfOk result (λ answer. config self.new ≡ config self.old) };
+
+    /// Writes an entry at a remote level.
+    fn write(&mut self, alloc: Global, level: u64, bytes: &Bytes) -> Result<Written, NoMemory>
+        requires { level < length (config self.old).levels }
+        ensures moves { IfOk result (λ written. (n : Need) → moves self.old n (Wrote level bytes.now.key bytes.now.bytes Whole bytes.now.run written) self.new) }
+        ensures same { IfOk result (λ written. config self.new ≡ config self.old) };
+
+    /// So far every level is a remote store.
+    ghost remote: { (hold : Self) (level : ℕ) → kind_at (config hold).levels level ≡ Remote };
+
+    /// So far there is one store alone.
+    ghost single: { (hold : Self) → (config hold).policy ≡ Single };
+
+    /// Some level is there.
+    ghost some_level: { (hold : Self) → 0 < length (config hold).levels };
+
+    ghost quiet: { (hold : Self) (n : Need) (what : What) → IsQuiet what → moves hold n what hold };
+}
