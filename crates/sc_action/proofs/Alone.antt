@@ -1,13 +1,12 @@
 -- A store that stands alone hands nothing on.
-use Rattle.std.proofs.Common.{◌≡◌, ℕ, zero, suc, List, [], ◌∷◌, refl}
+use Rattle.std.proofs.Common.{◌≡◌, ℕ, zero, suc, List, [], refl}
 use Rattle.sc_model.specs.Plan.{backfills, handed_by}
 use Rattle.sc_model.specs.declared.event.Answer.{Answer}
 use Rattle.sc_model.specs.declared.event.Answer.TheVariants.{Found, Hit, Miss, Refused, Size}
-use Rattle.sc_model.specs.declared.event.Mode.{Mode}
-use Rattle.sc_model.specs.declared.event.Mode.TheVariants.{Path, Pre, Raw, Size as Sizes, Whole}
+use Rattle.sc_model.specs.declared.event.Mode.TheVariants.{Whole}
 use Rattle.sc_model.specs.declared.level.LevelFacts.{LevelFacts}
 use Rattle.sc_model.specs.declared.level.Policy.{Policy}
-use Rattle.sc_model.specs.declared.level.Policy.TheVariants.{Levels, Single}
+use Rattle.sc_model.specs.declared.level.Policy.TheVariants.{Single}
 use Rattle.sc_model.specs.declared.phase.Bytes.{Bytes}
 use Rattle.sc_model.specs.declared.phase.Refusal.{Refusal}
 use Rattle.sc_model.specs.declared.phase.Refusal.TheVariants.{At, NoneYet}

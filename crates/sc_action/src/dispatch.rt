@@ -40,7 +40,9 @@ pub fn act<H: Hold>(
         Phase::AtStarted(task) => act_started(alloc, hold, request, task, out),
         Phase::AtKey(task, first) => act_key(alloc, hold, request, task, first),
         Phase::AtAsk(job, level) => act_ask(alloc, hold, request, job, level),
-        Phase::AtPlace(job, entry, duration) => act_place(alloc, hold, request, job, entry, duration),
+        Phase::AtPlace(job, entry, duration) => act_place(
+            alloc, hold, request, job, entry, duration,
+        ),
         Phase::AtTake(work) => act_take(hold, request, work),
         Phase::AtRun(work) => act_run(alloc, hold, request, work),
         Phase::AtEnd(verdict, task, ending) => act_end(hold, request, verdict, task, ending),

@@ -25,30 +25,20 @@ fn begun(alloc: Global, parsed: &Parsed) -> Result<Phase, NoMemory>
     match parsed {
         Parsed::Started(task) => return Ok(Phase::AtStarted(*task)),
         Parsed::NotCompile => {
-            return Ok(Phase::AtSend(Response::Compile(
-                CompileResponse::UnhandledCompile,
-            )));
+            return Ok(Phase::AtSend(Response::Compile(CompileResponse::UnhandledCompile)));
         }
         Parsed::CannotCache(_, _) => {
-            return Ok(Phase::AtSend(Response::Compile(
-                CompileResponse::UnhandledCompile,
-            )));
+            return Ok(Phase::AtSend(Response::Compile(CompileResponse::UnhandledCompile)));
         }
         Parsed::Unsupported(text) => {
             let text = ByteText::from_slice(alloc, text.as_bytes())?;
-            return Ok(Phase::AtSend(Response::Compile(
-                CompileResponse::UnsupportedCompiler(text),
-            )));
+            return Ok(Phase::AtSend(Response::Compile(CompileResponse::UnsupportedCompiler(text))));
         }
     }
 }
 
 /// Begins a compile.
-pub fn act_begin<H: Hold>(
-    alloc: Global,
-    hold: &mut H,
-    request: &Compile,
-) -> Result<Acted, NoMemory>
+pub fn act_begin<H: Hold>(alloc: Global, hold: &mut H, request: &Compile) -> Result<Acted, NoMemory>
     ensures acts { IfOk result (λ a. Acts (H.config hold.old) request.now Phase.AtBegin (H.moment hold.old) a) }
     ensures moves { IfOk result (λ a. H.moves hold.old (need_at (setup (H.config hold.old)) (CompileOf request.now) Phase.AtBegin) a.what hold.new) }
     ensures same { IfOk result (λ a. H.config hold.new ≡ H.config hold.old) }

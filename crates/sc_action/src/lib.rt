@@ -12,6 +12,6 @@ mod sending;
 mod storing;
 mod turn;
 
-pub use dispatch::act;
 pub use acted::Acted;
 pub use control::{Control, control_of, counted_task, is_set};
+pub use dispatch::act;

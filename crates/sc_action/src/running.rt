@@ -59,7 +59,12 @@ fn unstored(alloc: Global, job: &Job, verdict: Verdict, out: &Output) -> Result<
 fn stored(work: Work, entry: ByteText, ending: Ending, duration: u64) -> Phase
     ensures { result ≡ Phase.AtStore (Verdict.CacheMiss work.miss work.dist duration) work.job.task (record { key = work.job.found.key; bytes = entry; run = true }) ending }
 {
-    let Work { job, miss, dist, .. } = work;
+    let Work {
+        job,
+        miss,
+        dist,
+        ..
+    } = work;
     let Job { task, found, .. } = job;
     let bytes = Bytes {
         key: found.key,

@@ -12,9 +12,7 @@ ghost use Rattle.sc_model.specs.declared.message.Response.TheVariants.{ArtifactN
 use crate::acted::Acted;
 use sc_entry::{ByteText, Items, NoMemory, Queue};
 use sc_hold::Hold;
-use sc_model::{
-    Compile, CompileFinished, CompileResponse, Phase, Response, Task, What,
-};
+use sc_model::{Compile, CompileFinished, CompileResponse, Phase, Response, Task, What};
 use sc_wire::{FrameError, append_response};
 use std::alloc::Global;
 

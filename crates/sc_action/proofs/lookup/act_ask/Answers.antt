@@ -1,4 +1,4 @@
-use Rattle.std.proofs.Common.{◌≡◌, ℕ, refl, sym, ◌∙◌, ap}
+use Rattle.std.proofs.Common.{ℕ, refl, sym, ◌∙◌, ap}
 use Rattle.sc_job.specs.Setups.{setup}
 use Rattle.sc_model.specs.Machine.{whole_phase}
 use Rattle.sc_action.proofs.Alone.{no_backfills}
