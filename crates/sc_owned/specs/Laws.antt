@@ -1,6 +1,6 @@
 -- What holds of every state.
 use Rattle.std.specs.Prelude.{◌≡◌, ℕ, zero, suc, ◌<◌, Bool, true, false, T, List, [], ◌∷◌, length, refl}
-use Rattle.std.proofs.Common.{sym, subst}
+use Rattle.std.proofs.Common.{sym, subst, lit<}
 use Rattle.sc_hold.specs.Quiet.{IsQuiet}
 use Rattle.sc_model.specs.Follows.{kind_at}
 use Rattle.sc_model.specs.World.{Need}
@@ -37,9 +37,9 @@ single_of : (policy : Policy) (fs : List LevelFacts) → is_one_remote policy fs
 single_of Single fs e = refl
 single_of (Levels ps) fs e = absurd (never e)
 
-lone_count : (fs : List LevelFacts) → is_lone_remote fs ≡ true → 1 ≡ length fs
+lone_count : (fs : List LevelFacts) → is_lone_remote fs ≡ true → 0 < length fs
 lone_count [] e = absurd (never e)
-lone_count (f ∷ []) e = refl
+lone_count (f ∷ []) e = lit< tt
 lone_count (f ∷ g ∷ fs) e = absurd (never e)
 
 -- every level is a remote store
@@ -51,5 +51,40 @@ pub single_store : (o : State) → o.config.policy ≡ Single
 single_store o = single_of o.config.policy o.config.levels o.one
 
 -- which is there
-pub one_level : (o : State) → 1 ≡ length o.config.levels
+pub one_level : (o : State) → 0 < length o.config.levels
 one_level o = lone_count o.config.levels (lone_of o.config.policy o.config.levels o.one)
+
+-- events that move nothing leave the state as it is
+pub quiet_moves : (o : State) (n : Need) (x : What) → IsQuiet x → OwnedMoves o n x o
+quiet_moves o n (Began q (TellsCompile p)) is = (refl, λ told. refl)
+quiet_moves o n (Began q (TellsStats stats)) is = absurd is
+quiet_moves o n (Began q (TellsDist info)) is = absurd is
+quiet_moves o n (Began q (TellsHandshake info)) is = absurd is
+quiet_moves o n (Began q (TellsValid v)) is = absurd is
+quiet_moves o n (Began q TellsNothing) is = absurd is
+quiet_moves o n (Outcome Http task) is = absurd is
+quiet_moves o n (Outcome Error task) is = (refl, λ told. refl)
+quiet_moves o n (Outcome (CacheHit d) task) is = (refl, λ told. refl)
+quiet_moves o n (Outcome (CacheMiss miss dist d) task) is = (refl, λ told. refl)
+quiet_moves o n (Outcome (NotCached dist d) task) is = (refl, λ told. refl)
+quiet_moves o n (Outcome (NotCacheable dist d) task) is = (refl, λ told. refl)
+quiet_moves o n (Outcome (CompileFailed dist d) task) is = (refl, λ told. refl)
+quiet_moves o n (Outcome ProcessError task) is = (refl, λ told. refl)
+quiet_moves o n (Outcome Fault task) is = (refl, λ told. refl)
+quiet_moves o n (Sent g) is = (refl, λ told. refl)
+quiet_moves o n (TooLong z) is = (refl, λ told. refl)
+quiet_moves o n TokenTaken is = (refl, λ told. refl)
+quiet_moves o n (WriteEnded put hs) is = (refl, λ told. refl)
+quiet_moves o n Idle is = absurd is
+quiet_moves o n (Passed k) is = absurd is
+quiet_moves o n (Taken c b) is = absurd is
+quiet_moves o n (Closed c) is = absurd is
+quiet_moves o n (Keyed first client step) is = absurd is
+quiet_moves o n (Asked l k mode a hs) is = absurd is
+quiet_moves o n (Placed p) is = absurd is
+quiet_moves o n (Ran a) is = absurd is
+quiet_moves o n (Dist d) is = absurd is
+quiet_moves o n (Reserved l k z how) is = absurd is
+quiet_moves o n (Filled l k b mark how) is = absurd is
+quiet_moves o n (Committed l k b how) is = absurd is
+quiet_moves o n (Wrote l k b mode mark how) is = absurd is

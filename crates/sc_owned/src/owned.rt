@@ -77,4 +77,31 @@ impl<P: Parts> Owned<P> {
     {
         self.moment = self.moment.saturating_add(nanoseconds);
     }
+
+    /// Its levels.
+    pub fn levels(&self) -> &Levels<P::Store>
+        ensures facts { result.now.facts ≡ self.now.config.levels }
+        ensures policy { result.now.policy ≡ self.now.config.policy }
+        ensures told { result.now.told ≡ self.now.told }
+        ensures levels { result.now.levels ≡ self.now.world.levels }
+    {
+        &self.levels
+    }
+
+    /// Its workshop.
+    pub fn shop(&self) -> &P::Shop
+        ensures lines { P.Shop.lines result.now ≡ self.now.config.lines }
+        ensures runs { P.Shop.runs result.now ≡ self.now.world.runs }
+        ensures placings { P.Shop.placings result.now ≡ self.now.world.placings }
+        ensures faults { P.Shop.fault_count result.now ≡ self.now.world.shop_faults }
+    {
+        &self.shop
+    }
+
+    /// How many compilers may run at once.
+    pub fn tokens(&self) -> u64
+        ensures { result ≡ self.now.config.tokens }
+    {
+        self.tokens
+    }
 }
