@@ -1,4 +1,4 @@
-ghost use Rattle.std.specs.Prelude.{◌≡◌, ◌<◌, ℕ, Bool, false, length, IfOk, List};
+ghost use Rattle.std.specs.Prelude.{◌≡◌, ◌≢◌, ◌<◌, ℕ, Bool, false, length, IfOk, List};
 ghost use Rattle.sc_compile.specs.Tools.{reading};
 ghost use Rattle.sc_hold.specs.Quiet.{IsQuiet};
 ghost use Rattle.sc_entry.specs.Causes.{IfTold};
@@ -10,7 +10,7 @@ ghost use Rattle.sc_model.specs.World.{Need, keys_of};
 ghost use Rattle.sc_model.specs.declared.event.KeyStep.TheVariants.{Key};
 ghost use Rattle.sc_model.specs.declared.event.What.{What};
 ghost use Rattle.sc_model.specs.declared.event.What.TheVariants.{Asked as AskedEvent, Keyed, Placed, Ran, Wrote};
-ghost use Rattle.sc_model.specs.declared.event.Mode.TheVariants.{Whole};
+ghost use Rattle.sc_model.specs.declared.event.Mode.TheVariants.{Path, Whole};
 ghost use Rattle.sc_model.specs.declared.level.LevelKind.TheVariants.{Remote};
 ghost use Rattle.sc_model.specs.declared.level.Policy.TheVariants.{Single};
 ghost use Rattle.sc_model.specs.declared.message.Request.TheVariants.{Compile as CompileOf};
@@ -75,9 +75,10 @@ pub trait Hold {
         ensures moves { IfOk result (λ found. (n : Need) → n.keys ≡ keys_of (setup (config self.old)) (CompileOf request.now) → moves self.old n (Keyed first false (Key found)) self.new) }
         ensures same { IfOk result (λ found. config self.new ≡ config self.old) };
 
-    /// Asks a level.
+    /// Asks a level. A remote store has no paths.
     fn ask(&mut self, alloc: Global, level: u64, key: &Text, mode: Mode) -> Result<Lookup, NoMemory>
-        requires { level < length (config self.old).levels }
+        requires level { level < length (config self.old).levels }
+        requires mode { mode ≢ Path }
         ensures moves { IfOk result (λ lookup. (n : Need) → moves self.old n (AskedEvent level key.now mode lookup.answer lookup.handed) self.new) }
         ensures handed { IfOk result (λ lookup. lookup.handed ≡ backfills (config self.old).policy (config self.old).levels level key.now mode lookup.answer) }
         ensures same { IfOk result (λ lookup. config self.new ≡ config self.old) };

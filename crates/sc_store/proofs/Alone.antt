@@ -90,6 +90,29 @@ module _ {S : Type 0} (seen : S → HeldLevel) where
   pub facts_at : (old : Held) (policy : Policy) (stores : List S) (l : ℕ) (store : S) → held_of (map seen stores) policy ≡ old → l < length old.levels → store ≡ slice_index_or stores l store → level_facts old.facts l ≡ (seen store).facts
   facts_at old policy stores l store at within is = (moved old policy stores l store store at within is refl refl).facts_were
 
+  -- what is held at a store's place, and whether it tells that
+  pub held_at : (old : Held) (policy : Policy) (stores : List S) (l : ℕ) (store : S) → held_of (map seen stores) policy ≡ old → l < length old.levels → store ≡ slice_index_or stores l store → Alone old (held_of (map seen (slice_set stores l store)) policy) l (seen store) (seen store)
+  held_at old policy stores l store at within is = moved old policy stores l store store at within is refl refl
+
+  and_true : (a : Bool) → (a && true) ≡ a
+  and_true true = refl
+  and_true false = refl
+
+  only_tells : (stores : List S) (l : ℕ) (store : S) → l < length stores → length stores ≡ 1 → store ≡ slice_index_or stores l store → (seen store).told ≡ all_tell (map seen stores)
+  only_tells [] l store within one is = absurd (omega arith)
+  only_tells (s ∷ []) zero store within one is = ap (λ x. (seen x).told) is ∙ sym (and_true ((seen s).told))
+  only_tells (s ∷ []) (suc l) store within one is = absurd (omega arith)
+  only_tells (s ∷ t ∷ ss) l store within one is = absurd (omega arith)
+
+  same_count : (policy : Policy) (stores : List S) → length (held_of (map seen stores) policy).levels ≡ length stores
+  same_count policy stores = rw (maps (λ x. x.level) stores, length-map) refl
+
+  -- a store that is alone tells where the levels tell
+  pub alone_tells : (old : Held) (policy : Policy) (stores : List S) (l : ℕ) (store : S) → held_of (map seen stores) policy ≡ old → l < length old.levels → store ≡ slice_index_or stores l store → length old.levels ≡ 1 → (seen store).told ≡ old.told
+  alone_tells old policy stores l store at =
+      subst (λ (o : Held). l < length o.levels → store ≡ slice_index_or stores l store → length o.levels ≡ 1 → (seen store).told ≡ o.told) at
+      (λ within is one. only_tells stores l store (within_stores policy stores l within) (sym (same_count policy stores) ∙ one) is)
+
   -- a store was put back as it was
   same_back : (stores : List S) (l : ℕ) (store later : S) → l < length stores → store ≡ slice_index_or stores l store → later ≡ store → slice_set stores l later ≡ stores
   same_back [] l store later within is same = absurd (omega arith)

@@ -1,9 +1,9 @@
 -- Lookups at a remote level, by what its remote did.
-use Rattle.std.proofs.Common.{◌≡◌, ℕ, ◌≤◌, Bool, true, false, IsTrue, List, Option, Some, None, is_some, ◌&&◌, not, length, arith, refl, inl, subst, sym, ap, ◌∙◌}
-use Rattle.sc_entry.specs.Causes.{Rose, Told}
+use Rattle.std.proofs.Common.{◌≡◌, ℕ, ◌≤◌, Bool, true, false, List, Option, Some, None, is_some, ◌&&◌, not, refl, subst, sym, ap, ◌∙◌}
+use Rattle.sc_entry.specs.Causes.{Told}
 use Rattle.sc_entry.specs.Entries.{objects}
 use Rattle.sc_entry.specs.Keys.{IsStoreKey, is_store_key, normalize_key}
-use Rattle.sc_model.specs.World.{Answers_whole, Asks, Causes, Files, IsRefused, Keeps_all, Level, Spells, Wrote_at, early_cause, find_file, held as held_by, or_cause, causes}
+use Rattle.sc_model.specs.World.{Answers_whole, Asks, Files, Level, Spells, Wrote_at, early_cause, find_file, held as held_by, or_cause}
 use Rattle.sc_entry.specs.declared.object.Object.{Object}
 use Rattle.sc_model.specs.Plan.{reads_only}
 use Rattle.sc_model.specs.Script.{is_single}
@@ -12,7 +12,6 @@ use Rattle.sc_model.specs.declared.event.Answer.TheVariants.{Found as FoundAt, H
 use Rattle.sc_model.specs.declared.event.Mode.{Mode}
 use Rattle.sc_model.specs.declared.event.Mode.TheVariants.{Path, Pre, Raw, Size as Sizes, Whole}
 use Rattle.sc_model.specs.declared.event.Written.{Written}
-use Rattle.sc_model.specs.declared.event.Written.TheVariants.{Refused as NotWritten}
 use Rattle.sc_model.specs.declared.level.Cause.{Cause}
 use Rattle.sc_model.specs.declared.level.Cause.TheVariants.{BadEntry, BadKey, FileTooLarge, Io, ReadOnly as ForReading, RemoteFault as RemoteRefused, Reserved as NoRoom}
 use Rattle.sc_model.specs.declared.level.LevelFacts.{LevelFacts}
@@ -20,7 +19,7 @@ use Rattle.sc_model.specs.declared.level.LevelKind.TheVariants.{Remote}
 use Rattle.sc_model.specs.declared.level.Policy.{Policy}
 use Rattle.sc_model.specs.declared.level.Store.TheVariants.{Remote as RemoteStore}
 use Rattle.sc_model.specs.declared.message.CacheMode.{CacheMode}
-use Rattle.sc_store.specs.Asking.{AskCause, fixed_answer, has_mode, hit_of, if_spells, mode_answer, raw_answer, reads_key, whole_answer, written_of}
+use Rattle.sc_store.specs.Asking.{hit_of, if_spells, mode_answer, raw_answer, reads_key, whole_answer, written_of}
 use Rattle.sc_store.specs.Held.{HeldLevel, held_remote, remote_facts, remote_level}
 use Rattle.sc_store.specs.Remotes.{Puts, ReadCause, Reads, WriteCause, Writes}
 use Rattle.sc_store.specs.declared.remote.RemoteRead.{RemoteRead}

@@ -5,7 +5,7 @@ ghost use Rattle.sc_model.specs.World.{Later, early_cause as early};
 ghost use Rattle.sc_model.specs.declared.level.Cause.{Cause};
 ghost use Rattle.sc_store.specs.Asking.{AskCause, AsksAt, PutCause, PutsAt, fixed_answer, reads_key};
 ghost use Rattle.sc_store.specs.Held.{level_in};
-ghost use Rattle.sc_store.specs.Levels.{held_levels};
+ghost use Rattle.sc_store.specs.Levels.{held_level, held_levels};
 
 use crate::level::Level;
 use crate::remote::Remote;
@@ -48,6 +48,17 @@ impl<R: Remote> Levels<R> {
         ensures facts { result ≡ length self.now.facts }
     {
         self.levels.len()
+    }
+
+    /// A level. Levels that all tell what they hold are levels of which each tells it.
+    pub fn get(&self, level: usize) -> &Level<R>
+        requires { level < length self.now.levels }
+        ensures facts { (held_level result.now).facts ≡ level_facts self.now.facts level }
+        ensures level { (held_level result.now).level ≡ level_in self.now.levels level }
+        ensures told { self.now.told ≡ true → (held_level result.now).told ≡ true }
+        ensures alone { length self.now.levels ≡ 1 → (held_level result.now).told ≡ self.now.told }
+    {
+        &self.levels[level]
     }
 
     pub fn policy(&self) -> &Policy

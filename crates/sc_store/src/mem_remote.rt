@@ -1,9 +1,9 @@
-ghost use Rattle.std.specs.Prelude.{◌≡◌, ◌≤◌, ℕ, Some, IfOk, cond};
+ghost use Rattle.std.specs.Prelude.{◌≡◌, ◌≤◌, ℕ, Some, IfOk, cond, length};
 ghost use Rattle.std.specs.List.{list_any};
 ghost use Rattle.std.specs.Ordering.{nat_cmp, eq_by_cmp};
 ghost use Rattle.sc_entry.specs.Failing.{fails_at, faults_after, one_more};
 ghost use Rattle.sc_model.specs.World.{no_files, find_file, put_file};
-ghost use Rattle.sc_store.specs.Paths.{put_all};
+ghost use Rattle.sc_store.specs.Paths.{entries_of, put_all, told_size};
 ghost use Rattle.sc_store.specs.Remotes.{Reads, ReadCause, Writes, WriteCause, read_of, write_of};
 
 use crate::path_map::PathMap;
@@ -48,6 +48,20 @@ impl MemRemote {
             files: map_of(alloc, held)?,
             calls: Calls::failing_at(alloc, failing)?,
         })
+    }
+
+    /// At how many paths it holds bytes.
+    pub fn len(&self) -> usize
+        ensures { result ≡ length (entries_of self.now.files) }
+    {
+        self.files.len()
+    }
+
+    /// All bytes that it holds together; the sum stops at the end of `u64`.
+    pub fn size(&self) -> u64
+        ensures { result ≡ told_size self.now.files }
+    {
+        self.files.size()
     }
 }
 

@@ -1,6 +1,7 @@
-ghost use Rattle.std.specs.Prelude.{◌≡◌, OnOk, OnErr};
+ghost use Rattle.std.specs.Prelude.{◌≡◌, length, OnOk, OnErr};
 ghost use Rattle.std.specs.Option.{option_copied};
 ghost use Rattle.sc_model.specs.World.{no_files, find_file, put_file};
+ghost use Rattle.sc_store.specs.Paths.{entries_of, told_size};
 
 use sc_entry::{ByteText, NoMemory, Text};
 use std::alloc::Global;
@@ -39,6 +40,24 @@ impl PathMap {
         ensures { option_copied result ≡ find_file self.now path.now }
     {
         self.by_path.get(path)
+    }
+
+    /// How many paths there are.
+    pub fn len(&self) -> usize
+        ensures { result ≡ length (entries_of self.now) }
+    {
+        self.by_path.len()
+    }
+
+    /// All bytes together; the sum stops at the end of `u64`.
+    pub fn size(&self) -> u64
+        ensures { result ≡ told_size self.now }
+    {
+        let mut size: u64 = 0;
+        for (_, bytes) in self.by_path.iter() {
+            size = size.saturating_add(bytes.len() as u64);
+        }
+        size
     }
 
     /// Puts bytes at a path, in place of those that stood there.

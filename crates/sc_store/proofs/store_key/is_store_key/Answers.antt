@@ -1,4 +1,4 @@
-use Rattle.std.proofs.Common.{◌≡◌, ◌<◌, length, rules, sym, ap, ◌∙◌, subst}
+use Rattle.std.proofs.Common.{◌<◌, length, rules, ap, ◌∙◌}
 use Rattle.std.specs.List.{list_all}
 use Rattle.sc_entry.specs.Keys.{is_key_byte}
 use Rattle.sc_store.proofs.StoreKeys.{long_key}

@@ -1,6 +1,5 @@
-use Rattle.std.proofs.Common.{rules, ◌≡◌, ◌<◌, string_bytes, slice_index_or, lit<}
-use Rattle.sc_entry.specs.Keys as keys
-use Rattle.sc_store.proofs.StoreKeys.{key_is_long, key_is_small, parts_and_key}
+use Rattle.std.proofs.Common.{lit<}
+use Rattle.sc_store.proofs.StoreKeys.{key_is_small}
 use Rattle.sc_store.proofs.store_key.normalize_key.Goals as goal
 
 pub push_part-requires-3 : goal.push_part-requires-3

@@ -1,0 +1,108 @@
+-- How a state moves by what its parts did.
+use Rattle.std.proofs.Common.{◌≡◌, ◌≢◌, ℕ, ◌≤◌, Bool, true, IsTrue, List, Option, Some, None, refl, ap, sym, subst, option_map}
+use Rattle.sc_compile.specs.Answers.{Runs, told_answer}
+use Rattle.sc_compile.specs.Placings.{Places}
+use Rattle.sc_entry.specs.Causes.{IfTold}
+use Rattle.sc_entry.specs.Entries.{objects}
+use Rattle.sc_entry.specs.declared.object.FileObjectSource.{FileObjectSource}
+use Rattle.sc_model.specs.Follows.{kind_at}
+use Rattle.sc_model.specs.World.{Moves, Need, Place, RunCause, World, and_one, first_missing}
+use Rattle.sc_model.specs.declared.event.Answer.{Answer}
+use Rattle.sc_model.specs.declared.event.Mode.{Mode}
+use Rattle.sc_model.specs.declared.event.Mode.TheVariants.{Path, Pre, Raw, Size, Whole}
+use Rattle.sc_model.specs.declared.event.RunAnswer.{RunAnswer}
+use Rattle.sc_job.specs.Setups.{setup}
+use Rattle.sc_model.specs.declared.event.What.{What}
+use Rattle.sc_model.specs.declared.event.What.TheVariants.{Asked, Placed, Ran, Wrote}
+use Rattle.sc_model.specs.declared.event.Written.{Written}
+use Rattle.sc_model.specs.declared.level.Handed.{Handed}
+use Rattle.sc_model.specs.declared.level.LevelKind.{LevelKind}
+use Rattle.sc_model.specs.declared.level.LevelKind.TheVariants.{Remote}
+use Rattle.sc_owned.specs.Laws.{remote_levels}
+use Rattle.sc_owned.specs.Moving.{placing_of}
+use Rattle.sc_owned.specs.State.{State}
+use Rattle.sc_store.specs.Asking.{AsksAt, PutsAt, has_mode}
+use Rattle.sc_store.specs.Held.{Held}
+
+no_path : (mode : Mode) → mode ≢ Path → IsTrue (has_mode Remote mode)
+no_path Whole h = refl
+no_path Raw h = refl
+no_path Path h = absurd (h refl)
+no_path Pre h = refl
+no_path Size h = refl
+
+-- how a state moves to what is told and held
+abbrev pub MovesTo : State → Need → What → Bool → World → Type 0
+MovesTo o n x told w = (told ≡ o.told) × (o.told ≡ true → Moves (setup o.config) n (λ l. 0) x o.world w)
+
+-- what the levels of a state hold
+abbrev pub held_in : State → Held
+held_in o = record { facts = o.config.levels; policy = o.config.policy; told = o.told; levels = o.world.levels }
+
+asked_of : (o : State) (after : Held) (l : ℕ) (key : List ℕ) (mode : Mode) (a : Answer) (hs : List Handed) (n : Need) → mode ≢ Path → after.told ≡ o.told → AsksAt l key mode a (held_in o) after
+    → MovesTo o n (Asked l key mode a hs) after.told (record o.world { levels = after.levels })
+asked_of o after l key mode a hs n path same asks = (
+    same,
+    λ told.
+        let has : IsTrue (has_mode (kind_at o.config.levels l) mode) = subst (λ (k : LevelKind). IsTrue (has_mode k mode)) (sym (remote_levels o l)) (no_path mode path) in
+        let h = asks told has 0 in
+        (h.0, h.1, ap (λ ls. record o.world { levels = ls }) h.2),
+)
+
+-- a level was asked
+pub asked : (o now : State) (after : Held) (l : ℕ) (key : List ℕ) (mode : Mode) (a : Answer) (hs : List Handed) (n : Need) → o ≡ now → mode ≢ Path → after.told ≡ o.told → AsksAt l key mode a (held_in o) after
+    → MovesTo now n (Asked l key mode a hs) after.told (record o.world { levels = after.levels })
+asked o now after l key mode a hs n is path same asks =
+    subst (λ (s : State). MovesTo s n (Asked l key mode a hs) after.told (record o.world { levels = after.levels })) is (asked_of o after l key mode a hs n path same asks)
+
+wrote_of : (o : State) (after : Held) (l : ℕ) (key bytes : List ℕ) (run : Bool) (how : Written) (n : Need) → after.told ≡ o.told → PutsAt l key bytes how (held_in o) after
+    → MovesTo o n (Wrote l key bytes Whole run how) after.told (record o.world { levels = after.levels })
+wrote_of o after l key bytes run how n same puts = (
+    same,
+    λ told. let h = puts told 0 in (h.0, (h.1, h.2), ap (λ ls. record o.world { levels = ls }) h.3),
+)
+
+-- an entry was put at a level
+pub wrote : (o now : State) (after : Held) (l : ℕ) (key bytes : List ℕ) (run : Bool) (how : Written) (n : Need) → o ≡ now → after.told ≡ o.told → PutsAt l key bytes how (held_in o) after
+    → MovesTo now n (Wrote l key bytes Whole run how) after.told (record o.world { levels = after.levels })
+wrote o now after l key bytes run how n is same puts =
+    subst (λ (s : State). MovesTo s n (Wrote l key bytes Whole run how) after.told (record o.world { levels = after.levels })) is (wrote_of o after l key bytes run how n same puts)
+
+-- what the workshop has after a call
+abbrev pub with_shop : World → Option Runs → Option (List Place) → ℕ → World
+with_shop w runs placings faults = record w { runs = runs; placings = placings; shop_faults = faults }
+
+ran_of : (o : State) (n : Need) (a : RunAnswer) (runs : Option Runs) (placings : Option (List Place)) (g : ℕ) → runs ≡ and_one o.world.runs (n.key, a) → placings ≡ o.world.placings → o.world.shop_faults ≤ g → RunCause a o.world.shop_faults g
+    → IfTold (told_answer o.config.lines n.key o.world.runs n.wanted) (λ b. a ≡ b) → MovesTo o n (Ran a) o.told (with_shop o.world runs placings g)
+ran_of o n a runs placings g ran placed later cause answer = (
+    refl,
+    λ told. (g, later, cause, answer, rw (ran, placed) refl),
+)
+
+-- a compile was run
+pub ran : (o now : State) (n : Need) (key : List ℕ) (wanted : List FileObjectSource) (a : RunAnswer) (runs : Option Runs) (placings : Option (List Place)) (g : ℕ) → o ≡ now → n.key ≡ key → n.wanted ≡ wanted → runs ≡ and_one o.world.runs (key, a)
+    → placings ≡ o.world.placings → o.world.shop_faults ≤ g → RunCause a o.world.shop_faults g → IfTold (told_answer o.config.lines key o.world.runs wanted) (λ b. a ≡ b)
+    → MovesTo now n (Ran a) o.told (with_shop o.world runs placings g)
+ran o now n key wanted a runs placings g is keyed wants added placed later cause answer =
+    let k : runs ≡ and_one o.world.runs (n.key, a) = rw keyed added in
+    let b : IfTold (told_answer o.config.lines n.key o.world.runs n.wanted) (λ b. a ≡ b) = rw (keyed, wants) answer in
+    subst (λ (s : State). MovesTo s n (Ran a) o.told (with_shop o.world runs placings g)) is (ran_of o n a runs placings g k placed later cause b)
+
+placed_of : (o : State) (n : Need) (failed : Option (List (List ℕ))) (runs : Option Runs) (placings : Option (List Place)) (g : ℕ) → first_missing (objects n.hit) n.outputs ≡ None → runs ≡ o.world.runs → o.world.shop_faults ≤ g
+    → Places (record { outputs = n.outputs; bytes = n.hit }) o.world.placings placings o.world.shop_faults g failed → MovesTo o n (Placed (placing_of failed)) o.told (with_shop o.world runs placings g)
+placed_of o n None runs placings g none same later places = (refl, λ told. (none, rw (same, places.0, places.1) refl))
+placed_of o n (Some chain) runs placings g none same later places = (refl, λ told. (none, (g, places.1, later, rw (same, places.0) refl)))
+
+-- a hit's outputs were placed, or a fault is told
+pub placed : (o now : State) (n : Need) (outputs : List FileObjectSource) (hit : List ℕ) (failed : Option (List (List ℕ))) (runs : Option Runs) (placings : Option (List Place)) (g : ℕ) → o ≡ now → n.outputs ≡ outputs → n.hit ≡ hit → first_missing (objects hit) outputs ≡ None
+    → runs ≡ o.world.runs → o.world.shop_faults ≤ g → Places (record { outputs = outputs; bytes = hit }) o.world.placings placings o.world.shop_faults g failed
+    → MovesTo now n (Placed (placing_of failed)) o.told (with_shop o.world runs placings g)
+placed o now n outputs hit failed runs placings g is wants hits none same later places =
+    let m : first_missing (objects n.hit) n.outputs ≡ None = rw (hits, wants) none in
+    let p : Places (record { outputs = n.outputs; bytes = n.hit }) o.world.placings placings o.world.shop_faults g failed = rw (hits, wants) places in
+    subst (λ (s : State). MovesTo s n (Placed (placing_of failed)) o.told (with_shop o.world runs placings g)) is (placed_of o n failed runs placings g m same later p)
+
+-- nothing was found, so none is there
+pub none_found : {A B : Type 0} (found : Option A) (f : A → B) (there : Option B) → ((x : A) → found ≡ Some x → ⊥) → option_map f found ≡ there → there ≡ None
+none_found None f there not_some is = sym is
+none_found (Some x) f there not_some is = absurd (not_some x refl)

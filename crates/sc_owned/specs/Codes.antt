@@ -1,0 +1,56 @@
+-- Codes, by which proofs tell states apart.
+use Rattle.std.specs.Prelude.{◌≡◌, ℕ, Bool, true, List, Option, refl}
+use Rattle.std.proofs.Common.{ap}
+use Rattle.std.specs.Coded.{Coded, Coded-set, code_by, coded×, coded_bool, coded_ℕ, coded_list, coded_option}
+use Rattle.sc_compile.specs.contracts.run_line.RunLine as line_type
+use Rattle.sc_compile.specs.contracts.tool.Tool as tool_type
+use Rattle.sc_compile.specs.declared.run_line.RunLine.{RunLine}
+use Rattle.sc_compile.specs.declared.tool.Tool.{Tool}
+use Rattle.sc_entry.specs.contracts.object.FileObjectSource as output_type
+use Rattle.sc_entry.specs.declared.object.FileObjectSource.{FileObjectSource}
+use Rattle.sc_job.specs.Setups.{Config}
+use Rattle.sc_model.specs.World.{Level, Place, World}
+use Rattle.sc_model.specs.contracts.event.RunAnswer as answer_type
+use Rattle.sc_model.specs.contracts.level.Container as container_type
+use Rattle.sc_model.specs.contracts.level.LevelFacts as facts_type
+use Rattle.sc_model.specs.contracts.level.Policy as policy_type
+use Rattle.sc_model.specs.declared.event.RunAnswer.{RunAnswer}
+use Rattle.sc_model.specs.declared.level.Container.{Container}
+use Rattle.sc_model.specs.declared.level.LevelFacts.{LevelFacts}
+use Rattle.sc_model.specs.declared.level.Policy.{Policy}
+use Rattle.sc_owned.specs.State.{State, is_one_remote}
+use Rattle.sc_store.specs.Held.{level_code}
+use base.Stored.{coded_via}
+use mathlib.Core.HLevel.{Σ_prop_path}
+
+abbrev pub config_code : Coded Config
+config_code = code_by (List LevelFacts × (Policy × (ℕ × (ℕ × (Option (List Tool) × Option (List RunLine))))))
+    (coded× (coded_list facts_type.the_row.coded) (coded× policy_type.the_row.coded (coded× coded_ℕ (coded× coded_ℕ
+    (coded× (coded_option (coded_list tool_type.the_row.coded)) (coded_option (coded_list line_type.the_row.coded)))))))
+    (λ c. (c.levels, (c.policy, (c.tokens, (c.limit, (c.table, c.lines))))))
+    (λ p. record { levels = p.0; policy = p.1.0; tokens = p.1.1.0; limit = p.1.1.1.0; table = p.1.1.1.1.0; lines = p.1.1.1.1.1 })
+    (λ _. refl)
+
+abbrev pub place_code : Coded Place
+place_code = code_by (List FileObjectSource × List ℕ)
+    (coded× (coded_list output_type.the_row.coded) (coded_list coded_ℕ))
+    (λ p. (p.outputs, p.bytes))
+    (λ p. record { outputs = p.0; bytes = p.1 })
+    (λ _. refl)
+
+abbrev pub world_code : Coded World
+world_code = code_by (ℕ × (List Level × (Option (List (List ℕ × RunAnswer)) × (Option (List Place) × (ℕ × (ℕ × (ℕ × Container)))))))
+    (coded× coded_ℕ (coded× (coded_list level_code) (coded× (coded_option (coded_list (coded× (coded_list coded_ℕ) answer_type.the_row.coded)))
+    (coded× (coded_option (coded_list place_code)) (coded× coded_ℕ (coded× coded_ℕ (coded× coded_ℕ container_type.the_row.coded)))))))
+    (λ w. (w.moment, (w.levels, (w.runs, (w.placings, (w.shop_faults, (w.dist_faults, (w.maker_faults, w.container))))))))
+    (λ p. record { moment = p.0; levels = p.1.0; runs = p.1.1.0; placings = p.1.1.1.0; shop_faults = p.1.1.1.1.0; dist_faults = p.1.1.1.1.1.0; maker_faults = p.1.1.1.1.1.1.0; container = p.1.1.1.1.1.1.1 })
+    (λ _. refl)
+
+-- states that are made of the same and hold the same are one
+pub same_state : (a b : State) → ◌≡◌ {A = Config × (Bool × World)} (a.config, (a.told, a.world)) (b.config, (b.told, b.world)) → a ≡ b
+same_state a b same =
+    let configs : ◌≡◌ {A = (c : Config) × (is_one_remote c.policy c.levels ≡ true)} (a.config, a.one) (b.config, b.one) = Σ_prop_path (λ c. Coded-set coded_bool _ _) (ap (λ p. p.0) same) in
+    λ i. record { config = (configs i).0; told = (same i).1.0; world = (same i).1.1; one = (configs i).1 }
+
+abbrev pub state_code : Coded State
+state_code = coded_via (coded× config_code (coded× coded_bool world_code)) (λ s. (s.config, (s.told, s.world))) same_state

@@ -1,0 +1,154 @@
+//! One action of a request, at a daemon of one's own.
+ghost use Rattle.std.specs.Prelude.{◌≡◌, []};
+ghost use Rattle.sc_model.specs.Plan.{put_answer};
+ghost use Rattle.sc_owned.specs.Moving.{placing_of};
+ghost use Rattle.sc_model.specs.declared.level.Policy.TheVariants.{Single};
+
+use crate::missing::first_missing;
+use crate::owned::Owned;
+use crate::parts::Parts;
+use sc_compile::{PlainCompiler, Workshop, begin};
+use sc_entry::{ByteText, FileObjectSource, Items, NoMemory, Queue, Text};
+use sc_hold::{Hold, Lookup, PutEnd};
+use sc_model::{
+    Bytes, Compile, KeyFound, Mode, Parsed, Placing, Put, Refusal, RunAnswer, Written,
+};
+use std::alloc::Global;
+
+impl<P: Parts> Hold for Owned<P> {
+    ghost use Rattle.sc_owned.specs.Laws.{one_level, quiet_moves, remote_levels, single_store};
+    ghost use Rattle.sc_owned.specs.Moving.{OwnedMoves};
+
+    ghost config = { λ o. o.config };
+
+    ghost moves = { λ old n what new. OwnedMoves old n what new };
+
+    ghost moment = { λ o. o.world.moment };
+
+    ghost remote = { λ o level. remote_levels o level };
+
+    ghost single = { λ o. single_store o };
+
+    ghost some_level = { λ o. one_level o };
+
+    ghost quiet = { λ o n what is. quiet_moves o n what is };
+
+    fn now(&self) -> u64 {
+        self.moment
+    }
+
+    fn limit(&self) -> u32 {
+        self.limit
+    }
+
+    fn level_count(&self) -> u64 {
+        self.levels.len() as u64
+    }
+
+    fn plan(&self, alloc: Global) -> Result<Queue<u64>, NoMemory> {
+        let mut levels = Queue::new(alloc);
+        levels.push_back(0)?;
+        Ok(levels)
+    }
+
+    fn put_end(
+        &self,
+        alloc: Global,
+        _bytes: &Bytes,
+        refusal: Refusal,
+    ) -> Result<PutEnd, NoMemory> {
+        Ok(PutEnd {
+            answer: put_answer(refusal),
+            handed: Items::new(alloc),
+        })
+    }
+
+    fn begin(&self, alloc: Global, request: &Compile) -> Result<Parsed, NoMemory> {
+        begin(alloc, &self.finder, request)
+    }
+
+    fn key(
+        &mut self,
+        alloc: Global,
+        request: &Compile,
+        _first: bool,
+    ) -> Result<KeyFound, NoMemory> {
+        let _moment = self.moment;
+        let found = PlainCompiler::key(alloc, request)?;
+        Ok(found)
+    }
+
+    fn ask(
+        &mut self,
+        alloc: Global,
+        level: u64,
+        key: &Text,
+        mode: Mode,
+    ) -> Result<Lookup, NoMemory> {
+        let _count = self.levels.len();
+        let answer = self.levels.ask(alloc, level as usize, key, mode)?;
+        Ok(Lookup {
+            answer,
+            handed: Items::new(alloc),
+        })
+    }
+
+    fn place(
+        &mut self,
+        alloc: Global,
+        key: &Text,
+        outputs: &[FileObjectSource],
+        entry: &ByteText,
+    ) -> Result<Placing, NoMemory> {
+        if let Some(name) = first_missing(alloc, entry, outputs)? {
+            let name = name.try_clone()?;
+            return Ok(Placing::Missing(name));
+        }
+        let failed = self.shop.place(alloc, key, outputs, entry)?;
+        Ok(placing_of(failed))
+    }
+
+    fn run(
+        &mut self,
+        alloc: Global,
+        request: &Compile,
+        key: &Text,
+        outputs: &[FileObjectSource],
+    ) -> Result<RunAnswer, NoMemory> {
+        let command = PlainCompiler::command(alloc, request)?;
+        let answer = self.shop.run(alloc, key, &command, outputs)?;
+        Ok(answer)
+    }
+
+    fn write(&mut self, alloc: Global, level: u64, bytes: &Bytes) -> Result<Written, NoMemory> {
+        let _count = self.levels.len();
+        let written = self.levels.put_step(
+            alloc,
+            level as usize,
+            &bytes.key,
+            &bytes.bytes,
+            bytes.run,
+        )?;
+        Ok(written)
+    }
+}
+
+/// What a put at a single store comes to.
+fn put_answer(refusal: Refusal) -> Put
+    ensures { result ≡ put_answer Single [] refusal }
+{
+    match refusal {
+        Refusal::NoneYet => Put::Done,
+        Refusal::At(_, cause) => Put::Refused(cause),
+    }
+}
+
+/// What a workshop's placing comes to.
+fn placing_of(failed: Option<Items<Text>>) -> Placing
+    ensures { result ≡ placing_of failed }
+{
+    match failed {
+        None => Placing::Done,
+        Some(chain) => Placing::Fault(chain),
+    }
+}

@@ -1,0 +1,107 @@
+ghost use Rattle.std.specs.Prelude.{◌≡◌, true, length};
+ghost use Rattle.sc_model.specs.Follows.{kind_at};
+ghost use Rattle.sc_model.specs.Next.{at_moment};
+ghost use Rattle.sc_model.specs.declared.level.LevelKind.TheVariants.{Remote};
+ghost use Rattle.sc_model.specs.declared.level.Policy.TheVariants.{Single};
+ghost use Rattle.sc_owned.specs.State.{is_one_remote, world_of};
+ghost use Rattle.sc_stats.specs.Sums.{sat};
+
+use crate::parts::Parts;
+use sc_store::Levels;
+use std::marker::Model;
+
+/// A daemon of one's own. Contracts see what it is made of, whether its levels tell what they hold, and what its parts
+/// hold where they tell it. So far it has one remote store alone.
+#[derive(Drop)]
+pub struct Owned<P: Parts> {
+    pub(crate) levels: Levels<P::Store>,
+    pub(crate) shop: P::Shop,
+    pub(crate) finder: P::Finder,
+    pub(crate) moment: u64,
+    tokens: u64,
+    pub(crate) limit: u32,
+    ghost one: { is_one_remote levels.policy levels.facts ≡ true },
+}
+
+impl<P: Parts> Model for Owned<P> {
+    ghost use Rattle.sc_owned.specs.Codes.{state_code};
+    ghost use Rattle.sc_owned.specs.State.{State, config_of, world_of};
+
+    ghost Value = { State };
+
+    ghost coded = { state_code };
+
+    ghost view = { λ d. record {
+        config = config_of d.levels d.tokens d.limit (P.Finder.table d.finder) (P.Shop.lines d.shop);
+        told = d.levels.told;
+        world = world_of d.moment d.levels (P.Shop.runs d.shop) (P.Shop.placings d.shop) (P.Shop.fault_count d.shop);
+        one = d.one
+    } };
+}
+
+impl<P: Parts> Owned<P> {
+    /// A daemon over one remote store, at moment 0, with so many tokens for runs; payloads of its replies have at most
+    /// `limit` bytes.
+    pub fn new(
+        levels: Levels<P::Store>,
+        shop: P::Shop,
+        finder: P::Finder,
+        tokens: u64,
+        limit: u32,
+    ) -> Owned<P>
+        requires single { levels.policy ≡ Single }
+        requires alone { length levels.facts ≡ 1 }
+        requires remote { kind_at levels.facts 0 ≡ Remote }
+        ensures levels { result.config.levels ≡ levels.facts }
+        ensures policy { result.config.policy ≡ levels.policy }
+        ensures tokens { result.config.tokens ≡ tokens }
+        ensures limit { result.config.limit ≡ limit }
+        ensures table { result.config.table ≡ P.Finder.table finder }
+        ensures lines { result.config.lines ≡ P.Shop.lines shop }
+        ensures told { result.told ≡ levels.told }
+        ensures world { result.world ≡ world_of 0 levels (P.Shop.runs shop) (P.Shop.placings shop) (P.Shop.fault_count shop) }
+    {
+        Owned {
+            levels,
+            shop,
+            finder,
+            moment: 0,
+            tokens,
+            limit,
+        }
+    }
+
+    /// Lets time pass. The clock stops at the end of `u64`.
+    pub fn pass(&mut self, nanoseconds: u64)
+        ensures { self.new ≡ record self.old { world = at_moment self.old.world (sat self.old.world.moment nanoseconds) } }
+    {
+        self.moment = self.moment.saturating_add(nanoseconds);
+    }
+
+    /// Its levels.
+    pub fn levels(&self) -> &Levels<P::Store>
+        ensures facts { result.now.facts ≡ self.now.config.levels }
+        ensures policy { result.now.policy ≡ self.now.config.policy }
+        ensures told { result.now.told ≡ self.now.told }
+        ensures levels { result.now.levels ≡ self.now.world.levels }
+    {
+        &self.levels
+    }
+
+    /// Its workshop.
+    pub fn shop(&self) -> &P::Shop
+        ensures lines { P.Shop.lines result.now ≡ self.now.config.lines }
+        ensures runs { P.Shop.runs result.now ≡ self.now.world.runs }
+        ensures placings { P.Shop.placings result.now ≡ self.now.world.placings }
+        ensures faults { P.Shop.fault_count result.now ≡ self.now.world.shop_faults }
+    {
+        &self.shop
+    }
+
+    /// How many compilers may run at once.
+    pub fn tokens(&self) -> u64
+        ensures { result ≡ self.now.config.tokens }
+    {
+        self.tokens
+    }
+}
