@@ -1,0 +1,50 @@
+-- What a step does to one connection.
+use Rattle.std.specs.Prelude.{◌≡◌, ℕ, ◌+◌, ◌<◌, ◌≤◌, true, List, [], ◌∷◌, ◌++◌, length, take, drop, map, Option, Some, None, ◌⊎◌}
+use Rattle.sc_action.specs.Acts.{IsPlain}
+use Rattle.sc_daemon.specs.Lines.{IsDone, Line, conn_of}
+use Rattle.sc_daemon.specs.Standings.{standing_of}
+use Rattle.sc_daemon.specs.declared.reading.Reading.{Reading}
+use Rattle.sc_daemon.specs.declared.reading.Reading.TheVariants.{Closed, Nothing, Taken}
+use Rattle.sc_daemon.specs.declared.standing.Standing.TheVariants.{Ended, Takes}
+use Rattle.sc_job.specs.Setups.{Config, setup}
+use Rattle.sc_model.specs.Follows.{Fits}
+use Rattle.sc_model.specs.Machine.{advanced, current, due_at}
+use Rattle.sc_model.specs.World.{Need}
+use Rattle.sc_model.specs.declared.event.What.{What}
+use Rattle.sc_model.specs.declared.message.Request.TheVariants.{Compile as CompileOf}
+use Rattle.sc_wire.specs.Streams.{served_reader}
+
+-- more bytes came
+pub record TakesMore (bytes : List ℕ) (old new : Line) : Type 0 where
+  pub same : new ≡ record old { waiting = new.waiting; rest = new.rest; got = new.got }
+  pub requests : map CompileOf new.waiting ≡ map CompileOf old.waiting ++ (served_reader old.limit).requests (old.rest ++ bytes)
+  pub rest : new.rest ≡ (served_reader old.limit).rest (old.rest ++ bytes)
+  pub got : new.got ≡ old.got + length bytes
+
+-- a step of reading at most n bytes
+abbrev pub Reads : List ℕ → ℕ → Reading → Line → Line → Type 0
+Reads input n Nothing old new = ((n ≡ 0) ⊎ IsDone old) × (new ≡ old)
+Reads input n (Taken bytes) old new = (IsDone old → ⊥) × (bytes ≡ take n (drop old.got input)) × (0 < length bytes) × TakesMore bytes old new
+Reads input n Closed old new = (IsDone old → ⊥) × (0 < n) × (length input ≤ old.got) × (new ≡ record old { closed = true })
+
+-- nothing is there to serve, a reply was too long, or a token is waited for
+abbrev pub IsIdleLine : ℕ → Line → Type 0
+IsIdleLine free l = ((length l.waiting ≡ 0) ⊎ ((0 < length l.waiting) × (standing_of l.phase ≡ Ended))) ⊎ ((0 < length l.waiting) × (standing_of l.phase ≡ Takes) × (free ≡ 0))
+
+-- an event of the compile that is served
+pub record Serves_one (k : Config) (moment free : ℕ) (x : What) (old new : Line) : Type 0 where
+  pub some : 0 < length old.waiting
+  pub fits : Fits (setup k) (current (conn_of old)) (due_at (setup k) (current (conn_of old)) old.phase) x
+  pub token : standing_of old.phase ≡ Takes → 0 < free
+  pub then : conn_of new ≡ advanced (setup k) (conn_of old) moment x
+  pub plain : IsPlain x
+  pub limit : new.limit ≡ old.limit
+
+abbrev pub ServesLine : Config → ℕ → ℕ → Option What → Line → Line → Type 0
+ServesLine k moment free None old new = IsIdleLine free old × (new ≡ old)
+ServesLine k moment free (Some x) old new = Serves_one k moment free x old new
+
+-- a hold moves by the event, where there is one
+abbrev pub MovesHold : {H : Type 0} → (H → Need → What → H → Type 0) → Need → Option What → H → H → Type 0
+MovesHold moves n None old new = new ≡ old
+MovesHold moves n (Some x) old new = moves old n x new

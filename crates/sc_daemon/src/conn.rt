@@ -1,0 +1,245 @@
+//! A connection: what comes over it, the compile that is served, and what was sent.
+ghost use Rattle.std.specs.Prelude.{◌≡◌, ◌+◌, ◌<◌, ◌≤◌, ◌^◌, false, true, length, take, drop, IfOk, IfSome, OnOk};
+ghost use Rattle.sc_action.specs.Serves.{Stands};
+ghost use Rattle.sc_conn.specs.Ends.{end_of};
+ghost use Rattle.sc_daemon.specs.Lines.{IsDone, conn_of, new_line};
+ghost use Rattle.sc_daemon.specs.Standings.{Rests, settled, standing_of};
+ghost use Rattle.sc_daemon.specs.Turns.{IsIdleLine, MovesHold, Reads, ServesLine, TakesMore};
+ghost use Rattle.sc_daemon.specs.declared.standing.Standing.TheVariants.{Ended, Takes};
+ghost use Rattle.sc_job.specs.Setups.{setup};
+ghost use Rattle.sc_model.specs.Machine.{current, long_after, need_at, outcome_after, settle};
+ghost use Rattle.sc_model.specs.Trace.{if_too_long};
+ghost use Rattle.sc_wire.specs.Streams.{served_reader};
+
+use crate::reading::Reading;
+use crate::standing::{Standing, standing_at};
+use crate::waiting::Waiting;
+use sc_action::{Acted, act};
+use sc_conn::{End, Inbox};
+use sc_entry::{ByteText, NoMemory};
+use sc_hold::Hold;
+use sc_model::{Phase, What};
+use std::alloc::Global;
+use std::marker::Model;
+
+/// A connection. Contracts see its requests that are not over, the bytes that spell none yet, where the first request
+/// stands, and what was sent.
+#[derive(Drop)]
+pub struct Conn {
+    inbox: Inbox,
+    waiting: Waiting,
+    at: u64,
+    phase: Phase,
+    last: u64,
+    outcome: u64,
+    out: Vec<u8>,
+    long: Option<u64>,
+}
+
+impl Model for Conn {
+    ghost use Rattle.std.specs.Prelude.{◌+◌, ◌≤◌, length};
+    ghost use Rattle.sc_daemon.specs.Lines.{Line, line_code};
+
+    ghost Value = { Line };
+
+    ghost coded = { line_code };
+
+    ghost view = { λ c. record {
+        limit = c.inbox.limit;
+        waiting = c.waiting;
+        rest = c.inbox.rest;
+        got = c.inbox.got;
+        closed = c.inbox.closed;
+        at = c.at;
+        phase = c.phase;
+        last = c.last;
+        outcome = c.outcome;
+        out = c.out.items;
+        long = c.long
+    } };
+
+    /// Each request took a byte at least.
+    ghost invariant = { λ c. c.at + length c.waiting + length c.inbox.rest ≤ c.inbox.got };
+}
+
+/// The next piece of an input: at most so many bytes.
+fn next_piece(input: &[u8], got: usize, count: u64) -> &[u8]
+    requires { got < length input.now }
+    ensures { result.now ≡ take count (drop got input.now) }
+{
+    let left = &input[got..];
+    if count < left.len() as u64 {
+        &left[..count as usize]
+    } else {
+        left
+    }
+}
+
+impl Conn {
+    /// Nothing came yet.
+    pub fn new(alloc: Global, limit: u32) -> Conn
+        ensures { result ≡ new_line limit }
+    {
+        Conn {
+            inbox: Inbox::new(alloc, limit),
+            waiting: Waiting::new(alloc),
+            at: 0,
+            phase: Phase::AtBegin,
+            last: 0,
+            outcome: 0,
+            out: Vec::new(alloc),
+            long: None,
+        }
+    }
+
+    /// Whether a reply was too long.
+    fn has_ended(&self) -> bool
+        ensures yes { result ≡ true → (0 < length self.now.waiting) × (standing_of self.now.phase ≡ Ended) }
+        ensures no { result ≡ false → (0 < length self.now.waiting) × (standing_of self.now.phase ≡ Ended) → ⊥ }
+    {
+        match standing_at(&self.phase) {
+            Standing::Ended => !self.waiting.is_empty(),
+            Standing::Goes => false,
+            Standing::Takes => false,
+            Standing::Over => false,
+        }
+    }
+
+    /// Whether nothing more is read.
+    fn is_done(&self) -> bool
+        ensures yes { result ≡ true → IsDone self.now }
+        ensures no { result ≡ false → IsDone self.now → ⊥ }
+    {
+        self.inbox.is_over() || self.has_ended()
+    }
+
+    /// Takes a piece of the stream.
+    fn take_piece(&mut self, alloc: Global, piece: &[u8]) -> Result<(), NoMemory>
+        requires { self.old.got + length piece.now < 2 ^ 64 }
+        ensures { OnOk result (TakesMore piece.now self.old self.new) }
+    {
+        let took = self.waiting.take(alloc, &mut self.inbox, piece);
+        if took.is_err() {
+            self.waiting = Waiting::new(alloc);
+        }
+        took
+    }
+
+    /// Reads at most so many bytes of the input.
+    pub fn read(
+        &mut self,
+        alloc: Global,
+        input: &[u8],
+        count: u64,
+    ) -> Result<Reading, NoMemory>
+        ensures { IfOk result (λ reading. Reads input.now count reading self.old self.new) }
+    {
+        if count == 0 || self.is_done() {
+            return Ok(Reading::Nothing);
+        }
+        let got = self.inbox.got();
+        if input.len() as u64 <= got {
+            self.inbox.shut();
+            return Ok(Reading::Closed);
+        }
+        let piece = next_piece(input, got as usize, count);
+        self.take_piece(alloc, piece)?;
+        let bytes = ByteText::from_slice(alloc, piece)?;
+        Ok(Reading::Taken(bytes))
+    }
+
+    /// Whether there is nothing to serve: no compile waits, a reply was too long, or a token is waited for.
+    fn is_idle(&self, free: u64) -> bool
+        ensures yes { result ≡ true → IsIdleLine free self.now }
+        ensures some { result ≡ false → 0 < length self.now.waiting }
+        ensures goes { result ≡ false → (standing_of self.now.phase ≡ Ended) → ⊥ }
+        ensures token { result ≡ false → standing_of self.now.phase ≡ Takes → 0 < free }
+    {
+        if self.waiting.is_empty() {
+            return true;
+        }
+        match standing_at(&self.phase) {
+            Standing::Ended => true,
+            Standing::Takes => free == 0,
+            Standing::Goes => false,
+            Standing::Over => false,
+        }
+    }
+
+    /// Keeps what an event of the served compile tells.
+    fn note_event(&mut self, moment: u64, what: &What)
+        ensures { self.new ≡ record self.old { last = moment; outcome = outcome_after self.old.outcome moment what.now; long = long_after self.old.long what.now } }
+    {
+        self.last = moment;
+        match what {
+            What::Outcome(_, _) => self.outcome = moment,
+            What::TooLong(size) => self.long = Some(*size),
+            _ => {}
+        }
+    }
+
+    /// The served compile stands at the next phase; one that is over makes way for the next.
+    fn move_to(&mut self, phase: Phase)
+        requires { 0 < length self.old.waiting }
+        ensures conn { conn_of self.new ≡ settle (conn_of self.old) phase }
+        ensures limit { self.new.limit ≡ self.old.limit }
+        ensures phase { self.new.phase ≡ settled phase }
+    {
+        match standing_at(&phase) {
+            Standing::Over => {
+                let _bound = self.inbox.got();
+                self.at += 1;
+                self.waiting.pop();
+                self.phase = Phase::AtBegin;
+                self.last = 0;
+                self.outcome = 0;
+            }
+            _ => self.phase = phase,
+        }
+    }
+
+    /// Does the action that is due of the served compile, where one is: its event.
+    pub fn serve<H: Hold>(
+        &mut self,
+        alloc: Global,
+        hold: &mut H,
+        free: u64,
+    ) -> Result<Option<What>, NoMemory>
+        requires { Rests (H.config hold.old) self.old.phase }
+        ensures serves { IfOk result (λ what. ServesLine (H.config hold.old) (H.moment hold.old) free what self.old self.new) }
+        ensures moves { IfOk result (λ what. MovesHold H.moves (need_at (setup (H.config hold.old)) (current (conn_of self.old)) self.old.phase) what hold.old hold.new) }
+        ensures same { IfOk result (λ _. H.config hold.new ≡ H.config hold.old) }
+        ensures rests { IfOk result (λ _. Rests (H.config hold.old) self.new.phase) }
+    {
+        if self.is_idle(free) {
+            return Ok(None);
+        }
+        let now = hold.now();
+        let phase = std::mem::replace(&mut self.phase, Phase::AtOver);
+        let Some(request) = self.waiting.first() else {
+            return Ok(None);
+        };
+        let acted = act(alloc, hold, request, phase, &mut self.out)?;
+        let Acted { what, phase } = acted;
+        self.note_event(now, &what);
+        self.move_to(phase);
+        Ok(Some(what))
+    }
+
+    /// What the connection has come to.
+    pub fn end(&self) -> End
+        ensures { end_of result ≡ if_too_long self.now.long ((served_reader self.now.limit).ends self.now.rest self.now.closed) }
+    {
+        match self.long {
+            Some(size) => End::ReplyTooLong(size),
+            None => self.inbox.end(),
+        }
+    }
+
+    /// The bytes that were sent.
+    pub fn into_sent(self) -> ByteText
+        ensures { result ≡ self.out }
+    {
+        ByteText::from_vec(self.out)
+    }
+}

@@ -1,0 +1,9 @@
+//! A daemon over levels, a workshop and a probe, and drives of any steps over any bytes on any connections.
+#![tactic(auto)]
+
+mod conn;
+mod reading;
+mod standing;
+mod waiting;
+
+pub use conn::Conn;
