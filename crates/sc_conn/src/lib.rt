@@ -2,5 +2,7 @@
 #![tactic(auto)]
 
 mod end;
+mod inbox;
 
 pub use end::End;
+pub use inbox::Inbox;

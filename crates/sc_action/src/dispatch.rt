@@ -1,0 +1,58 @@
+//! One action of a compile.
+ghost use Rattle.std.specs.Prelude.{◌≡◌, IfOk};
+ghost use Rattle.sc_action.specs.Acts.{Acts};
+ghost use Rattle.sc_action.specs.Sends.{Adds};
+ghost use Rattle.sc_action.specs.Serves.{Serves};
+ghost use Rattle.sc_job.specs.Setups.{Config, setup};
+ghost use Rattle.sc_model.specs.Machine.{need_at};
+ghost use Rattle.sc_model.specs.Trace.{sent_by};
+ghost use Rattle.sc_model.specs.declared.message.Request.TheVariants.{Compile as CompileOf};
+
+use crate::acted::Acted;
+use crate::early::{act_begin, act_key};
+use crate::lookup::{act_ask, act_place};
+use crate::running::{act_run, act_take};
+use crate::sending::{act_finish, act_send, act_started};
+use crate::storing::{act_end, act_store, act_write};
+use sc_entry::NoMemory;
+use sc_hold::Hold;
+use sc_model::{Compile, Phase};
+use std::alloc::Global;
+
+/// Does the action that is due of a compile at this phase: its event, and the phase after it. What it sends goes behind
+/// `out`. It waits for nothing: a token is there where one is taken.
+pub fn act<H: Hold>(
+    alloc: Global,
+    hold: &mut H,
+    request: &Compile,
+    phase: Phase,
+    out: &mut Vec<u8>,
+) -> Result<Acted, NoMemory>
+    requires { Serves (H.config hold.old) phase }
+    ensures acts { IfOk result (λ a. Acts (H.config hold.old) request.now (phase) (H.moment hold.old) a) }
+    ensures moves { IfOk result (λ a. H.moves hold.old (need_at (setup (H.config hold.old)) (CompileOf request.now) (phase)) a.what hold.new) }
+    ensures same { IfOk result (λ a. H.config hold.new ≡ H.config hold.old) }
+    ensures sent { IfOk result (λ a. Adds (H.config hold.old) (sent_by a.what) out.old.items out.new.items) }
+{
+    match phase {
+        Phase::AtBegin => act_begin(alloc, hold, request),
+        Phase::AtSend(reply) => act_send(alloc, hold, request, reply, out),
+        Phase::AtStarted(task) => act_started(alloc, hold, request, task, out),
+        Phase::AtKey(task, first) => act_key(alloc, hold, request, task, first),
+        Phase::AtAsk(job, level) => act_ask(alloc, hold, request, job, level),
+        Phase::AtPlace(job, entry, duration) => act_place(
+            alloc, hold, request, job, entry, duration,
+        ),
+        Phase::AtTake(work) => act_take(hold, request, work),
+        Phase::AtRun(work) => act_run(alloc, hold, request, work),
+        Phase::AtEnd(verdict, task, ending) => act_end(hold, request, verdict, task, ending),
+        Phase::AtStore(verdict, task, bytes, ending) => {
+            act_store(alloc, hold, request, verdict, task, bytes, ending)
+        }
+        Phase::AtWrite(bytes, levels, refusal, ending) => {
+            act_write(alloc, hold, request, bytes, levels, refusal, ending)
+        }
+        Phase::AtFinish(notes, last) => act_finish(alloc, hold, request, notes, last, out),
+        _ => unreachable!(),
+    }
+}

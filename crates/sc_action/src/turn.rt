@@ -1,0 +1,129 @@
+//! Where a job goes on: to a lookup at its next level, or to its run.
+ghost use Rattle.std.specs.Prelude.{◌≡◌, ◌+◌, ◌<◌, length, IfOk};
+ghost use Rattle.sc_action.specs.Controls.{control_of as control_in};
+ghost use Rattle.sc_action.specs.Serves.{IsLocal, Stands};
+ghost use Rattle.sc_job.specs.Setups.{Config, setup};
+ghost use Rattle.sc_model.specs.Job as jobs;
+ghost use Rattle.sc_model.specs.Machine.{control_phase, missed_phase, phase_next, whole_phase, work_of as work_record, work_phase};
+ghost use Rattle.sc_model.specs.declared.level.Policy.TheVariants.{Single};
+
+use crate::control::Control;
+use sc_entry::{ByteText, NoMemory};
+use sc_model::{Answer, DistType, Job, MissType, Phase, Work};
+
+/// The lookup limit, in nanoseconds: 60 s.
+const LOOKUP_LIMIT: u64 = 60_000_000_000;
+
+fn work_of(job: Job, miss: MissType, from: u64) -> Work
+    ensures { result ≡ work_record job miss from }
+{
+    Work {
+        job,
+        miss,
+        dist: DistType::NoDist,
+        from,
+    }
+}
+
+/// A job goes on to its run.
+fn to_work(job: Job, miss: MissType, now: u64) -> Phase
+    requires { IsLocal job }
+    ensures phase { result ≡ work_phase job miss now }
+    ensures stands { (k : Config) → Stands k result }
+{
+    Phase::AtTake(work_of(job, miss, now))
+}
+
+/// A miss at the default control.
+pub fn to_miss(job: Job, miss: MissType, now: u64) -> Phase
+    requires { IsLocal job }
+    ensures phase { result ≡ missed_phase job miss now }
+    ensures stands { (k : Config) → Stands k result }
+{
+    Phase::AtTake(work_of(job, miss, now))
+}
+
+/// A lookup's next level, or a miss after the last.
+fn next_level(job: Job, level: u64, levels: u64, miss: MissType, now: u64) -> Phase
+    requires { IsLocal job }
+    ensures phase { (k : Config) → length k.levels ≡ levels → result ≡ phase_next (setup k) level (Phase.AtAsk job level) (missed_phase job miss now) }
+    ensures stands { (k : Config) → length k.levels ≡ levels → Stands k result }
+{
+    if level < levels {
+        Phase::AtAsk(job, level)
+    } else {
+        to_miss(job, miss, now)
+    }
+}
+
+/// Where a job stands once its key is found.
+pub fn keyed(job: Job, control: Control, levels: u64, now: u64) -> Phase
+    requires { IsLocal job }
+    ensures phase { (k : Config) → length k.levels ≡ levels → result ≡ control_phase (setup k) (control_in control) job now }
+    ensures stands { (k : Config) → length k.levels ≡ levels → Stands k result }
+{
+    match control {
+        Control::Default => next_level(job, 0, levels, MissType::Normal, now),
+        Control::ForceNoCache => to_work(job, MissType::ForcedNoCache, now),
+        Control::ForceRecache => to_work(job, MissType::ForcedRecache, now),
+    }
+}
+
+/// Whether a lookup has taken longer than it may.
+fn is_late(job: &Job, now: u64) -> bool
+    ensures { result ≡ jobs.is_late job.now now }
+{
+    LOOKUP_LIMIT < now.saturating_sub(job.at)
+}
+
+fn if_late(late: bool, miss: MissType) -> MissType
+    ensures { result ≡ jobs.if_late late miss }
+{
+    if late { MissType::TimedOut } else { miss }
+}
+
+/// Where a job stands after a level's hit: one that came too late is a miss.
+fn hit(job: Job, level: u64, bytes: &ByteText, mark: bool, now: u64) -> Result<Phase, NoMemory>
+    requires { IsLocal job }
+    ensures phase { IfOk result (λ p. (k : Config) → p ≡ whole_phase (setup k) job now level (Answer.Hit bytes.now mark)) }
+    ensures stands { IfOk result (λ p. (k : Config) → Stands k p) }
+{
+    if is_late(&job, now) {
+        return Ok(to_miss(job, MissType::TimedOut, now));
+    }
+    let duration = now.saturating_sub(job.at);
+    Ok(Phase::AtPlace(job, bytes.try_clone()?, duration))
+}
+
+/// Where a job stands after a level gave nothing.
+fn missed(job: Job, level: u64, levels: u64, miss: MissType, now: u64) -> Phase
+    requires local { IsLocal job }
+    requires level { level < levels }
+    ensures phase { (k : Config) → length k.levels ≡ levels → result ≡ phase_next (setup k) (level + 1) (Phase.AtAsk job (level + 1)) (missed_phase job (jobs.if_late (jobs.is_late job now) miss) now) }
+    ensures stands { (k : Config) → length k.levels ≡ levels → Stands k result }
+{
+    let miss = if_late(is_late(&job, now), miss);
+    next_level(job, level + 1, levels, miss, now)
+}
+
+/// Where a job stands after a level's answer to its lookup. A refusal of a store that stands alone is an error of reading.
+pub fn asked(
+    job: Job,
+    level: u64,
+    levels: u64,
+    answer: &Answer,
+    now: u64,
+) -> Result<Phase, NoMemory>
+    requires local { IsLocal job }
+    requires level { level < levels }
+    ensures phase { IfOk result (λ p. (k : Config) → length k.levels ≡ levels → k.policy ≡ Single → p ≡ whole_phase (setup k) job now level answer.now) }
+    ensures stands { IfOk result (λ p. (k : Config) → length k.levels ≡ levels → Stands k p) }
+{
+    match answer {
+        Answer::Hit(bytes, mark) => hit(job, level, bytes, *mark, now),
+        Answer::Refused(_) => Ok(missed(job, level, levels, MissType::CacheReadError, now)),
+        Answer::Miss => Ok(missed(job, level, levels, MissType::Normal, now)),
+        Answer::Found(_) => Ok(missed(job, level, levels, MissType::Normal, now)),
+        Answer::Size(_, _) => Ok(missed(job, level, levels, MissType::Normal, now)),
+    }
+}

@@ -1,0 +1,4 @@
+pub mod Report
+pub mod Sections
+pub mod Ending
+pub mod Words
