@@ -42,11 +42,11 @@ held_in o = record { facts = o.config.levels; policy = o.config.policy; told = o
 asked_of : (o : State) (after : Held) (l : ℕ) (key : List ℕ) (mode : Mode) (a : Answer) (hs : List Handed) (n : Need) → mode ≢ Path → after.told ≡ o.told → AsksAt l key mode a (held_in o) after
     → MovesTo o n (Asked l key mode a hs) after.told (record o.world { levels = after.levels })
 asked_of o after l key mode a hs n path same asks = (
-    same,
-    λ told.
-        let has : IsTrue (has_mode (kind_at o.config.levels l) mode) = subst (λ (k : LevelKind). IsTrue (has_mode k mode)) (sym (remote_levels o l)) (no_path mode path) in
-        let h = asks told has 0 in
-        (h.0, h.1, ap (λ ls. record o.world { levels = ls }) h.2),
+  same,
+  λ told.
+      let has : IsTrue (has_mode (kind_at o.config.levels l) mode) = subst (λ (k : LevelKind). IsTrue (has_mode k mode)) (sym (remote_levels o l)) (no_path mode path) in
+      let h = asks told has 0 in
+      (h.0, h.1, ap (λ ls. record o.world { levels = ls }) h.2),
 )
 
 -- a level was asked
@@ -58,8 +58,8 @@ asked o now after l key mode a hs n is path same asks =
 wrote_of : (o : State) (after : Held) (l : ℕ) (key bytes : List ℕ) (run : Bool) (how : Written) (n : Need) → after.told ≡ o.told → PutsAt l key bytes how (held_in o) after
     → MovesTo o n (Wrote l key bytes Whole run how) after.told (record o.world { levels = after.levels })
 wrote_of o after l key bytes run how n same puts = (
-    same,
-    λ told. let h = puts told 0 in (h.0, (h.1, h.2), ap (λ ls. record o.world { levels = ls }) h.3),
+  same,
+  λ told. let h = puts told 0 in (h.0, (h.1, h.2), ap (λ ls. record o.world { levels = ls }) h.3),
 )
 
 -- an entry was put at a level
@@ -75,8 +75,8 @@ with_shop w runs placings faults = record w { runs = runs; placings = placings; 
 ran_of : (o : State) (n : Need) (a : RunAnswer) (runs : Option Runs) (placings : Option (List Place)) (g : ℕ) → runs ≡ and_one o.world.runs (n.key, a) → placings ≡ o.world.placings → o.world.shop_faults ≤ g → RunCause a o.world.shop_faults g
     → IfTold (told_answer o.config.lines n.key o.world.runs n.wanted) (λ b. a ≡ b) → MovesTo o n (Ran a) o.told (with_shop o.world runs placings g)
 ran_of o n a runs placings g ran placed later cause answer = (
-    refl,
-    λ told. (g, later, cause, answer, rw (ran, placed) refl),
+  refl,
+  λ told. (g, later, cause, answer, rw (ran, placed) refl),
 )
 
 -- a compile was run

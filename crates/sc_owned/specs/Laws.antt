@@ -1,5 +1,5 @@
 -- What holds of every state.
-use Rattle.std.specs.Prelude.{◌≡◌, ℕ, zero, suc, ◌<◌, Bool, true, false, T, List, [], ◌∷◌, length, refl}
+use Rattle.std.specs.Prelude.{◌≡◌, ℕ, zero, suc, ◌<◌, true, false, T, List, [], ◌∷◌, length, refl}
 use Rattle.std.proofs.Common.{sym, subst, lit<}
 use Rattle.sc_hold.specs.Quiet.{IsQuiet}
 use Rattle.sc_model.specs.Follows.{kind_at}

@@ -10,9 +10,7 @@ use crate::parts::Parts;
 use sc_compile::{PlainCompiler, Workshop, begin};
 use sc_entry::{ByteText, FileObjectSource, Items, NoMemory, Queue, Text};
 use sc_hold::{Hold, Lookup, PutEnd};
-use sc_model::{
-    Bytes, Compile, KeyFound, Mode, Parsed, Placing, Put, Refusal, RunAnswer, Written,
-};
+use sc_model::{Bytes, Compile, KeyFound, Mode, Parsed, Placing, Put, Refusal, RunAnswer, Written};
 use std::alloc::Global;
 
 impl<P: Parts> Hold for Owned<P> {
@@ -51,12 +49,7 @@ impl<P: Parts> Hold for Owned<P> {
         Ok(levels)
     }
 
-    fn put_end(
-        &self,
-        alloc: Global,
-        _bytes: &Bytes,
-        refusal: Refusal,
-    ) -> Result<PutEnd, NoMemory> {
+    fn put_end(&self, alloc: Global, _bytes: &Bytes, refusal: Refusal) -> Result<PutEnd, NoMemory> {
         Ok(PutEnd {
             answer: put_answer(refusal),
             handed: Items::new(alloc),
@@ -122,13 +115,9 @@ impl<P: Parts> Hold for Owned<P> {
 
     fn write(&mut self, alloc: Global, level: u64, bytes: &Bytes) -> Result<Written, NoMemory> {
         let _count = self.levels.len();
-        let written = self.levels.put_step(
-            alloc,
-            level as usize,
-            &bytes.key,
-            &bytes.bytes,
-            bytes.run,
-        )?;
+        let written = self
+            .levels
+            .put_step(alloc, level as usize, &bytes.key, &bytes.bytes, bytes.run)?;
         Ok(written)
     }
 }

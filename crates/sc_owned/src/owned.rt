@@ -32,10 +32,10 @@ impl<P: Parts> Model for Owned<P> {
     ghost coded = { state_code };
 
     ghost view = { λ d. record {
-        config = config_of d.levels d.tokens d.limit (P.Finder.table d.finder) (P.Shop.lines d.shop);
-        told = d.levels.told;
-        world = world_of d.moment d.levels (P.Shop.runs d.shop) (P.Shop.placings d.shop) (P.Shop.fault_count d.shop);
-        one = d.one
+      config = config_of d.levels d.tokens d.limit (P.Finder.table d.finder) (P.Shop.lines d.shop);
+      told = d.levels.told;
+      world = world_of d.moment d.levels (P.Shop.runs d.shop) (P.Shop.placings d.shop) (P.Shop.fault_count d.shop);
+      one = d.one;
     } };
 }
 

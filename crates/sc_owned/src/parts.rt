@@ -4,6 +4,8 @@ use sc_store::Remote;
 /// The types of what a daemon is made of.
 pub trait Parts {
     type Shop: Workshop + Drop;
+
     type Store: Remote + Drop;
+
     type Finder: Probe + Drop;
 }

@@ -175,3 +175,22 @@ fn single_read_only(rt: HostRuntime) -> Result<(), Fail> {
     assert_eq!(rt; put(alloc, &mut single, 0, "no key")?, "read-only");
     Ok(())
 }
+
+#[test]
+fn remote_tells_its_size(rt: HostRuntime) -> Result<(), Fail> {
+    let remote = small_remote(rt.alloc(), 0)?;
+    assert_eq!(rt; remote.len(), 2);
+    assert_eq!(rt; remote.size(), 29);
+    Ok(())
+}
+
+#[test]
+fn level_shows_its_remote(rt: HostRuntime) -> Result<(), Fail> {
+    let levels = small_levels(rt.alloc(), 0)?;
+    if levels.len() < 2 {
+        return Ok(());
+    }
+    let Level::Remote(store) = levels.get(1);
+    assert_eq!(rt; store.remote().len(), 2);
+    Ok(())
+}
