@@ -1,6 +1,6 @@
 //! A connection: what comes over it, the compile that is served, and what was sent.
 ghost use Rattle.std.specs.Prelude.{◌≡◌, ◌+◌, ◌<◌, ◌≤◌, ◌^◌, false, true, length, take, drop, IfOk, IfSome, OnOk};
-ghost use Rattle.sc_action.specs.Serves.{Stands};
+ghost use Rattle.sc_action.specs.Serves.{Serves, Stands};
 ghost use Rattle.sc_conn.specs.Ends.{end_of};
 ghost use Rattle.sc_daemon.specs.Lines.{IsDone, conn_of, new_line};
 ghost use Rattle.sc_daemon.specs.Standings.{Rests, settled, standing_of};
@@ -45,17 +45,17 @@ impl Model for Conn {
     ghost coded = { line_code };
 
     ghost view = { λ c. record {
-        limit = c.inbox.limit;
-        waiting = c.waiting;
-        rest = c.inbox.rest;
-        got = c.inbox.got;
-        closed = c.inbox.closed;
-        at = c.at;
-        phase = c.phase;
-        last = c.last;
-        outcome = c.outcome;
-        out = c.out.items;
-        long = c.long
+      limit = c.inbox.limit;
+      waiting = c.waiting;
+      rest = c.inbox.rest;
+      got = c.inbox.got;
+      closed = c.inbox.closed;
+      at = c.at;
+      phase = c.phase;
+      last = c.last;
+      outcome = c.outcome;
+      out = c.out.items;
+      long = c.long;
     } };
 
     /// Each request took a byte at least.
@@ -126,12 +126,7 @@ impl Conn {
     }
 
     /// Reads at most so many bytes of the input.
-    pub fn read(
-        &mut self,
-        alloc: Global,
-        input: &[u8],
-        count: u64,
-    ) -> Result<Reading, NoMemory>
+    pub fn read(&mut self, alloc: Global, input: &[u8], count: u64) -> Result<Reading, NoMemory>
         ensures { IfOk result (λ reading. Reads input.now count reading self.old self.new) }
     {
         if count == 0 || self.is_done() {
@@ -198,32 +193,17 @@ impl Conn {
         }
     }
 
-    /// Does the action that is due of the served compile, where one is: its event.
-    pub fn serve<H: Hold>(
-        &mut self,
-        alloc: Global,
-        hold: &mut H,
-        free: u64,
-    ) -> Result<Option<What>, NoMemory>
-        requires { Rests (H.config hold.old) self.old.phase }
-        ensures serves { IfOk result (λ what. ServesLine (H.config hold.old) (H.moment hold.old) free what self.old self.new) }
-        ensures moves { IfOk result (λ what. MovesHold H.moves (need_at (setup (H.config hold.old)) (current (conn_of self.old)) self.old.phase) what hold.old hold.new) }
-        ensures same { IfOk result (λ _. H.config hold.new ≡ H.config hold.old) }
-        ensures rests { IfOk result (λ _. Rests (H.config hold.old) self.new.phase) }
+    /// Does the action that is due of the first compile.
+    fn act_first<H: Hold>(&mut self, alloc: Global, hold: &mut H) -> Result<Option<Acted>, NoMemory>
+        requires { Serves (H.config hold.old) self.old.phase }
+        ensures same { OnOk result (H.config hold.new ≡ H.config hold.old) }
     {
-        if self.is_idle(free) {
-            return Ok(None);
-        }
-        let now = hold.now();
-        let phase = std::mem::replace(&mut self.phase, Phase::AtOver);
         let Some(request) = self.waiting.first() else {
             return Ok(None);
         };
+        let phase = std::mem::replace(&mut self.phase, Phase::AtOver);
         let acted = act(alloc, hold, request, phase, &mut self.out)?;
-        let Acted { what, phase } = acted;
-        self.note_event(now, &what);
-        self.move_to(phase);
-        Ok(Some(what))
+        Ok(Some(acted))
     }
 
     /// What the connection has come to.

@@ -70,12 +70,7 @@ impl Waiting {
     }
 
     /// Takes a piece of the connection's stream, and the compiles that are whole by then.
-    pub fn take(
-        &mut self,
-        alloc: Global,
-        inbox: &mut Inbox,
-        piece: &[u8],
-    ) -> Result<(), NoMemory>
+    pub fn take(&mut self, alloc: Global, inbox: &mut Inbox, piece: &[u8]) -> Result<(), NoMemory>
         requires { inbox.old.got + length piece.now < 2 ^ 64 }
         ensures requests { OnOk result (map CompileOf self.new ≡ map CompileOf self.old ++ (served_reader inbox.old.limit).requests (inbox.old.rest ++ piece.now)) }
         ensures rest { OnOk result (inbox.new.rest ≡ (served_reader inbox.old.limit).rest (inbox.old.rest ++ piece.now)) }
