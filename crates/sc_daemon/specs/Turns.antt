@@ -1,6 +1,8 @@
 -- What a step does to one connection.
 use Rattle.std.specs.Prelude.{◌≡◌, ℕ, ◌+◌, ◌<◌, ◌≤◌, true, List, [], ◌∷◌, ◌++◌, length, take, drop, map, Option, Some, None, ◌⊎◌}
-use Rattle.sc_action.specs.Acts.{IsPlain}
+use Rattle.sc_action.specs.Acts.{Acts, IsPlain}
+use Rattle.sc_action.specs.Sends.{Adds}
+use Rattle.sc_action.specs.declared.acted.Acted.{Acted}
 use Rattle.sc_daemon.specs.Lines.{IsDone, Line, conn_of}
 use Rattle.sc_daemon.specs.Standings.{standing_of}
 use Rattle.sc_daemon.specs.declared.reading.Reading.{Reading}
@@ -9,8 +11,11 @@ use Rattle.sc_daemon.specs.declared.standing.Standing.TheVariants.{Ended, Takes}
 use Rattle.sc_job.specs.Setups.{Config, setup}
 use Rattle.sc_model.specs.Follows.{Fits}
 use Rattle.sc_model.specs.Machine.{advanced, current, due_at}
+use Rattle.sc_model.specs.Trace.{sent_by}
 use Rattle.sc_model.specs.World.{Need}
 use Rattle.sc_model.specs.declared.event.What.{What}
+use Rattle.sc_model.specs.declared.message.Compile.{Compile}
+use Rattle.sc_model.specs.declared.phase.Phase.TheVariants.{AtOver}
 use Rattle.sc_model.specs.declared.message.Request.TheVariants.{Compile as CompileOf}
 use Rattle.sc_wire.specs.Streams.{served_reader}
 
@@ -26,6 +31,15 @@ abbrev pub Reads : List ℕ → ℕ → Reading → Line → Line → Type 0
 Reads input n Nothing old new = ((n ≡ 0) ⊎ IsDone old) × (new ≡ old)
 Reads input n (Taken bytes) old new = (IsDone old → ⊥) × (bytes ≡ take n (drop old.got input)) × (0 < length bytes) × TakesMore bytes old new
 Reads input n Closed old new = (IsDone old → ⊥) × (0 < n) × (length input ≤ old.got) × (new ≡ record old { closed = true })
+
+-- One action of the first compile, before the connection goes on to the next phase.
+pub record ActsFirst (k : Config) (moment : ℕ) (acted : Acted) (old new : Line) : Type 0 where
+  pub request : Compile
+  pub rest : List Compile
+  pub first : old.waiting ≡ request ∷ rest
+  pub acts : Acts k request old.phase moment acted
+  pub same : new ≡ record old { phase = AtOver; out = new.out }
+  pub out : Adds k (sent_by acted.what) old.out new.out
 
 -- nothing is there to serve, a reply was too long, or a token is waited for
 abbrev pub IsIdleLine : ℕ → Line → Type 0
@@ -45,6 +59,14 @@ ServesLine k moment free None old new = IsIdleLine free old × (new ≡ old)
 ServesLine k moment free (Some x) old new = Serves_one k moment free x old new
 
 -- a hold moves by the event, where there is one
+abbrev pub MovesFirst : {H : Type 0} → (H → Need → What → H → Type 0) → Need → Option Acted → H → H → Type 0
+MovesFirst moves n None old new = new ≡ old
+MovesFirst moves n (Some a) old new = moves old n a.what new
+
+abbrev pub ActsFirst_or_none : Config → ℕ → Option Acted → Line → Line → Type 0
+ActsFirst_or_none k moment None old new = (old.waiting ≡ []) × (new ≡ old)
+ActsFirst_or_none k moment (Some a) old new = ActsFirst k moment a old new
+
 abbrev pub MovesHold : {H : Type 0} → (H → Need → What → H → Type 0) → Need → Option What → H → H → Type 0
 MovesHold moves n None old new = new ≡ old
 MovesHold moves n (Some x) old new = moves old n x new

@@ -4,7 +4,7 @@ ghost use Rattle.sc_action.specs.Serves.{Serves, Stands};
 ghost use Rattle.sc_conn.specs.Ends.{end_of};
 ghost use Rattle.sc_daemon.specs.Lines.{IsDone, conn_of, new_line};
 ghost use Rattle.sc_daemon.specs.Standings.{Rests, settled, standing_of};
-ghost use Rattle.sc_daemon.specs.Turns.{IsIdleLine, MovesHold, Reads, ServesLine, TakesMore};
+ghost use Rattle.sc_daemon.specs.Turns.{ActsFirst_or_none, IsIdleLine, MovesFirst, MovesHold, Reads, ServesLine, TakesMore};
 ghost use Rattle.sc_daemon.specs.declared.standing.Standing.TheVariants.{Ended, Takes};
 ghost use Rattle.sc_job.specs.Setups.{setup};
 ghost use Rattle.sc_model.specs.Machine.{current, long_after, need_at, outcome_after, settle};
@@ -196,7 +196,9 @@ impl Conn {
     /// Does the action that is due of the first compile.
     fn act_first<H: Hold>(&mut self, alloc: Global, hold: &mut H) -> Result<Option<Acted>, NoMemory>
         requires { Serves (H.config hold.old) self.old.phase }
-        ensures same { OnOk result (H.config hold.new ≡ H.config hold.old) }
+        ensures acts { IfOk result (λ acted. ActsFirst_or_none (H.config hold.old) (H.moment hold.old) acted self.old self.new) }
+        ensures moves { IfOk result (λ acted. MovesFirst H.moves (need_at (setup (H.config hold.old)) (current (conn_of self.old)) self.old.phase) acted hold.old hold.new) }
+        ensures same { IfOk result (λ _. H.config hold.new ≡ H.config hold.old) }
     {
         let Some(request) = self.waiting.first() else {
             return Ok(None);
@@ -204,6 +206,32 @@ impl Conn {
         let phase = std::mem::replace(&mut self.phase, Phase::AtOver);
         let acted = act(alloc, hold, request, phase, &mut self.out)?;
         Ok(Some(acted))
+    }
+
+    /// Does the action that is due of the served compile, where one is: its event.
+    pub fn serve<H: Hold>(
+        &mut self,
+        alloc: Global,
+        hold: &mut H,
+        free: u64,
+    ) -> Result<Option<What>, NoMemory>
+        requires { Rests (H.config hold.old) self.old.phase }
+        ensures serves { IfOk result (λ what. ServesLine (H.config hold.old) (H.moment hold.old) free what self.old self.new) }
+        ensures moves { IfOk result (λ what. MovesHold H.moves (need_at (setup (H.config hold.old)) (current (conn_of self.old)) self.old.phase) what hold.old hold.new) }
+        ensures same { IfOk result (λ _. H.config hold.new ≡ H.config hold.old) }
+        ensures rests { IfOk result (λ _. Rests (H.config hold.old) self.new.phase) }
+    {
+        if self.is_idle(free) {
+            return Ok(None);
+        }
+        let now = hold.now();
+        let Some(acted) = self.act_first(alloc, hold)? else {
+            return Ok(None);
+        };
+        let Acted { what, phase } = acted;
+        self.note_event(now, &what);
+        self.move_to(phase);
+        Ok(Some(what))
     }
 
     /// What the connection has come to.
