@@ -1,2 +1,5 @@
+pub mod Counted
 pub mod Firsts
+pub mod Machines
+pub mod Plain
 pub mod Serving

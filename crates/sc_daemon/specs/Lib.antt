@@ -1,3 +1,5 @@
+pub mod Daemons
+pub mod Drives
 pub mod Lines
 pub mod Standings
 pub mod Turns

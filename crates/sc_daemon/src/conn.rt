@@ -92,6 +92,20 @@ impl Conn {
         }
     }
 
+    /// The number of the first compile among all of the connection.
+    pub fn at(&self) -> u64
+        ensures { result ≡ self.now.at }
+    {
+        self.at
+    }
+
+    /// The moment of its outcome.
+    pub fn outcome(&self) -> u64
+        ensures { result ≡ self.now.outcome }
+    {
+        self.outcome
+    }
+
     /// Whether a reply was too long.
     fn has_ended(&self) -> bool
         ensures yes { result ≡ true → (0 < length self.now.waiting) × (standing_of self.now.phase ≡ Ended) }

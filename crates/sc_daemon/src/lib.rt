@@ -2,8 +2,10 @@
 #![tactic(auto)]
 
 mod conn;
+mod daemon;
 mod reading;
 mod standing;
 mod waiting;
 
 pub use conn::Conn;
+pub use daemon::Daemon;
