@@ -1,5 +1,5 @@
 -- A text that is made longer where it stands in a list.
-use Rattle.std.proofs.Common.{◌≡◌, ℕ, zero, suc, ◌<◌, List, [], ◌∷◌, ◌++◌, length, get_or, set, refl, ap, sym, ◌∙◌, arith}
+use Rattle.std.proofs.Common.{◌≡◌, ℕ, zero, suc, ◌<◌, List, [], ◌∷◌, ◌++◌, length, get_or, set, ap, arith}
 use Rattle.sc_script.specs.Inputs.{appended}
 
 set_more : (xs : List (List ℕ)) (i : ℕ) (t bytes : List ℕ) → i < length xs → t ≡ get_or xs i t → set xs i (t ++ bytes) ≡ appended xs i bytes

@@ -1,11 +1,10 @@
 -- A list is cut at the first place where a byte stands.
-use Rattle.std.proofs.Common.{◌≡◌, ℕ, zero, suc, ◌+◌, ◌-◌, ◌<◌, ◌≢◌, ◌==◌, List, [], ◌∷◌, length, take, drop, get_or, refl, arith, eq-eqb, cond, false, true, add-one, Option, Some, None}
+use Rattle.std.proofs.Common.{◌≡◌, ℕ, zero, suc, ◌+◌, ◌-◌, ◌<◌, ◌≢◌, ◌==◌, List, [], ◌∷◌, length, take, drop, get_or, refl, arith, eq-eqb, false, true, add-one, Some, None}
 use Rattle.std.proofs.Math.Seq.{take-length}
 use Rattle.std.proofs.lemmas.List.{length-drop}
 use Rattle.std.proofs.lemmas.Grind.{common_steps}
-use Rattle.std.specs.List.{slice_split, onto_first}
-use Rattle.std.specs.Option.{option_map}
-use Rattle.sc_script.specs.Parts.{cut_at, CutAt}
+use Rattle.std.specs.List.{slice_split}
+use Rattle.sc_script.specs.Parts.{cut_at}
 
 neq-eqb : (a b : ℕ) → a ≢ b → (a == b) ≡ false
 neq-eqb a b h = grind (arith, common_steps)

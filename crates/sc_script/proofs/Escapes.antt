@@ -1,6 +1,5 @@
 -- An escape takes three bytes behind its backslash.
-use Rattle.std.proofs.Common.{◌≡◌, ℕ, zero, suc, ◌+◌, ◌-◌, ◌<◌, ◌≤◌, ◌==◌, List, [], ◌∷◌, ◌++◌, length, take, drop, get_or, refl, arith, Some, rules}
-use Rattle.std.proofs.lemmas.Grind.{common_steps}
+use Rattle.std.proofs.Common.{◌≡◌, ℕ, ◌-◌, ◌≤◌, List, [], ◌∷◌, ◌++◌, length, take, drop, get_or, refl, arith, Some}
 use Rattle.std.proofs.Math.Seq.{take-length}
 use Rattle.sc_script.specs.Fields.{byte_of, bytes_onto, escape_onto}
 

@@ -1,11 +1,11 @@
 -- One line of a script read.
-use Rattle.std.proofs.Common.{◌≡◌, ℕ, ◌+◌, ◌≤◌, nat_le, ◌==◌, List, [], ◌∷◌, length, refl, arith, Bool, true, false, cond, ◌&&◌, Option, Some, None, Result, Ok, Err, if◌then◌else◌}
+use Rattle.std.proofs.Common.{◌≡◌, ℕ, ◌+◌, ◌≤◌, nat_le, ◌==◌, List, length, refl, arith, Bool, true, false, ◌&&◌, Some, None, Err, if◌then◌else◌}
 use Rattle.std.proofs.lemmas.List.Splits.{length-slice_split}
 use Rattle.std.proofs.lemmas.Grind.{common_steps}
-use Rattle.std.specs.List.{slice_split, count_by}
+use Rattle.std.specs.List.{slice_split}
 use Rattle.sc_script.specs.Parts.{parts_of, CutAt}
 use Rattle.std.proofs.lemmas.List.{take_all}
-use Rattle.sc_script.specs.Scripts.{reading_of, most, nothing, lines_from, with_text, finished, go_on}
+use Rattle.sc_script.specs.Scripts.{reading_of, most, nothing, lines_from, with_text, finished}
 use Rattle.sc_script.specs.declared.draft.Draft.{Draft}
 
 more_than_none : (n : ℕ) → (n + 1 == 0) ≡ false

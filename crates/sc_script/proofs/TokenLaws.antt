@@ -1,12 +1,11 @@
 -- A printed token is read as the bytes that it was made of.
-use Rattle.std.proofs.Common.{◌≡◌, ℕ, zero, suc, ◌+◌, ◌*◌, ◌-◌, ◌/◌, ◌%◌, ◌<◌, ◌≤◌, ◌==◌, List, [], ◌∷◌, ◌++◌, length, refl, arith, Bool, true, false, cond, not, ◌&&◌, ◌||◌, Option, Some, None, ap, sym, ◌∙◌, append_assoc, nat_lt, nat_le, if◌then◌else◌}
-use Rattle.std.proofs.lemmas.Grind.{common_steps}
+use Rattle.std.proofs.Common.{◌≡◌, ℕ, suc, ◌/◌, ◌%◌, ◌<◌, ◌≤◌, ◌==◌, List, [], ◌∷◌, ◌++◌, length, refl, arith, Bool, true, false, ◌&&◌, Some, ap, sym, ◌∙◌, append_assoc}
 use Rattle.std.proofs.lemmas.Bool.Decides.{nat_tests}
 use Rattle.std.proofs.lemmas.List.{append-nil}
 use Rattle.std.specs.List.{All}
 use Rattle.std.specs.Str.{bytes_eq}
 use Rattle.std.proofs.lemmas.Slice.Eq.{bytes_eq-Decides}
-use Rattle.sc_script.specs.Fields.{stands, hex_digit, byte_of, bytes_onto, escape_onto, bytes_of_token}
+use Rattle.sc_script.specs.Fields.{stands, hex_digit, byte_of, bytes_onto, bytes_of_token}
 use Rattle.sc_script.specs.Tokens.{digit_text, byte_text, escaped, printed, token_of}
 
 low_digit : (d : ℕ) → d < 10 → hex_digit (digit_text d) ≡ Some d

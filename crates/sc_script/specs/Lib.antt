@@ -10,3 +10,4 @@ pub mod Numbers
 pub mod Replies
 pub mod Counters
 pub mod Commands
+pub mod Goods

@@ -1,5 +1,5 @@
 -- What a line says, kind by kind.
-use Rattle.std.specs.Prelude.{◌≡◌, ℕ, ◌-◌, ◌^◌, List, [], ◌∷◌, ◌++◌, length, Option, Some, None, Bool, ◌&&◌, ◌==◌, nat_lt, if◌then◌else◌, codes, bytes_eq}
+use Rattle.std.specs.Prelude.{ℕ, ◌-◌, ◌^◌, List, [], ◌∷◌, ◌++◌, length, Option, Some, None, Bool, ◌&&◌, ◌==◌, nat_lt, if◌then◌else◌, codes, bytes_eq}
 use Rattle.std.specs.FinMap as map
 use Rattle.sc_entry.specs.Tally.{Tally, count_of, counted}
 use Rattle.sc_entry.specs.declared.object.Object.{Object}

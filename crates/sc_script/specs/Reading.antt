@@ -1,5 +1,5 @@
 -- Readers of words and of lines: what these say, or nothing where they are bad.
-use Rattle.std.specs.Prelude.{◌≡◌, ℕ, List, [], ◌∷◌, ◌++◌, Option, Some, None, Result, Ok, Err, Bool, if◌then◌else◌}
+use Rattle.std.specs.Prelude.{◌≡◌, ℕ, List, Option, Some, None, Result, Ok, Err, Bool, if◌then◌else◌}
 use Rattle.sc_script.specs.declared.fault.LineError.{LineError}
 use Rattle.sc_script.specs.declared.fault.LineError.TheVariants.{Memory, Bad}
 

@@ -3,9 +3,8 @@ use Rattle.std.specs.Prelude.{◌≡◌, ℕ, ◌+◌, List, [], ◌∷◌, ◌+
 use Rattle.std.specs.FinMap as map
 use Rattle.sc_script.specs.declared.run_rule.RunRule.{RunRule}
 use Rattle.sc_compile.specs.declared.tool.Tool.{Tool as Told}
-use Rattle.sc_entry.specs.Tally.{Tally, count_of, counted}
+use Rattle.sc_entry.specs.Tally.{count_of, counted}
 use Rattle.sc_model.specs.declared.event.Step.TheVariants.{Read as ReadStep, Serve as ServeStep}
-use Rattle.sc_model.specs.declared.message.Request.{Request}
 use Rattle.sc_script.specs.Reading.{◌>>=◌, only_if}
 use Rattle.sc_script.specs.Parts.{words_of, parts_of}
 use Rattle.sc_script.specs.Lines.{line_of_words}

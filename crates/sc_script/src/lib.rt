@@ -7,6 +7,7 @@ mod draft;
 mod fault;
 mod fields;
 mod frames;
+mod good_laws;
 mod inputs;
 mod laws;
 mod line;
@@ -20,6 +21,7 @@ mod tokens;
 mod words;
 
 pub use counters::put_counters;
+pub use good_laws::read_scripts_are_good;
 pub use laws::{numbers_are_read_again, tokens_are_read_again};
 pub use reading::read_script;
 pub use replies::put_reply;

@@ -14,6 +14,7 @@ pub use levels::Levels;
 pub use mem_remote::MemRemote;
 pub use remote::{Remote, RemoteRead, RemoteWrite};
 pub use remote_storage::RemoteStorage;
+pub use store_key::normalize_key;
 
 #[cfg(test)]
 mod tests;

@@ -41,7 +41,7 @@ fn push_part(path: &mut String, byte: u8) -> Result<(), NoMemory>
 }
 
 /// The path of a store key: three parts of one byte, then the key.
-pub(crate) fn normalize_key(alloc: Global, key: &Text) -> Result<Text, NoMemory>
+pub fn normalize_key(alloc: Global, key: &Text) -> Result<Text, NoMemory>
     requires { keys.IsStoreKey key.now }
     ensures { IfOk result (λ path. path ≡ keys.normalize_key key.now) }
 {

@@ -1,4 +1,4 @@
-use Rattle.std.proofs.Common.{sym, ◌∙◌, ◌≡◌, List, ℕ, arith, rules}
+use Rattle.std.proofs.Common.{sym, ◌∙◌, arith}
 use Rattle.sc_script.proofs.Escapes.{escape_taken}
 use Rattle.sc_script.proofs.fields.escape.Goals as goal
 

@@ -1,4 +1,4 @@
-use Rattle.std.proofs.Common.{arith, ◌≡◌, ◌<◌, ◌≢◌, ◌+◌, ◌-◌, ◌==◌, ℕ, length, take, drop, get_or, eq-eqb, add-one, suc}
+use Rattle.std.proofs.Common.{arith, eq-eqb}
 use Rattle.sc_script.proofs.Cuts.{split_none, split_here, cut_none, cut_here, rest_of, eq_from_test}
 use Rattle.sc_script.proofs.parts.cut.Goals as goal
 

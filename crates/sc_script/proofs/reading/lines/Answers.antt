@@ -1,4 +1,4 @@
-use Rattle.std.proofs.Common.{arith, sym, ◌∙◌, ◌≡◌, ◌+◌, ◌≤◌}
+use Rattle.std.proofs.Common.{arith, sym, ◌∙◌}
 use Rattle.sc_script.proofs.Steps.{goes_on, stops}
 use Rattle.sc_script.proofs.reading.lines.Goals as goal
 

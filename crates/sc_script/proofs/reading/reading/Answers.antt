@@ -1,4 +1,4 @@
-use Rattle.std.proofs.Common.{arith, sym, ◌≡◌, ◌≤◌}
+use Rattle.std.proofs.Common.{arith, sym}
 use Rattle.std.proofs.lemmas.List.{length-take-le}
 use Rattle.sc_script.proofs.Steps.{whole_text}
 use Rattle.sc_script.proofs.reading.reading.Goals as goal

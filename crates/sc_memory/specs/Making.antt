@@ -1,0 +1,51 @@
+-- What a daemon over memory is made of, and what it holds at first.
+use Rattle.std.specs.Prelude.{◌≡◌, ℕ, List, [], ◌∷◌, map, Option, Some, None}
+use Rattle.sc_compile.specs.declared.run_line.RunLine.{RunLine}
+use Rattle.sc_entry.specs.Keys.{normalize_key}
+use Rattle.sc_model.specs.World.{Files, World, no_files}
+use Rattle.sc_model.specs.declared.event.RunAnswer.{RunAnswer}
+use Rattle.sc_model.specs.declared.level.Container.TheVariants.{Disabled}
+use Rattle.sc_model.specs.declared.level.Policy.TheVariants.{Single}
+use Rattle.sc_model.specs.declared.message.CacheMode.TheVariants.{ReadWrite}
+use Rattle.sc_script.specs.declared.run_rule.RunRule.{RunRule}
+use Rattle.sc_script.specs.declared.script.Script.{Script}
+use Rattle.sc_store.specs.Held.{Held, held_of, held_remote}
+use Rattle.sc_store.specs.Paths.{put_all}
+
+-- what is held under keys, at the paths of the keys
+abbrev pub placed : List (List ℕ × List ℕ) → List (List ℕ × List ℕ)
+placed [] = []
+placed (h ∷ holds) = (normalize_key h.0, h.1) ∷ placed holds
+
+-- what the level holds at first, by path
+abbrev pub first_files : List (List ℕ × List ℕ) → Files
+first_files holds = put_all no_files (placed holds)
+
+-- keys and answers, in order
+abbrev pub told_lines : List RunLine → List (List ℕ × RunAnswer)
+told_lines lines = map (λ l. (l.key, l.answer)) lines
+
+abbrev pub told_runs : List RunRule → List (List ℕ × RunAnswer)
+told_runs runs = map (λ r. (r.key, r.answer)) runs
+
+-- the lines are told, and say what the rules say
+abbrev pub AreLines : Option (List RunLine) → List RunRule → Type 0
+AreLines None runs = ⊥
+AreLines (Some lines) runs = told_lines lines ≡ told_runs runs
+
+-- one remote level that may be written, as a single store
+abbrev pub first_levels : List (List ℕ × List ℕ) → Held
+first_levels holds = held_of (held_remote ReadWrite (Some (first_files holds)) 0 0 ∷ []) Single
+
+-- nothing was run, placed or refused
+abbrev pub first_world : Script → World
+first_world script = record {
+  moment = 0;
+  levels = (first_levels script.holds).levels;
+  runs = Some [];
+  placings = Some [];
+  shop_faults = 0;
+  dist_faults = 0;
+  maker_faults = 0;
+  container = Disabled;
+}

@@ -1,0 +1,124 @@
+//! Makes a daemon of what a script says.
+ghost use Rattle.std.specs.Prelude.{◌≡◌, ℕ, true, Some, [], ◌∷◌, IfOk};
+ghost use Rattle.std.specs.List.{list_any};
+ghost use Rattle.std.specs.Ordering.{nat_cmp, eq_by_cmp};
+ghost use Rattle.sc_compile.specs.Shop.{new_shop};
+ghost use Rattle.sc_entry.specs.Failing.{fails_at};
+ghost use Rattle.sc_memory.specs.Making.{AreLines, first_files, first_world, placed, told_lines, told_runs};
+ghost use Rattle.sc_model.specs.declared.level.Policy.TheVariants.{Single};
+ghost use Rattle.sc_model.specs.declared.message.CacheMode.TheVariants.{ReadWrite};
+ghost use Rattle.sc_script.specs.Goods.{IsGood, are_good_runs, are_store_keys};
+ghost use Rattle.sc_store.specs.Held.{held_of, held_remote, remote_facts};
+
+use crate::memory::Memory;
+use sc_compile::{RunLine, ScriptWorkshop, ToolTable};
+use sc_entry::{ByteText, Items, NoMemory, Text};
+use sc_model::{CacheMode, Policy, Step};
+use sc_owned::Owned;
+use sc_script::{RunRule, Script};
+use sc_store::{Level, Levels, MemRemote, RemoteStorage, normalize_key};
+use std::alloc::Global;
+
+/// A daemon that a script is for, and what it is given.
+#[derive(Drop)]
+pub struct Made {
+    pub owned: Owned<Memory>,
+    /// The bytes that come on each connection.
+    pub inputs: Items<ByteText>,
+    pub steps: Items<Step>,
+}
+
+/// What is held under keys, at the paths of the keys.
+fn placed(
+    alloc: Global,
+    holds: Items<(Text, ByteText)>,
+) -> Result<Items<(Text, ByteText)>, NoMemory>
+    requires { are_store_keys holds ≡ true }
+    ensures { IfOk result (λ files. files ≡ placed holds) }
+{
+    let mut files = Items::new(alloc);
+    for (key, bytes) in holds.into_vec() {
+        let path = normalize_key(alloc, &key)?;
+        files.push((path, bytes))?;
+    }
+    Ok(files)
+}
+
+/// The level's device: it refuses the calls of these numbers.
+fn device(
+    alloc: Global,
+    holds: Items<(Text, ByteText)>,
+    fails: Items<u64>,
+) -> Result<MemRemote, NoMemory>
+    requires { are_store_keys holds ≡ true }
+    ensures held { IfOk result (λ remote. remote.files ≡ first_files holds) }
+    ensures failing { IfOk result (λ remote. (number : ℕ) → fails_at remote.calls number ≡ list_any (eq_by_cmp nat_cmp number) fails) }
+    ensures made { IfOk result (λ remote. remote.calls.made ≡ 0) }
+    ensures faults { IfOk result (λ remote. remote.calls.faults ≡ 0) }
+{
+    let files = placed(alloc, holds)?;
+    let remote = MemRemote::new(alloc, files, fails)?;
+    Ok(remote)
+}
+
+/// One remote level that may be written, as a single store.
+fn levels_over(alloc: Global, remote: MemRemote) -> Result<Levels<MemRemote>, NoMemory>
+    requires { remote.calls.faults ≡ 0 }
+    ensures { IfOk result (λ levels. levels ≡ held_of (held_remote ReadWrite (Some remote.files) 0 0 ∷ []) Single) }
+{
+    let store = RemoteStorage::new(remote, CacheMode::ReadWrite);
+    let levels = vec![in alloc; Level::Remote(store)]?;
+    Ok(Levels::new(levels, Policy::Single))
+}
+
+/// The lines of a workshop that say what the rules say.
+fn lines_of(alloc: Global, runs: Items<RunRule>) -> Result<Vec<RunLine>, NoMemory>
+    requires { are_good_runs runs ≡ true }
+    ensures { IfOk result (λ lines. told_lines lines.items ≡ told_runs runs) }
+{
+    let mut lines = Vec::new(alloc);
+    for rule in runs.into_vec() {
+        lines.push(RunLine {
+            key: rule.key,
+            answer: rule.answer,
+        })?;
+    }
+    Ok(lines)
+}
+
+fn shop(alloc: Global, runs: Items<RunRule>) -> Result<ScriptWorkshop, NoMemory>
+    requires { are_good_runs runs ≡ true }
+    ensures new { IfOk result (λ shop. shop ≡ new_shop shop.lines) }
+    ensures lines { IfOk result (λ shop. told_lines shop.lines ≡ told_runs runs) }
+{
+    let lines = lines_of(alloc, runs)?;
+    let shop = ScriptWorkshop::new(alloc, lines)?;
+    Ok(shop)
+}
+
+/// Takes a good script apart: a daemon whose parts are made of what it says, the bytes that come on each connection,
+/// and the steps. Every script that is read is good.
+pub fn make(alloc: Global, script: Script) -> Result<Made, NoMemory>
+    requires good { IsGood script }
+    ensures levels { IfOk result (λ made. made.owned.config.levels ≡ remote_facts ReadWrite ∷ []) }
+    ensures policy { IfOk result (λ made. made.owned.config.policy ≡ Single) }
+    ensures tokens { IfOk result (λ made. made.owned.config.tokens ≡ script.tokens) }
+    ensures limit { IfOk result (λ made. made.owned.config.limit ≡ script.limit) }
+    ensures table { IfOk result (λ made. made.owned.config.table ≡ Some script.tools) }
+    ensures lines { IfOk result (λ made. AreLines made.owned.config.lines script.runs) }
+    ensures told { IfOk result (λ made. made.owned.told ≡ true) }
+    ensures world { IfOk result (λ made. made.owned.world ≡ first_world script) }
+    ensures inputs { IfOk result (λ made. made.inputs ≡ script.inputs) }
+    ensures steps { IfOk result (λ made. made.steps ≡ script.steps) }
+{
+    let remote = device(alloc, script.holds, script.fails)?;
+    let levels = levels_over(alloc, remote)?;
+    let shop = shop(alloc, script.runs)?;
+    let finder = ToolTable::new(script.tools.into_vec());
+    let owned = Owned::new(levels, shop, finder, script.tokens, script.limit as u32);
+    Ok(Made {
+        owned,
+        inputs: script.inputs,
+        steps: script.steps,
+    })
+}

@@ -1,0 +1,14 @@
+use sc_compile::{ScriptWorkshop, ToolTable};
+use sc_owned::Parts;
+use sc_store::MemRemote;
+
+/// Parts that hold all in memory, and tell it.
+pub struct Memory;
+
+impl Parts for Memory {
+    type Shop = ScriptWorkshop;
+
+    type Store = MemRemote;
+
+    type Finder = ToolTable;
+}

@@ -1,0 +1,135 @@
+-- What holds of all that a line says.
+use Rattle.std.proofs.Common.{◌≡◌, ℕ, ◌^◌, ◌-◌, true, ◌&&◌, nat_le, List, [], ◌∷◌, Option, Some, None, ap, subst, codes}
+use Rattle.sc_compile.specs.GoodNames.{are_run_objects, is_good_answer}
+use Rattle.sc_entry.specs.Keys.{is_store_key}
+use Rattle.sc_model.specs.declared.event.Objects.TheVariants.{Collected}
+use Rattle.sc_model.specs.declared.event.RunAnswer.TheVariants.{Output}
+use Rattle.sc_script.proofs.GoodObjects.{good_objects}
+use Rattle.sc_script.proofs.Tests.{by_only, by_then, some_same}
+use Rattle.sc_script.specs.Fields.{bytes_of_token, hex_of, kind_of, number_in, number_of, status_of, store_key_of, text_of_token}
+use Rattle.sc_script.specs.Lines.{◌>>=◌, ask_line, body, bytes_line, compile_request, connections_line, fail_line, field, gives, hold_line, keyword_of, level_line, limit_line, line_of_words, literal, no_names, objects_onto, read_line, run_line, serve_line, times_of, tokens_line, tool_line, version_line, whole}
+use Rattle.sc_script.specs.Reading.{Reader}
+use Rattle.sc_script.specs.declared.line.Line.{Line}
+use Rattle.sc_script.specs.declared.line.Line.TheVariants.{Version, Connections, Tokens, Limit, Level, Hold, Fail, Tool, Run, Bytes, Ask, Read, Serve}
+use Rattle.sc_script.specs.declared.lines.Keyword.{Keyword}
+use Rattle.sc_script.specs.declared.lines.Keyword.TheVariants as at
+
+abbrev pub IsWithin : ℕ → ℕ → ℕ → Type 0
+IsWithin low high n = (nat_le low n && nat_le n high) ≡ true
+
+abbrev IsKey : List ℕ → Type 0
+IsKey key = is_store_key key ≡ true
+
+abbrev pub GoodLine : Line → Type 0
+GoodLine (Tokens n) = IsWithin 1 65535 n
+GoodLine (Limit n) = IsWithin 1 16777216 n
+GoodLine (Hold h) = is_store_key h.key ≡ true
+GoodLine (Run r) = is_good_answer r.answer ≡ true
+GoodLine _ = Unit {0}
+
+-- what holds of all that a reader gives
+abbrev Ends : {A : Type 0} → (A → Type 0) → Reader A → Type 0
+Ends {A} P r = (ws : List (List ℕ)) (x : A) (rest : List (List ℕ)) → r ws ≡ Some (x, rest) → P x
+
+ends_then : {A B : Type 0} (P : B → Type 0) (Q : A → Type 0) (r : Reader A) (f : A → Reader B) → Ends Q r → ((x : A) → Q x → Ends P (f x)) → Ends P (r >>= f)
+ends_then P Q r f q g ws y rest e = by_then (r ws) (λ p. f p.0 p.1) (y, rest) (λ p is made. g p.0 (q ws p.0 p.1 is) p.1 y rest made) e
+
+ends_on : {A B : Type 0} (P : B → Type 0) (r : Reader A) (f : A → Reader B) → ((x : A) → Ends P (f x)) → Ends P (r >>= f)
+ends_on P r f g = ends_then P (λ x. Unit {0}) r f (λ ws x rest e. tt) (λ x any. g x)
+
+ends_gives : {A : Type 0} (P : A → Type 0) (x : A) → P x → Ends P (gives x)
+ends_gives {A} P x p ws y rest e = subst P (ap (λ (q : A × List (List ℕ)). q.0) (some_same (x, ws) (y, rest) e)) p
+
+ends_field : {A : Type 0} (P : A → Type 0) (f : List ℕ → Option A) → ((w : List ℕ) (x : A) → f w ≡ Some x → P x) → Ends P (field f)
+ends_field {A} P f g [] x rest e = absurd (cc)
+ends_field {A} P f g (w ∷ ws) x rest e = by_then (f w) (λ y. Some (y, ws)) (x, rest) (λ y is made. subst P (ap (λ (q : A × List (List ℕ)). q.0) (some_same (y, ws) (x, rest) made)) (g w y is)) e
+
+within : (low high : ℕ) (w : List ℕ) (n : ℕ) → number_in low high w ≡ Some n → IsWithin low high n
+unfolding number_in
+within low high w n e = by_then (number_of w) _ n (λ m is. by_only (nat_le low m && nat_le m high) m n (λ test same. rw (← same) test)) e
+
+store_key : (w key : List ℕ) → store_key_of w ≡ Some key → is_store_key key ≡ true
+unfolding store_key_of
+store_key w key e = by_then (text_of_token w) _ key (λ k is. by_only (is_store_key k) k key (λ test same. rw (← same) test)) e
+
+good_version : Ends GoodLine version_line
+unfolding version_line
+good_version = ends_on GoodLine (field (number_in 1 1)) _ (λ n. ends_gives GoodLine Version tt)
+
+good_connections : Ends GoodLine connections_line
+unfolding connections_line
+good_connections = ends_on GoodLine (field (number_in 0 1024)) _ (λ n. ends_gives GoodLine (Connections n) tt)
+
+good_tokens : Ends GoodLine tokens_line
+unfolding tokens_line
+good_tokens = ends_then GoodLine (IsWithin 1 65535) (field (number_in 1 65535)) _ (ends_field (IsWithin 1 65535) (number_in 1 65535) (within 1 65535)) (λ n good. ends_gives GoodLine (Tokens n) good)
+
+good_limit : Ends GoodLine limit_line
+unfolding limit_line
+good_limit = ends_then GoodLine (IsWithin 1 16777216) (field (number_in 1 16777216)) _ (ends_field (IsWithin 1 16777216) (number_in 1 16777216) (within 1 16777216)) (λ n good. ends_gives GoodLine (Limit n) good)
+
+good_level : Ends GoodLine level_line
+unfolding level_line
+good_level = ends_on GoodLine (field (literal (codes "remote"))) _ (λ k. ends_on GoodLine (field (literal (codes "rw"))) _ (λ m. ends_gives GoodLine Level tt))
+
+good_hold : Ends GoodLine hold_line
+unfolding hold_line
+good_hold = ends_on GoodLine (field number_of) _ (λ l. ends_then GoodLine IsKey (field store_key_of) _ (ends_field IsKey store_key_of store_key) (λ k good. ends_on GoodLine (field bytes_of_token) _ (λ b. ends_gives GoodLine (Hold (record { level = l; key = k; bytes = b })) good)))
+
+good_fail : Ends GoodLine fail_line
+unfolding fail_line
+good_fail = ends_on GoodLine (field number_of) _ (λ l. ends_on GoodLine (field number_of) _ (λ c. ends_gives GoodLine (Fail l c) tt))
+
+good_tool : Ends GoodLine tool_line
+unfolding tool_line
+good_tool = ends_on GoodLine (field bytes_of_token) _ (λ p. ends_on GoodLine (field number_of) _ (λ m. ends_on GoodLine (field kind_of) _ (λ k. ends_gives GoodLine (Tool (record { path = p; moment = m; kind = k })) tt)))
+
+good_run : Ends GoodLine run_line
+unfolding run_line
+good_run = ends_on GoodLine (field text_of_token) _ (λ k. ends_on GoodLine (field status_of) _ (λ s. ends_on GoodLine (field bytes_of_token) _ (λ out. ends_on GoodLine (field bytes_of_token) _ (λ err. ends_then GoodLine (λ os. are_run_objects os ≡ true) (objects_onto [] no_names) _ good_objects (λ os good. ends_gives GoodLine (Run (record {
+  key = k;
+  answer = Output (record { output = record { status = s; stdout = out; stderr = err }; objects = Collected os });
+})) good)))))
+
+good_bytes : Ends GoodLine bytes_line
+unfolding bytes_line
+good_bytes = ends_on GoodLine (field number_of) _ (λ c. ends_on GoodLine (field hex_of) _ (λ b. ends_gives GoodLine (Bytes c b) tt))
+
+good_ask : Ends GoodLine ask_line
+unfolding ask_line
+good_ask = ends_on GoodLine (field number_of) _ (λ c. ends_on GoodLine (field (literal (codes "compile"))) _ (λ k. ends_on GoodLine (compile_request) _ (λ r. ends_gives GoodLine (Ask c r) tt)))
+
+good_read : Ends GoodLine read_line
+unfolding read_line
+good_read = ends_on GoodLine (field number_of) _ (λ c. ends_on GoodLine (field (number_in 1 (2 ^ 64 - 1))) _ (λ n. ends_gives GoodLine (Read c n) tt))
+
+good_serve : Ends GoodLine serve_line
+unfolding serve_line
+good_serve = ends_on GoodLine (field number_of) _ (λ c. ends_on GoodLine (times_of) _ (λ n. ends_gives GoodLine (Serve c n) tt))
+
+good_body : (k : Keyword) → Ends GoodLine (body k)
+unfolding body
+good_body at.Version = good_version
+good_body at.Connections = good_connections
+good_body at.Tokens = good_tokens
+good_body at.Limit = good_limit
+good_body at.Level = good_level
+good_body at.Hold = good_hold
+good_body at.Fail = good_fail
+good_body at.Tool = good_tool
+good_body at.Run = good_run
+good_body at.Bytes = good_bytes
+good_body at.Ask = good_ask
+good_body at.Read = good_read
+good_body at.Serve = good_serve
+
+by_whole : {P : Type 0} (o : Option (Line × List (List ℕ))) (l : Line) → (o ≡ Some (l, []) → P) → whole o ≡ Some l → P
+by_whole None l f e = absurd (cc)
+by_whole (Some (line, [])) l f e = f (ap (λ (x : Line). Some (x, [])) (some_same line l e))
+by_whole (Some (line, w ∷ ws)) l f e = absurd (cc)
+
+-- every line that is good
+pub good_line : (ws : List (List ℕ)) (l : Line) → line_of_words ws ≡ Some l → GoodLine l
+unfolding line_of_words
+good_line [] l e = absurd (cc)
+good_line (w ∷ ws) l e = by_then (keyword_of w) _ l (λ k is. by_whole (body k ws) l (good_body k ws l [])) e

@@ -1,0 +1,25 @@
+-- What holds of all that good scripts say.
+use Rattle.std.specs.Prelude.{◌≡◌, ℕ, ◌≤◌, Bool, true, ◌&&◌, List, [], ◌∷◌}
+use Rattle.sc_compile.specs.GoodNames.{is_good_answer}
+use Rattle.sc_entry.specs.Keys.{is_store_key}
+use Rattle.sc_script.specs.declared.run_rule.RunRule.{RunRule}
+use Rattle.sc_script.specs.declared.script.Script.{Script}
+
+-- every key that is held is a store key
+abbrev pub are_store_keys : List (List ℕ × List ℕ) → Bool
+are_store_keys [] = true
+are_store_keys (h ∷ holds) = is_store_key h.0 && are_store_keys holds
+
+-- a workshop may give every answer
+abbrev pub are_good_runs : List RunRule → Bool
+are_good_runs [] = true
+are_good_runs (r ∷ runs) = is_good_answer r.answer && are_good_runs runs
+
+-- A daemon can be made of it.
+pub record IsGood (s : Script) : Type 0 where
+  pub some_tokens : 1 ≤ s.tokens
+  pub few_tokens : s.tokens ≤ 65535
+  pub some_limit : 1 ≤ s.limit
+  pub small_limit : s.limit ≤ 16777216
+  pub keys : are_store_keys s.holds ≡ true
+  pub answers : are_good_runs s.runs ≡ true
