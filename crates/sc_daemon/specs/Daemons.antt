@@ -33,13 +33,6 @@ kept_code = code_by (State × (ServerStats × ℕ)) (coded× state_code (coded×
     (λ p. record { state = p.0; stats = p.1.0; free = p.1.1 })
     (λ _. refl)
 
--- the limits of a daemon: 1 to 65,535 tokens, and payloads of 1 to 16,777,216 bytes
-pub record IsWithin (k : Config) : Type 0 where
-  pub some_token : 1 ≤ k.tokens
-  pub tokens : k.tokens ≤ 65535
-  pub some_byte : 1 ≤ k.limit
-  pub limit : k.limit ≤ 16777216
-
 -- time passed
 abbrev pub passed : Kept → ℕ → Kept
 passed d n = record d { state = record d.state { world = at_moment d.state.world (sat d.state.world.moment n) } }

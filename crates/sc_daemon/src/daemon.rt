@@ -1,6 +1,6 @@
 //! A daemon: its state, what it counted, and its tokens.
 ghost use Rattle.std.specs.Prelude.{◌≡◌, ◌↔◌, ◌+◌, ◌<◌, ◌≤◌, ◌^◌, IsTrue, IfOk, IsOk, length};
-ghost use Rattle.sc_daemon.specs.Daemons.{IsWithin, ReadsEvent, ServesEvent, passed};
+ghost use Rattle.sc_daemon.specs.Daemons.{ReadsEvent, ServesEvent, passed};
 ghost use Rattle.sc_daemon.specs.Standings.{Rests};
 ghost use Rattle.sc_job.specs.Setups.{Config, setup};
 ghost use Rattle.sc_model.specs.Machine as machine;
@@ -30,16 +30,13 @@ pub struct Daemon<P: Parts> {
 }
 
 impl<P: Parts> Model for Daemon<P> {
-    ghost use Rattle.std.specs.Prelude.{◌≤◌};
-    ghost use Rattle.sc_daemon.specs.Daemons.{IsWithin, Kept, kept_code};
+    ghost use Rattle.sc_daemon.specs.Daemons.{Kept, kept_code};
 
     ghost Value = { Kept };
 
     ghost coded = { kept_code };
 
     ghost view = { λ d. record { state = d.owned; stats = d.stats; free = d.free } };
-
-    ghost invariant = { λ d. IsWithin d.owned.config };
 }
 
 /// The free tokens after an event.
@@ -74,10 +71,8 @@ fn if_counted(counted: Result<(), NoMemory>, event: Event) -> Result<Event, NoMe
 }
 
 impl<P: Parts> Daemon<P> {
-    /// A daemon over one remote store, with no event yet. At most `tokens` compilers run at once; payloads of its replies
-    /// have at most `limit` bytes.
+    /// A daemon that has counted nothing yet, and whose tokens are all free.
     pub fn new(alloc: Global, owned: Owned<P>) -> Daemon<P>
-        requires { IsWithin owned.config }
         ensures state { result.state ≡ owned }
         ensures stats { result.stats ≡ no_stats }
         ensures free { result.free ≡ owned.config.tokens }

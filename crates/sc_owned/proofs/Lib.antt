@@ -1,3 +1,4 @@
 pub mod Finding
+pub mod Keying
 pub mod Passing
 pub mod Steps

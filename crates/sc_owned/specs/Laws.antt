@@ -1,5 +1,5 @@
 -- What holds of every state.
-use Rattle.std.specs.Prelude.{◌≡◌, ℕ, zero, suc, ◌<◌, true, false, T, List, [], ◌∷◌, length, refl}
+use Rattle.std.specs.Prelude.{◌≡◌, ℕ, zero, suc, ◌<◌, Bool, ◌&&◌, true, false, T, List, [], ◌∷◌, length, refl}
 use Rattle.std.proofs.Common.{sym, subst, lit<}
 use Rattle.sc_hold.specs.Quiet.{IsQuiet}
 use Rattle.sc_model.specs.Follows.{kind_at}
@@ -14,7 +14,7 @@ use Rattle.sc_model.specs.declared.level.LevelKind.TheVariants.{Disk, Remote}
 use Rattle.sc_model.specs.declared.level.Policy.{Policy}
 use Rattle.sc_model.specs.declared.level.Policy.TheVariants.{Levels, Single}
 use Rattle.sc_owned.specs.Moving.{OwnedMoves}
-use Rattle.sc_owned.specs.State.{State, is_lone_remote, is_one_remote, is_remote}
+use Rattle.sc_owned.specs.State.{State, is_lone_remote, is_one_remote, is_remote, is_within}
 
 pub never : false ≡ true → ⊥
 never e = subst T (sym e) tt
@@ -42,17 +42,32 @@ lone_count [] e = absurd (never e)
 lone_count (f ∷ []) e = lit< tt
 lone_count (f ∷ g ∷ fs) e = absurd (never e)
 
+left_true : (a b : Bool) → (a && b) ≡ true → a ≡ true
+left_true true b e = refl
+left_true false b e = absurd (never e)
+
+right_true : (a b : Bool) → (a && b) ≡ true → b ≡ true
+right_true true b e = e
+right_true false b e = absurd (never e)
+
+one_of : (o : State) → is_one_remote o.config.policy o.config.levels ≡ true
+one_of o = left_true (is_one_remote o.config.policy o.config.levels) (is_within o.config.tokens o.config.limit) o.one
+
+-- its tokens and its limit are within the limits
+pub within_limits : (o : State) → is_within o.config.tokens o.config.limit ≡ true
+within_limits o = right_true (is_one_remote o.config.policy o.config.levels) (is_within o.config.tokens o.config.limit) o.one
+
 -- every level is a remote store
 pub remote_levels : (o : State) (l : ℕ) → kind_at o.config.levels l ≡ Remote
-remote_levels o l = lone_kind o.config.levels l (lone_of o.config.policy o.config.levels o.one)
+remote_levels o l = lone_kind o.config.levels l (lone_of o.config.policy o.config.levels (one_of o))
 
 -- there is one store alone
 pub single_store : (o : State) → o.config.policy ≡ Single
-single_store o = single_of o.config.policy o.config.levels o.one
+single_store o = single_of o.config.policy o.config.levels (one_of o)
 
 -- which is there
 pub one_level : (o : State) → 0 < length o.config.levels
-one_level o = lone_count o.config.levels (lone_of o.config.policy o.config.levels o.one)
+one_level o = lone_count o.config.levels (lone_of o.config.policy o.config.levels (one_of o))
 
 -- events that move nothing leave the state as it is
 pub quiet_moves : (o : State) (n : Need) (x : What) → IsQuiet x → OwnedMoves o n x o

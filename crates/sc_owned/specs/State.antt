@@ -1,5 +1,5 @@
 -- The state of a daemon that one owner holds.
-use Rattle.std.specs.Prelude.{◌≡◌, ℕ, Bool, true, false, List, [], ◌∷◌, Option}
+use Rattle.std.specs.Prelude.{◌≡◌, ℕ, Bool, true, false, ◌&&◌, nat_lt, List, [], ◌∷◌, Option}
 use Rattle.sc_compile.specs.Answers.{Runs}
 use Rattle.sc_compile.specs.declared.run_line.RunLine.{RunLine}
 use Rattle.sc_compile.specs.declared.tool.Tool.{Tool}
@@ -27,13 +27,17 @@ abbrev pub is_one_remote : Policy → List LevelFacts → Bool
 is_one_remote Single fs = is_lone_remote fs
 is_one_remote (Levels ps) fs = false
 
+-- the limits of a daemon: 1 to 65,535 tokens, and payloads of 1 to 16,777,216 bytes
+abbrev pub is_within : ℕ → ℕ → Bool
+is_within tokens limit = (nat_lt 0 tokens && nat_lt tokens 65536) && (nat_lt 0 limit && nat_lt limit 16777217)
+
 -- What a daemon is made of, whether its levels tell what they hold, and what its parts hold where they tell it. So far it
 -- has one remote store alone.
 pub record State : Type 0 where
   pub config : Config
   pub told : Bool
   pub world : World
-  pub one : is_one_remote config.policy config.levels ≡ true
+  pub one : (is_one_remote config.policy config.levels && is_within config.tokens config.limit) ≡ true
 
 -- what a daemon over these levels is made of
 abbrev pub config_of : Held → (tokens limit : ℕ) → Option (List Tool) → Option (List RunLine) → Config

@@ -1,9 +1,9 @@
-ghost use Rattle.std.specs.Prelude.{◌≡◌, true, length};
+ghost use Rattle.std.specs.Prelude.{◌≡◌, ◌≤◌, ◌&&◌, true, length};
 ghost use Rattle.sc_model.specs.Follows.{kind_at};
 ghost use Rattle.sc_model.specs.Next.{at_moment};
 ghost use Rattle.sc_model.specs.declared.level.LevelKind.TheVariants.{Remote};
 ghost use Rattle.sc_model.specs.declared.level.Policy.TheVariants.{Single};
-ghost use Rattle.sc_owned.specs.State.{is_one_remote, world_of};
+ghost use Rattle.sc_owned.specs.State.{is_one_remote, is_within, world_of};
 ghost use Rattle.sc_stats.specs.Sums.{sat};
 
 use crate::parts::Parts;
@@ -20,7 +20,7 @@ pub struct Owned<P: Parts> {
     pub(crate) moment: u64,
     tokens: u64,
     pub(crate) limit: u32,
-    ghost one: { is_one_remote levels.policy levels.facts ≡ true },
+    ghost one: { (is_one_remote levels.policy levels.facts && is_within tokens limit) ≡ true },
 }
 
 impl<P: Parts> Model for Owned<P> {
@@ -40,8 +40,8 @@ impl<P: Parts> Model for Owned<P> {
 }
 
 impl<P: Parts> Owned<P> {
-    /// A daemon over one remote store, at moment 0, with so many tokens for runs; payloads of its replies have at most
-    /// `limit` bytes.
+    /// A daemon over one remote store, at moment 0, with so many tokens for runs (1 to 65,535); payloads have at most
+    /// `limit` bytes (1 to 16,777,216).
     pub fn new(
         levels: Levels<P::Store>,
         shop: P::Shop,
@@ -52,6 +52,8 @@ impl<P: Parts> Owned<P> {
         requires single { levels.policy ≡ Single }
         requires alone { length levels.facts ≡ 1 }
         requires remote { kind_at levels.facts 0 ≡ Remote }
+        requires tokens { (1 ≤ tokens) × (tokens ≤ 65535) }
+        requires limit { (1 ≤ limit) × (limit ≤ 16777216) }
         ensures levels { result.config.levels ≡ levels.facts }
         ensures policy { result.config.policy ≡ levels.policy }
         ensures tokens { result.config.tokens ≡ tokens }
