@@ -82,3 +82,7 @@ serves_event c j moment since x d d2 state2 old new number now at one moves same
             ∙ ap (λ (n : ℕ). count (zeroes x) d.stats (row (setup k) (current (conn_of old)) old.outcome n x)) now;
       });
     }
+
+pub if_map : {A E : Type 0} {P Q : A → Type 0} (r : Result A E) → IfOk r P → ((a : A) → P a → Q a) → IfOk r Q
+if_map (Ok a) p f = f a p
+if_map (Err e) p f = tt

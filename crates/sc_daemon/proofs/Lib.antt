@@ -1,5 +1,7 @@
+pub mod Beginning
 pub mod Counted
 pub mod Firsts
 pub mod Machines
 pub mod Plain
 pub mod Serving
+pub mod Stepping

@@ -106,7 +106,7 @@ idle_by s free l (inl (inl none)) = inl (inl (length-map l.waiting _ ∙ none))
 idle_by s free l (inl (inr (some, ended))) = inl (inr (some_queue l some, ended_due s (current (conn_of l)) l.phase ended))
 idle_by s free l (inr (some, takes, none)) = inr (some_queue l some, takes_due s (current (conn_of l)) l.phase takes, none)
 
-serve_does : (c z : ℕ) (o : Owner) (x : What) (d d2 : Kept) (lines : List Line) (l new : Line) → c < length lines → d.state.told ≡ true → z ≡ d.state.world.moment
+pub serve_does : (c z : ℕ) (o : Owner) (x : What) (d d2 : Kept) (lines : List Line) (l new : Line) → c < length lines → d.state.told ≡ true → z ≡ d.state.world.moment
     → ServesWhat c o x d d2 (get_or lines c l) new
     → DoesServe (setup d.state.config) (machine_of d lines) c z o x (machine_of d2 (set lines c new))
 serve_does c z (OfRequest e j) x d d2 lines l new lt told now (same, at) =
@@ -153,7 +153,7 @@ conns_are d lines c new k is_k =
     let conns = map-set conn_of lines c new ∙ ap (λ (x : Conn). set (map conn_of lines) c x) is_k in
     λ i. record (machine_of d lines) { conns = conns i }
 
-read_does : (s : Script) (c n : ℕ) (o : Owner) (x : What) (d : Kept) (lines : List Line) (l new : Line) → c < length lines → s.reader ≡ served_reader (get_or lines c l).limit
+pub read_does : (s : Script) (c n : ℕ) (o : Owner) (x : What) (d : Kept) (lines : List Line) (l new : Line) → c < length lines → s.reader ≡ served_reader (get_or lines c l).limit
     → o ≡ Nobody → ReadsWhat c (input s c) n x (get_or lines c l) new
     → DoesRead s (machine_of d lines) c n o x (machine_of d (set lines c new))
 read_does s c n o x d lines l new lt reads nobody what =

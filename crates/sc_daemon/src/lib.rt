@@ -3,9 +3,13 @@
 
 mod conn;
 mod daemon;
+mod driven;
+mod driver;
 mod reading;
 mod standing;
 mod waiting;
 
 pub use conn::Conn;
 pub use daemon::Daemon;
+pub use driven::{Driven, DrivenConn};
+pub use driver::Driver;

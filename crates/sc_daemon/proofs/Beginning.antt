@@ -1,0 +1,12 @@
+-- Connections that nothing came over.
+use Rattle.std.proofs.Common.{◌≡◌, ℕ, zero, suc, ◌+◌, List, [], ◌∷◌, ◌++◌, refl, sym, ap, ◌∙◌, add-one}
+use Rattle.sc_daemon.specs.Drives.{lines_of}
+use Rattle.sc_daemon.specs.Lines.{Line, new_line}
+
+lines_suc : (limit n : ℕ) → lines_of limit n ++ new_line limit ∷ [] ≡ lines_of limit (suc n)
+lines_suc limit zero = refl
+lines_suc limit (suc n) = ap (λ (ls : List Line). new_line limit ∷ ls) (lines_suc limit n)
+
+-- one connection more
+pub lines_more : (limit n : ℕ) → lines_of limit n ++ new_line limit ∷ [] ≡ lines_of limit (n + 1)
+lines_more limit n = lines_suc limit n ∙ ap (lines_of limit) (sym (add-one n))

@@ -1,0 +1,183 @@
+-- One step of a drive is one of the machine.
+use Rattle.std.proofs.Common.{◌≡◌, ℕ, zero, suc, ◌+◌, ◌<◌, ◌≤◌, ◌⊎◌, inl, inr, false, true, List, [], ◌∷◌, length, map, set, get_or, refl, sym, ap, ◌∙◌, subst, arith, IsTrue}
+use Rattle.std.proofs.lemmas.List.{get_or_past, length-map, length-set}
+use Rattle.sc_daemon.specs.Daemons.{Kept, ReadsEvent, ReadsWhat, ServesAt, ServesEvent, ServesWhat, machine_of, passed}
+use Rattle.sc_daemon.specs.Drives.{AreAt, IsAt, IsScriptOf, Steps}
+use Rattle.sc_daemon.specs.Lines.{Line, conn_of, new_line}
+use Rattle.sc_daemon.specs.Standings.{Rests}
+use Rattle.sc_daemon.specs.Turns.{Reads, TakesMore}
+use Rattle.sc_daemon.proofs.Machines.{read_does, serve_does}
+use Rattle.sc_daemon.proofs.Plain.{ticked_plain}
+use Rattle.sc_job.specs.Setups.{Config, setup}
+use Rattle.sc_model.specs.Follows.{kind_at}
+use Rattle.sc_model.specs.Machine.{Conn, Does, DoesRead, DoesServe, Machine, conn, new_conn}
+use Rattle.sc_model.specs.Next.{at_moment, ticked}
+use Rattle.sc_model.specs.Plan.{is_disk}
+use Rattle.sc_model.specs.Script.{Reader, Script, Setup, input}
+use Rattle.sc_model.specs.World.{IsWithinBytes}
+use Rattle.sc_model.specs.declared.event.Event.{Event}
+use Rattle.sc_model.specs.declared.event.Owner.{Owner}
+use Rattle.sc_model.specs.declared.event.Owner.TheVariants.{Nobody, Request as OfRequest, Write as OfWrite}
+use Rattle.sc_model.specs.declared.event.Step.TheVariants.{Back, Pass, Read, Serve}
+use Rattle.sc_model.specs.declared.event.What.{What}
+use Rattle.sc_model.specs.declared.event.What.TheVariants.{Closed, Idle, Passed, Taken}
+use Rattle.sc_model.specs.declared.level.LevelKind.{LevelKind}
+use Rattle.sc_model.specs.declared.level.LevelKind.TheVariants.{Remote}
+use Rattle.sc_owned.specs.Laws.{never, remote_levels}
+use Rattle.sc_wire.specs.Streams.{served_reader}
+
+-- which default is of no matter
+pub same_at : {A : Type 0} (xs : List A) (c : ℕ) (a b : A) → c < length xs → get_or xs c a ≡ get_or xs c b
+same_at [] c a b lt = absurd (omega arith)
+same_at (x ∷ xs) zero a b lt = refl
+same_at (x ∷ xs) (suc c) a b lt = same_at xs c a b (omega arith)
+
+at_set : (k : Config) (lines : List Line) (c : ℕ) (new : Line) → IsAt k new → AreAt k lines → AreAt k (set lines c new)
+at_set k [] c new is_at at c2 = at c2
+at_set k (x ∷ xs) zero new is_at at zero = is_at
+at_set k (x ∷ xs) zero new is_at at (suc c2) = at (suc c2)
+at_set k (x ∷ xs) (suc c) new is_at at zero = at zero
+at_set k (x ∷ xs) (suc c) new is_at at (suc c2) = at_set k xs c new is_at (λ i. at (suc i)) c2
+
+pub at_here : (k : Config) (lines : List Line) (c : ℕ) (l : Line) → c < length lines → AreAt k lines → IsAt k (get_or lines c l)
+at_here k lines c l lt at = subst (IsAt k) (same_at lines c (new_line k.limit) l lt) (at c)
+
+remote_disk : (kind : LevelKind) → kind ≡ Remote → IsTrue (is_disk kind) → ⊥
+remote_disk kind is_remote disk = never (subst (λ (k : LevelKind). IsTrue (is_disk k)) is_remote disk)
+
+within : (s : Script) (d : Kept) (lines : List Line) (e : Kept) → s.setup ≡ setup e.state.config → IsWithinBytes s.setup [] d.state.world
+within s d lines e is_setup l lt disk =
+    absurd (remote_disk (kind_at s.setup.levels l) (ap (λ (su : Setup). kind_at su.levels l) is_setup ∙ remote_levels e.state l) disk)
+
+limit_stays : (c : ℕ) (o : Owner) (x : What) (d d2 : Kept) (old new : Line) → ServesWhat c o x d d2 old new → new.limit ≡ old.limit
+limit_stays c (OfRequest e j) x d d2 old new serves = serves.1.one.limit
+limit_stays c Nobody Idle d d2 old new serves = ap (λ (l : Line). l.limit) (serves.2)
+limit_stays c Nobody _ d d2 old new serves = absurd serves
+limit_stays c (OfWrite n) x d d2 old new serves = absurd serves
+
+config_stays : (c : ℕ) (o : Owner) (x : What) (d d2 : Kept) (old new : Line) → ServesWhat c o x d d2 old new → d2.state.config ≡ d.state.config
+config_stays c (OfRequest e j) x d d2 old new serves = serves.1.config
+config_stays c Nobody Idle d d2 old new serves = ap (λ (k : Kept). k.state.config) (serves.1)
+config_stays c Nobody _ d d2 old new serves = absurd serves
+config_stays c (OfWrite n) x d d2 old new serves = absurd serves
+
+told_stays : (c : ℕ) (o : Owner) (x : What) (d d2 : Kept) (old new : Line) → ServesWhat c o x d d2 old new → d2.state.told ≡ d.state.told
+told_stays c (OfRequest e j) x d d2 old new serves = serves.1.moves.0
+told_stays c Nobody Idle d d2 old new serves = ap (λ (k : Kept). k.state.told) (serves.1)
+told_stays c Nobody _ d d2 old new serves = absurd serves
+told_stays c (OfWrite n) x d d2 old new serves = absurd serves
+
+ticked_serves : (c : ℕ) (o : Owner) (x : What) (n : ℕ) (d d2 : Kept) (old new : Line) → ServesWhat c o x d d2 old new → ticked n x ≡ n
+ticked_serves c (OfRequest e j) x n d d2 old new serves = ticked_plain n x serves.1.one.plain
+ticked_serves c Nobody Idle n d d2 old new serves = refl
+ticked_serves c Nobody _ n d d2 old new serves = absurd serves
+ticked_serves c (OfWrite k) x n d d2 old new serves = absurd serves
+
+pub steps_serve : (s : Script) (d d2 : Kept) (lines : List Line) (c : ℕ) (l new : Line) (e : Event) → s.setup ≡ setup d.state.config → AreAt d.state.config lines → d.state.told ≡ true → c < length lines
+    → ServesEvent c e d d2 (get_or lines c l) new → Rests d.state.config new.phase → d2.free ≤ d.free + 1 → Steps s (Serve c) e d d2 lines (set lines c new)
+steps_serve s d d2 lines c l new e is_setup at told lt serves rests free =
+    let old = get_or lines c l in
+    let k = d.state.config in
+    record {
+      does = (serves.moment ∙ sym (ticked_serves c e.owner e.what d.state.world.moment d d2 old new serves.serves),
+          subst (λ (su : Setup). DoesServe su (machine_of d lines) c e.moment e.owner e.what (machine_of d2 (set lines c new))) (sym is_setup) (serve_does c e.moment e.owner e.what d d2 lines l new lt told serves.moment serves.serves),
+          within s d2 lines d is_setup);
+      config = config_stays c e.owner e.what d d2 old new serves.serves;
+      told = told_stays c e.owner e.what d d2 old new serves.serves;
+      count = length-set lines c new;
+      at = at_set k lines c new (limit_stays c e.owner e.what d d2 old new serves.serves ∙ (at_here k lines c l lt at).0, rests) at;
+      free = free;
+    }
+
+limit_reads : (c n : ℕ) (input : List ℕ) (x : What) (old new : Line) → ReadsWhat c input n x old new → (new.limit ≡ old.limit) × (new.phase ≡ old.phase)
+limit_reads c n input Idle old new reads = (ap (λ (l : Line). l.limit) (reads.1), ap (λ (l : Line). l.phase) (reads.1))
+limit_reads c n input (Taken d bytes) old new reads = (ap (λ (l : Line). l.limit) (reads.1.3.same), ap (λ (l : Line). l.phase) (reads.1.3.same))
+limit_reads c n input (Closed d) old new reads = (ap (λ (l : Line). l.limit) (reads.1.3), ap (λ (l : Line). l.phase) (reads.1.3))
+limit_reads c n input _ old new reads = absurd reads
+
+ticked_reads : (c n m : ℕ) (input : List ℕ) (x : What) (old new : Line) → ReadsWhat c input n x old new → ticked m x ≡ m
+ticked_reads c n m input Idle old new reads = refl
+ticked_reads c n m input (Taken d bytes) old new reads = refl
+ticked_reads c n m input (Closed d) old new reads = refl
+ticked_reads c n m input _ old new reads = absurd reads
+
+pub steps_read : (s : Script) (inputs : List (List ℕ)) (d : Kept) (lines : List Line) (c n : ℕ) (l new : Line) (b : List ℕ) (e : Event) → IsScriptOf s d.state.config inputs → AreAt d.state.config lines
+    → c < length lines → length lines ≡ length inputs → ReadsEvent d c (get_or inputs c b) n e (get_or lines c l) new → Steps s (Read c n) e d d lines (set lines c new)
+steps_read s inputs d lines c n l new b e of at lt count reads =
+    let old = get_or lines c l in
+    let k = d.state.config in
+    let here = at_here k lines c l lt at in
+    let there : c < length inputs = subst (λ (i : ℕ). c < i) count lt in
+    let bytes : get_or inputs c b ≡ input s c = same_at inputs c b [] there ∙ ap (λ (i : List (List ℕ)). get_or i c []) (sym of.of_inputs) in
+    let what = subst (λ (i : List ℕ). ReadsWhat c i n e.what old new) bytes reads.reads in
+    let same = limit_reads c n (input s c) e.what old new what in
+    record {
+      does = (reads.moment ∙ sym (ticked_reads c n d.state.world.moment (input s c) e.what old new what),
+          read_does s c n e.owner e.what d lines l new lt (of.of_reader ∙ ap (λ (i : ℕ). served_reader i) (sym here.0)) reads.owner what,
+          within s d lines d of.of_setup);
+      config = refl;
+      told = refl;
+      count = length-set lines c new;
+      at = at_set k lines c new (same.0 ∙ here.0, subst (Rests k) (sym same.1) here.1) at;
+      free = omega arith;
+    }
+
+conn_past : (d : Kept) (lines : List Line) (c : ℕ) → length lines ≤ c → conn (machine_of d lines) c ≡ new_conn
+conn_past d lines c le = get_or_past (map conn_of lines) c new_conn (subst (λ (n : ℕ). n ≤ c) (sym (length-map lines conn_of)) le)
+
+pub steps_past : (s : Script) (d : Kept) (lines : List Line) (c : ℕ) (e : Event) → s.setup ≡ setup d.state.config → AreAt d.state.config lines → length lines ≤ c
+    → e ≡ record { moment = d.state.world.moment; owner = Nobody; what = Idle } → Steps s (Serve c) e d d lines lines
+steps_past s d lines c e is_setup at le is_idle =
+    subst (λ (x : Event). Steps s (Serve c) x d d lines lines) (sym is_idle)
+    record {
+      does = (refl, (inl (inl (ap (λ (k : Conn). length k.queue) (conn_past d lines c le))), refl), within s d lines d is_setup);
+      config = refl;
+      told = refl;
+      count = refl;
+      at = at;
+      free = omega arith;
+    }
+
+pub steps_unread : (s : Script) (inputs : List (List ℕ)) (d : Kept) (lines : List Line) (c n : ℕ) (e : Event) → IsScriptOf s d.state.config inputs → AreAt d.state.config lines → length lines ≡ length inputs → length lines ≤ c
+    → e ≡ record { moment = d.state.world.moment; owner = Nobody; what = Idle } → Steps s (Read c n) e d d lines lines
+steps_unread s inputs d lines c n e of at count le is_idle =
+    subst (λ (x : Event). Steps s (Read c n) x d d lines lines) (sym is_idle)
+    record {
+      does = (refl, (inl (inr (subst (λ (i : List (List ℕ)). length i ≤ c) (sym of.of_inputs) (subst (λ (i : ℕ). i ≤ c) count le))), refl), within s d lines d of.of_setup);
+      config = refl;
+      told = refl;
+      count = refl;
+      at = at;
+      free = omega arith;
+    }
+
+pub steps_back : (s : Script) (d : Kept) (lines : List Line) (i : ℕ) (e : Event) → s.setup ≡ setup d.state.config → AreAt d.state.config lines
+    → e ≡ record { moment = d.state.world.moment; owner = Nobody; what = Idle } → Steps s (Back i) e d d lines lines
+steps_back s d lines i e is_setup at is_idle =
+    subst (λ (x : Event). Steps s (Back i) x d d lines lines) (sym is_idle)
+    record {
+      does = (refl, (omega arith, refl), within s d lines d is_setup);
+      config = refl;
+      told = refl;
+      count = refl;
+      at = at;
+      free = omega arith;
+    }
+
+pub steps_pass : (s : Script) (d d2 : Kept) (lines : List Line) (n : ℕ) (e : Event) → s.setup ≡ setup d.state.config → AreAt d.state.config lines → d2 ≡ passed d n
+    → e ≡ record { moment = d2.state.world.moment; owner = Nobody; what = Passed n } → Steps s (Pass n) e d d2 lines lines
+steps_pass s d d2 lines n e is_setup at is_passed is_pass =
+    subst (λ (x : Event). Steps s (Pass n) x d d2 lines lines) (sym is_pass)
+    (subst (λ (k : Kept). Steps s (Pass n) (record { moment = k.state.world.moment; owner = Nobody; what = Passed n }) d k lines lines) (sym is_passed)
+    record {
+      does = (refl, (refl, refl), within s (passed d n) lines d is_setup);
+      config = refl;
+      told = refl;
+      count = refl;
+      at = at;
+      free = omega arith;
+    })
+
+pub reads_at : (d : Kept) (c n : ℕ) (e : Event) (b b2 : List ℕ) (l l2 new : Line) → b ≡ b2 → l ≡ l2 → ReadsEvent d c b n e l new → ReadsEvent d c b2 n e l2 new
+reads_at d c n e b b2 l l2 new same_b same_l reads =
+    subst (λ (x : Line). ReadsEvent d c b2 n e x new) same_l (subst (λ (x : List ℕ). ReadsEvent d c x n e l new) same_b reads)

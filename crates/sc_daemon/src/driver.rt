@@ -1,0 +1,133 @@
+//! A drive, one step at a time.
+ghost use Rattle.std.specs.Prelude.{◌≡◌, ◌+◌, ◌<◌, ◌^◌, [], true, IfOk, length};
+ghost use Rattle.sc_daemon.specs.Drives.{AreAt, IsScriptOf, Steps, StepsOn, lines_of};
+ghost use Rattle.sc_job.specs.Setups.{setup};
+ghost use Rattle.sc_model.specs.Script.{Script as GivenScript};
+
+use crate::conn::Conn;
+use crate::daemon::Daemon;
+use sc_entry::{ByteText, NoMemory};
+use sc_model::{Event, Step};
+use sc_owned::Parts;
+use std::alloc::Global;
+
+/// A drive so far: its connections, and its events in their order.
+#[derive(Drop)]
+pub struct Driver {
+    pub(crate) conns: Vec<Conn>,
+    pub(crate) events: Vec<Event>,
+}
+
+/// So many connections that nothing came over.
+#[tactic(auto, using(crate::proofs::Beginning::lines_more))]
+fn new_conns(alloc: Global, count: usize, limit: u32) -> Result<Vec<Conn>, NoMemory>
+    ensures { IfOk result (λ conns. conns.items ≡ lines_of limit count) }
+{
+    let mut conns = Vec::new(alloc);
+    for _ in 0..count {
+        conns.push(Conn::new(alloc, limit))?;
+    }
+    Ok(conns)
+}
+
+impl Driver {
+    /// A drive over so many connections, before its first step.
+    pub fn new(alloc: Global, count: usize, limit: u32) -> Result<Driver, NoMemory>
+        ensures conns { IfOk result (λ driver. driver.conns.items ≡ lines_of limit count) }
+        ensures events { IfOk result (λ driver. driver.events.items ≡ []) }
+    {
+        Ok(Driver {
+            conns: new_conns(alloc, count, limit)?,
+            events: Vec::new(alloc),
+        })
+    }
+
+    /// Reads at most so many bytes of a connection's input.
+    fn read<P: Parts>(
+        &mut self,
+        alloc: Global,
+        daemon: &Daemon<P>,
+        inputs: &[ByteText],
+        number: u64,
+        count: u64,
+    ) -> Result<Event, NoMemory>
+        requires at { AreAt daemon.now.state.config self.old.conns.items }
+        requires inputs { length self.old.conns.items ≡ length inputs.now }
+        ensures steps { IfOk result (λ event. (s : GivenScript) → IsScriptOf s daemon.now.state.config inputs.now → Steps s (Step.Read number count) event daemon.now daemon.now self.old.conns.items self.new.conns.items) }
+        ensures events { self.new.events ≡ self.old.events }
+    {
+        if number >= self.conns.len() as u64 {
+            return Ok(daemon.idle());
+        }
+        let place = number as usize;
+        let event = daemon.read(
+            alloc,
+            number,
+            &mut self.conns[place],
+            inputs[place].as_slice(),
+            count,
+        )?;
+        Ok(event)
+    }
+
+    /// Does the action that is due at a connection.
+    fn serve<P: Parts>(
+        &mut self,
+        alloc: Global,
+        daemon: &mut Daemon<P>,
+        number: u64,
+    ) -> Result<Event, NoMemory>
+        requires at { AreAt daemon.old.state.config self.old.conns.items }
+        requires told { daemon.old.state.told ≡ true }
+        requires free { daemon.old.free + 1 < 2 ^ 64 }
+        ensures steps { IfOk result (λ event. (s : GivenScript) → s.setup ≡ setup daemon.old.state.config → Steps s (Step.Serve number) event daemon.old daemon.new self.old.conns.items self.new.conns.items) }
+        ensures events { self.new.events ≡ self.old.events }
+    {
+        if number >= self.conns.len() as u64 {
+            return Ok(daemon.idle());
+        }
+        let event = daemon.serve(alloc, number, &mut self.conns[number as usize])?;
+        Ok(event)
+    }
+
+    fn event_of<P: Parts>(
+        &mut self,
+        alloc: Global,
+        daemon: &mut Daemon<P>,
+        inputs: &[ByteText],
+        step: &Step,
+    ) -> Result<Event, NoMemory>
+        requires at { AreAt daemon.old.state.config self.old.conns.items }
+        requires inputs { length self.old.conns.items ≡ length inputs.now }
+        requires told { daemon.old.state.told ≡ true }
+        requires free { daemon.old.free + 1 < 2 ^ 64 }
+        ensures steps { IfOk result (λ event. (s : GivenScript) → IsScriptOf s daemon.old.state.config inputs.now → Steps s step.now event daemon.old daemon.new self.old.conns.items self.new.conns.items) }
+        ensures events { self.new.events ≡ self.old.events }
+    {
+        match step {
+            Step::Read(number, count) => self.read(alloc, daemon, inputs, *number, *count),
+            Step::Serve(number) => self.serve(alloc, daemon, *number),
+            Step::Back(_) => Ok(daemon.idle()),
+            Step::Pass(nanoseconds) => Ok(daemon.pass(*nanoseconds)),
+        }
+    }
+
+    /// Does one step: its event is the last.
+    pub fn step<P: Parts>(
+        &mut self,
+        alloc: Global,
+        daemon: &mut Daemon<P>,
+        inputs: &[ByteText],
+        step: &Step,
+    ) -> Result<(), NoMemory>
+        requires at { AreAt daemon.old.state.config self.old.conns.items }
+        requires inputs { length self.old.conns.items ≡ length inputs.now }
+        requires told { daemon.old.state.told ≡ true }
+        requires free { daemon.old.free + 1 < 2 ^ 64 }
+        ensures steps { IfOk result (λ _. StepsOn daemon.old.state.config inputs.now step.now self.old.events.items self.new.events.items daemon.old daemon.new self.old.conns.items self.new.conns.items) }
+    {
+        let event = self.event_of(alloc, daemon, inputs, step)?;
+        self.events.push(event)?;
+        Ok(())
+    }
+}
