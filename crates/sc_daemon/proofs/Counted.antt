@@ -1,14 +1,13 @@
 -- A served event that was counted.
-use Rattle.std.proofs.Common.{◌≡◌, ℕ, ◌+◌, ◌-◌, ◌<◌, ◌≤◌, List, [], ◌∷◌, Bool, true, false, length, map, Result, Ok, Err, refl, sym, ap, ◌∙◌, subst, arith}
+use Rattle.std.proofs.Common.{◌≡◌, ℕ, ◌+◌, ◌<◌, ◌≤◌, List, [], ◌∷◌, true, false, length, Result, Ok, Err, refl, sym, ap, ◌∙◌, subst, arith}
 use Rattle.std.specs.Prelude.{IfOk, IsOk}
-use Rattle.sc_daemon.specs.Daemons.{Kept, ServesAt, ServesEvent}
+use Rattle.sc_daemon.specs.Daemons.{Kept, ServesEvent}
 use Rattle.sc_daemon.specs.Lines.{Line, conn_of}
 use Rattle.sc_daemon.specs.Turns.{Serves_one}
 use Rattle.sc_daemon.proofs.Firsts.{current_is}
 use Rattle.sc_job.specs.Setups.{Config, setup}
 use Rattle.sc_model.specs.Machine.{current, free_after, need_at}
 use Rattle.sc_model.specs.Rows.{count, row, zeroes}
-use Rattle.sc_model.specs.declared.event.Event.{Event}
 use Rattle.sc_model.specs.declared.event.Owner.TheVariants.{Request as OfRequest}
 use Rattle.sc_model.specs.declared.event.What.{What}
 use Rattle.sc_model.specs.declared.event.What.TheVariants.{Asked, Began, Closed, Committed, Dist, Filled, Idle, Keyed, Outcome, Passed, Placed, Ran, Reserved, Sent, Taken, TokenTaken, TooLong, WriteEnded, Wrote}
@@ -17,7 +16,6 @@ use Rattle.sc_model.specs.declared.message.Request.{Request}
 use Rattle.sc_model.specs.declared.message.Request.TheVariants.{Compile as CompileOf}
 use Rattle.sc_owned.specs.Moving.{OwnedMoves}
 use Rattle.sc_owned.specs.State.{State}
-use Rattle.sc_stats.specs.declared.counters.ServerStats.{ServerStats}
 
 err_ok : false ≡ true → ⊥
 err_ok e = absurd (cc)
@@ -70,17 +68,20 @@ serves_event c j moment since x d d2 state2 old new number now at one moves same
     let is_d2 = counted k (first.0) in
     record {
       moment = now;
-      serves = (refl, record {
-        number = number;
-        one = one;
-        moves = subst (λ (e : Kept). OwnedMoves d.state (need_at (setup k) (current (conn_of old)) old.phase) x e.state) (sym is_d2) moves;
-        config = ap (λ (e : Kept). e.state.config) is_d2 ∙ same;
-        free = ap (λ (e : Kept). e.free) is_d2;
-        stats = ap (λ (e : Kept). e.stats) is_d2
-            ∙ ap (λ (r : Request). count (zeroes x) d.stats (row (setup k) r since moment x)) (sym here)
-            ∙ ap (λ (n : ℕ). count (zeroes x) d.stats (row (setup k) (current (conn_of old)) n moment x)) at
-            ∙ ap (λ (n : ℕ). count (zeroes x) d.stats (row (setup k) (current (conn_of old)) old.outcome n x)) now;
-      });
+      serves = (
+        refl,
+        record {
+          number = number;
+          one = one;
+          moves = subst (λ (e : Kept). OwnedMoves d.state (need_at (setup k) (current (conn_of old)) old.phase) x e.state) (sym is_d2) moves;
+          config = ap (λ (e : Kept). e.state.config) is_d2 ∙ same;
+          free = ap (λ (e : Kept). e.free) is_d2;
+          stats = ap (λ (e : Kept). e.stats) is_d2
+              ∙ ap (λ (r : Request). count (zeroes x) d.stats (row (setup k) r since moment x)) (sym here)
+              ∙ ap (λ (n : ℕ). count (zeroes x) d.stats (row (setup k) (current (conn_of old)) n moment x)) at
+              ∙ ap (λ (n : ℕ). count (zeroes x) d.stats (row (setup k) (current (conn_of old)) old.outcome n x)) now;
+        },
+      );
     }
 
 pub if_map : {A E : Type 0} {P Q : A → Type 0} (r : Result A E) → IfOk r P → ((a : A) → P a → Q a) → IfOk r Q

@@ -1,10 +1,9 @@
 -- The first compile of a connection.
-use Rattle.std.proofs.Common.{◌≡◌, ℕ, ◌<◌, List, [], ◌∷◌, length, map, drop, Option, Some, None, refl, sym, ap, ◌∙◌}
+use Rattle.std.proofs.Common.{◌≡◌, List, [], ◌∷◌, map, drop, Some, ap}
 use Rattle.sc_daemon.specs.Lines.{Line, conn_of, first_of}
 use Rattle.sc_model.specs.Machine.{current}
 use Rattle.sc_model.specs.Trace.{request}
 use Rattle.sc_model.specs.declared.message.Compile.{Compile}
-use Rattle.sc_model.specs.declared.message.Request.{Request}
 use Rattle.sc_model.specs.declared.message.Request.TheVariants.{Compile as CompileOf}
 
 pub first_rest : (w : List Compile) (r : Compile) → Some r ≡ first_of w → w ≡ r ∷ drop 1 w

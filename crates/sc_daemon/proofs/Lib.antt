@@ -1,5 +1,6 @@
 pub mod Beginning
 pub mod Counted
+pub mod Driving
 pub mod Firsts
 pub mod Machines
 pub mod Plain

@@ -1,36 +1,25 @@
 -- What a step of a drive is to the machine.
-use Rattle.std.proofs.Common.{◌≡◌, ℕ, ◌+◌, ◌-◌, ◌<◌, ◌≤◌, ◌⊎◌, inl, inr, Bool, true, false, List, [], ◌∷◌, ◌++◌, length, take, drop, map, set, get_or, refl, sym, ap, ◌∙◌, subst, arith, IsTrue}
-use Rattle.std.proofs.lemmas.List.{get_or-map, length-map, length-set, map-set, set-get_or, get_or_past, get_or-set_same, get_or-set_other}
-use Rattle.sc_conn.proofs.Inboxes.{compiles, ends_are, more_is}
-use Rattle.sc_daemon.specs.Daemons.{Kept, ReadsEvent, ReadsWhat, ServesAt, ServesEvent, ServesWhat, machine_of}
-use Rattle.sc_daemon.specs.Drives.{AreAt, IsAt, IsScriptOf, Steps}
-use Rattle.sc_daemon.specs.Lines.{IsDone, Line, conn_of, new_line}
-use Rattle.sc_daemon.specs.Standings.{Rests, standing_of}
-use Rattle.sc_daemon.specs.Turns.{IsIdleLine, Reads, Serves_one, TakesMore}
-use Rattle.sc_daemon.specs.declared.reading.Reading.TheVariants as readings
-use Rattle.sc_daemon.specs.declared.standing.Standing.TheVariants.{Ended as HasEnded, Takes}
+use Rattle.std.proofs.Common.{◌≡◌, ℕ, ◌+◌, ◌<◌, ◌≤◌, ◌⊎◌, inl, inr, true, false, List, [], ◌++◌, length, take, drop, map, set, get_or, sym, ap, ◌∙◌, subst}
+use Rattle.std.proofs.lemmas.List.{get_or-map, length-map, map-set, set-get_or}
+use Rattle.sc_conn.proofs.Inboxes.{ends_are, more_is}
+use Rattle.sc_daemon.specs.Daemons.{Kept, ReadsWhat, ServesAt, ServesWhat, machine_of}
+use Rattle.sc_daemon.specs.Lines.{IsDone, Line, conn_of}
+use Rattle.sc_daemon.specs.Turns.{IsIdleLine, TakesMore}
 use Rattle.sc_daemon.proofs.Plain.{counts_nothing, due_ended, due_takes, ended_due, hands_nothing, reserves_nothing, says_nothing, takes_due, ticked_plain}
 use Rattle.sc_job.specs.Setups.{Config, setup}
-use Rattle.sc_model.specs.Follows.{Fits, ToTake, kind_at}
-use Rattle.sc_model.specs.Machine.{Conn, Does, DoesRead, DoesServe, IdleServe, Machine, NoMore, Says, advanced, conn, counted_level, current, due_at, free_after, more, need_at, new_conn, pend}
+use Rattle.sc_model.specs.Follows.{Fits, ToTake}
+use Rattle.sc_model.specs.Machine.{Conn, DoesRead, DoesServe, Machine, Says, advanced, conn, counted_level, current, due_at, free_after, more, need_at, new_conn, pend}
 use Rattle.sc_model.specs.Next.{Ended, at_moment, ticked}
-use Rattle.sc_model.specs.Plan.{is_disk, level_facts}
 use Rattle.sc_model.specs.Rows.{Direct, count, level_row, row, zeroes}
 use Rattle.sc_model.specs.Script.{BadFrame, Script, Setup, input}
-use Rattle.sc_model.specs.Trace.{Given, Open, hands, reserved_at, reserved_by}
-use Rattle.sc_model.specs.World.{IsWithinBytes, Moves, World, level_at, part_size}
-use Rattle.sc_model.specs.declared.event.Event.{Event}
+use Rattle.sc_model.specs.Trace.{Given, hands, reserved_at, reserved_by}
+use Rattle.sc_model.specs.World.{Moves, World}
 use Rattle.sc_model.specs.declared.event.Owner.{Owner}
 use Rattle.sc_model.specs.declared.event.Owner.TheVariants.{Nobody, Request as OfRequest, Write as OfWrite}
 use Rattle.sc_model.specs.declared.event.What.{What}
 use Rattle.sc_model.specs.declared.event.What.TheVariants.{Closed, Idle, Taken}
-use Rattle.sc_model.specs.declared.level.LevelKind.{LevelKind}
-use Rattle.sc_model.specs.declared.level.LevelKind.TheVariants.{Remote}
-use Rattle.sc_model.specs.declared.message.Request.{Request}
-use Rattle.sc_model.specs.declared.phase.Phase.{Phase}
-use Rattle.sc_owned.specs.Laws.{remote_levels, single_store}
+use Rattle.sc_owned.specs.Laws.{single_store}
 use Rattle.sc_stats.specs.Sums.{no_level_stats}
-use Rattle.sc_stats.specs.declared.counters.LevelStats.{LevelStats}
 use Rattle.sc_wire.specs.Streams.{served_reader}
 
 -- the connection of that number
@@ -91,11 +80,20 @@ served_does c e j x d d2 lines l new lt told same at =
     let m = machine_of d lines in
     let m2 = machine_of d2 (set lines c new) in
     let old = get_or lines c l in
-    subst (λ (k : Conn). ServesBy s m c d.state.world.moment e j x m2 k) (sym (conn_at d lines c l lt))
-    (same, subst (λ (n : ℕ). c < n) (sym (length-map lines conn_of)) lt, at.number, some_queue old at.one.some, at.one.fits,
-     (λ due. at.one.token (due_takes s (current (conn_of old)) old.phase due)), says_nothing s m x at.one.plain,
-     (d2.state.world, subst (λ (n : ℕ). Moves s (need_at s (current (conn_of old)) old.phase) (λ l. 0) x (at_moment d.state.world n) d2.state.world) (sym (ticked_plain d.state.world.moment x at.one.plain)) (at.moves.1 told),
-      left_is c j x d d2 lines old new at))
+    subst (λ (k : Conn). ServesBy s m c d.state.world.moment e j x m2 k) (sym (conn_at d lines c l lt)) (
+      same,
+      subst (λ (n : ℕ). c < n) (sym (length-map lines conn_of)) lt,
+      at.number,
+      some_queue old at.one.some,
+      at.one.fits,
+      (λ due. at.one.token (due_takes s (current (conn_of old)) old.phase due)),
+      says_nothing s m x at.one.plain,
+      (
+        d2.state.world,
+        subst (λ (n : ℕ). Moves s (need_at s (current (conn_of old)) old.phase) (λ l. 0) x (at_moment d.state.world n) d2.state.world) (sym (ticked_plain d.state.world.moment x at.one.plain)) (at.moves.1 told),
+        left_is c j x d d2 lines old new at,
+      ),
+    )
 
 -- nothing is served
 abbrev IdleBy : Setup → ℕ → Conn → Type 0
@@ -112,9 +110,10 @@ pub serve_does : (c z : ℕ) (o : Owner) (x : What) (d d2 : Kept) (lines : List 
 serve_does c z (OfRequest e j) x d d2 lines l new lt told now (same, at) =
     subst (λ (n : ℕ). DoesServe (setup d.state.config) (machine_of d lines) c n (OfRequest e j) x (machine_of d2 (set lines c new))) (sym now)
     (served_does c e j x d d2 lines l new lt told same at)
-serve_does c z Nobody Idle d d2 lines l new lt told now (idle, kept, stays) =
-    (subst (λ (k : Conn). IdleBy (setup d.state.config) d.free k) (sym (conn_at d lines c l lt)) (idle_by (setup d.state.config) d.free (get_or lines c l) idle),
-     ap (λ (e : Kept). machine_of e (set lines c new)) kept ∙ ap (λ (n : Line). machine_of d (set lines c n)) stays ∙ ap (machine_of d) (set-get_or lines c l))
+serve_does c z Nobody Idle d d2 lines l new lt told now (idle, kept, stays) = (
+  subst (λ (k : Conn). IdleBy (setup d.state.config) d.free k) (sym (conn_at d lines c l lt)) (idle_by (setup d.state.config) d.free (get_or lines c l) idle),
+  ap (λ (e : Kept). machine_of e (set lines c new)) kept ∙ ap (λ (n : Line). machine_of d (set lines c n)) stays ∙ ap (machine_of d) (set-get_or lines c l),
+)
 serve_does c z Nobody _ d d2 lines l new lt told now serves = absurd serves
 serve_does c z (OfWrite n) _ d d2 lines l new lt told now serves = absurd serves
 
@@ -167,6 +166,7 @@ read_does s c n o x d lines l new lt reads nobody what =
 
     at : conn m c ≡ conn_of old
     at = conn_at d lines c l lt
+
     there : c < length m.conns
     there = subst (λ (k : ℕ). c < k) (sym (length-map lines conn_of)) lt
 

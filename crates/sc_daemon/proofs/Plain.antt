@@ -1,15 +1,14 @@
 -- What a served event is, and what is due at a phase.
-use Rattle.std.proofs.Common.{◌≡◌, ℕ, ◌+◌, List, [], ◌∷◌, length, refl, sym, ap, ◌∙◌}
+use Rattle.std.proofs.Common.{◌≡◌, ℕ, List, [], ◌∷◌, refl, ap}
 use Rattle.sc_action.specs.Acts.{IsPlain, IsPlainAsk, IsPlainTold}
 use Rattle.sc_daemon.specs.Standings.{standing_of}
-use Rattle.sc_daemon.specs.declared.standing.Standing.{Standing}
-use Rattle.sc_daemon.specs.declared.standing.Standing.TheVariants.{Ended as HasEnded, Goes, Over as IsOver, Takes}
-use Rattle.sc_model.specs.Follows.{Due, ToReserve, ToTake, ToWrite, ToEndWrite, next_pre, next_write, start_write}
-use Rattle.sc_model.specs.Machine.{Machine, Says, counted_level, due_at, pend}
+use Rattle.sc_daemon.specs.declared.standing.Standing.TheVariants.{Ended as HasEnded, Takes}
+use Rattle.sc_model.specs.Follows.{Due, ToReserve, ToTake, ToWrite, start_write}
+use Rattle.sc_model.specs.Machine.{Machine, Says, counted_level, due_at}
 use Rattle.sc_model.specs.Next.{Ended, ticked}
 use Rattle.sc_model.specs.Plan.{level_facts}
 use Rattle.sc_model.specs.Script.{Setup}
-use Rattle.sc_model.specs.Trace.{Given, Open, hands, reserved_by}
+use Rattle.sc_model.specs.Trace.{hands, reserved_by}
 use Rattle.sc_model.specs.declared.event.Answer.{Answer}
 use Rattle.sc_model.specs.declared.event.Mode.{Mode}
 use Rattle.sc_model.specs.declared.event.Mode.TheVariants.{Path, Pre, Raw, Size as Sizes, Whole}
@@ -22,7 +21,7 @@ use Rattle.sc_model.specs.declared.level.Handed.{Handed}
 use Rattle.sc_model.specs.declared.level.LevelKind.{LevelKind}
 use Rattle.sc_model.specs.declared.level.LevelKind.TheVariants.{Disk, Remote}
 use Rattle.sc_model.specs.declared.level.Policy.{Policy}
-use Rattle.sc_model.specs.declared.level.Policy.TheVariants.{Levels, Single}
+use Rattle.sc_model.specs.declared.level.Policy.TheVariants.{Single}
 use Rattle.sc_model.specs.declared.message.Request.{Request}
 use Rattle.sc_model.specs.declared.phase.Bytes.{Bytes}
 use Rattle.sc_model.specs.declared.phase.Phase.{Phase}

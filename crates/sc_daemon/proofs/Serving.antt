@@ -1,6 +1,6 @@
 -- A served compile goes on.
-use Rattle.std.proofs.Common.{◌≡◌, ℕ, ◌<◌, List, [], ◌∷◌, ◌++◌, length, map, refl, sym, ap, ◌∙◌, subst}
-use Rattle.sc_action.specs.Acts.{Acts, IsPlain, IsPlainTold, IsPlainAsk}
+use Rattle.std.proofs.Common.{◌≡◌, ℕ, ◌<◌, List, ◌++◌, length, refl, sym, ap, ◌∙◌, subst}
+use Rattle.sc_action.specs.Acts.{IsPlain}
 use Rattle.sc_action.specs.Serves.{Serves, Stands}
 use Rattle.sc_action.specs.declared.acted.Acted.{Acted}
 use Rattle.sc_daemon.specs.Lines.{Line, conn_of}
@@ -10,7 +10,7 @@ use Rattle.sc_daemon.specs.declared.standing.Standing.TheVariants.{Ended, Takes}
 use Rattle.sc_daemon.proofs.Firsts.{current_is}
 use Rattle.sc_job.specs.Setups.{Config, setup}
 use Rattle.sc_model.specs.Follows.{Fits}
-use Rattle.sc_model.specs.Machine.{Conn, advanced, after, current, due_at, long_after, outcome_after, reserved_after, settle, told_by}
+use Rattle.sc_model.specs.Machine.{Conn, after, current, due_at, long_after, outcome_after, reserved_after, settle, told_by}
 use Rattle.sc_model.specs.Trace.{frame_bytes, sent_by}
 use Rattle.sc_model.specs.declared.event.What.{What}
 use Rattle.sc_model.specs.declared.event.What.TheVariants.{Asked, Began, Closed, Committed, Dist, Filled, Idle, Keyed, Outcome, Passed, Placed, Ran, Reserved, Sent, Taken, TokenTaken, TooLong, WriteEnded, Wrote}

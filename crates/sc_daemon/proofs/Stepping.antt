@@ -1,19 +1,18 @@
 -- One step of a drive is one of the machine.
-use Rattle.std.proofs.Common.{◌≡◌, ℕ, zero, suc, ◌+◌, ◌<◌, ◌≤◌, ◌⊎◌, inl, inr, false, true, List, [], ◌∷◌, length, map, set, get_or, refl, sym, ap, ◌∙◌, subst, arith, IsTrue}
+use Rattle.std.proofs.Common.{◌≡◌, ℕ, zero, suc, ◌+◌, ◌<◌, ◌≤◌, inl, inr, true, List, [], ◌∷◌, length, map, set, get_or, refl, sym, ap, ◌∙◌, subst, arith, IsTrue}
 use Rattle.std.proofs.lemmas.List.{get_or_past, length-map, length-set}
-use Rattle.sc_daemon.specs.Daemons.{Kept, ReadsEvent, ReadsWhat, ServesAt, ServesEvent, ServesWhat, machine_of, passed}
+use Rattle.sc_daemon.specs.Daemons.{Kept, ReadsEvent, ReadsWhat, ServesEvent, ServesWhat, machine_of, passed}
 use Rattle.sc_daemon.specs.Drives.{AreAt, IsAt, IsScriptOf, Steps}
 use Rattle.sc_daemon.specs.Lines.{Line, conn_of, new_line}
 use Rattle.sc_daemon.specs.Standings.{Rests}
-use Rattle.sc_daemon.specs.Turns.{Reads, TakesMore}
 use Rattle.sc_daemon.proofs.Machines.{read_does, serve_does}
 use Rattle.sc_daemon.proofs.Plain.{ticked_plain}
 use Rattle.sc_job.specs.Setups.{Config, setup}
 use Rattle.sc_model.specs.Follows.{kind_at}
-use Rattle.sc_model.specs.Machine.{Conn, Does, DoesRead, DoesServe, Machine, conn, new_conn}
-use Rattle.sc_model.specs.Next.{at_moment, ticked}
+use Rattle.sc_model.specs.Machine.{Conn, DoesServe, conn, new_conn}
+use Rattle.sc_model.specs.Next.{ticked}
 use Rattle.sc_model.specs.Plan.{is_disk}
-use Rattle.sc_model.specs.Script.{Reader, Script, Setup, input}
+use Rattle.sc_model.specs.Script.{Script, Setup, input}
 use Rattle.sc_model.specs.World.{IsWithinBytes}
 use Rattle.sc_model.specs.declared.event.Event.{Event}
 use Rattle.sc_model.specs.declared.event.Owner.{Owner}
@@ -79,9 +78,11 @@ steps_serve s d d2 lines c l new e is_setup at told lt serves rests free =
     let old = get_or lines c l in
     let k = d.state.config in
     record {
-      does = (serves.moment ∙ sym (ticked_serves c e.owner e.what d.state.world.moment d d2 old new serves.serves),
-          subst (λ (su : Setup). DoesServe su (machine_of d lines) c e.moment e.owner e.what (machine_of d2 (set lines c new))) (sym is_setup) (serve_does c e.moment e.owner e.what d d2 lines l new lt told serves.moment serves.serves),
-          within s d2 lines d is_setup);
+      does = (
+        serves.moment ∙ sym (ticked_serves c e.owner e.what d.state.world.moment d d2 old new serves.serves),
+        subst (λ (su : Setup). DoesServe su (machine_of d lines) c e.moment e.owner e.what (machine_of d2 (set lines c new))) (sym is_setup) (serve_does c e.moment e.owner e.what d d2 lines l new lt told serves.moment serves.serves),
+        within s d2 lines d is_setup,
+      );
       config = config_stays c e.owner e.what d d2 old new serves.serves;
       told = told_stays c e.owner e.what d d2 old new serves.serves;
       count = length-set lines c new;
@@ -112,9 +113,11 @@ steps_read s inputs d lines c n l new b e of at lt count reads =
     let what = subst (λ (i : List ℕ). ReadsWhat c i n e.what old new) bytes reads.reads in
     let same = limit_reads c n (input s c) e.what old new what in
     record {
-      does = (reads.moment ∙ sym (ticked_reads c n d.state.world.moment (input s c) e.what old new what),
-          read_does s c n e.owner e.what d lines l new lt (of.of_reader ∙ ap (λ (i : ℕ). served_reader i) (sym here.0)) reads.owner what,
-          within s d lines d of.of_setup);
+      does = (
+        reads.moment ∙ sym (ticked_reads c n d.state.world.moment (input s c) e.what old new what),
+        read_does s c n e.owner e.what d lines l new lt (of.of_reader ∙ ap (λ (i : ℕ). served_reader i) (sym here.0)) reads.owner what,
+        within s d lines d of.of_setup,
+      );
       config = refl;
       told = refl;
       count = length-set lines c new;

@@ -1,17 +1,17 @@
 -- A daemon: its state, what it counted, and its free tokens.
-use Rattle.std.specs.Prelude.{◌≡◌, ℕ, ◌<◌, ◌≤◌, true, false, List, [], ◌∷◌, length, take, drop, map, Option, refl}
+use Rattle.std.specs.Prelude.{◌≡◌, ℕ, List, [], map, refl}
 use Rattle.std.specs.Coded.{Coded, code_by, coded×, coded_ℕ}
-use Rattle.sc_daemon.specs.Lines.{IsDone, Line, conn_of}
+use Rattle.sc_daemon.specs.Lines.{Line, conn_of}
 use Rattle.sc_daemon.specs.Turns.{IsIdleLine, Reads, Serves_one}
 use Rattle.sc_daemon.specs.declared.reading.Reading.TheVariants as readings
-use Rattle.sc_job.specs.Setups.{Config, setup}
+use Rattle.sc_job.specs.Setups.{setup}
 use Rattle.sc_model.specs.Machine.{Machine, current, free_after, need_at}
 use Rattle.sc_model.specs.Next.{at_moment}
 use Rattle.sc_model.specs.Rows.{count, row, zeroes}
 use Rattle.sc_model.specs.Script.{Script}
 use Rattle.sc_model.specs.declared.event.Event.{Event}
 use Rattle.sc_model.specs.declared.event.Owner.{Owner}
-use Rattle.sc_model.specs.declared.event.Owner.TheVariants.{Nobody, Request as OfRequest, Write as OfWrite}
+use Rattle.sc_model.specs.declared.event.Owner.TheVariants.{Nobody, Request as OfRequest}
 use Rattle.sc_model.specs.declared.event.What.{What}
 use Rattle.sc_model.specs.declared.event.What.TheVariants.{Closed, Idle, Taken}
 use Rattle.sc_owned.specs.Codes.{state_code}

@@ -1,11 +1,15 @@
 -- Steps of a drive.
-use Rattle.std.specs.Prelude.{◌≡◌, ℕ, zero, suc, ◌+◌, ◌≤◌, List, [], ◌∷◌, ◌++◌, length, slice_index_or}
-use Rattle.sc_daemon.specs.Daemons.{Kept, machine_of}
+use Rattle.std.specs.Prelude.{◌≡◌, ℕ, zero, suc, ◌+◌, ◌≤◌, true, List, [], ◌∷◌, ◌++◌, length, map, reverse, slice_index_or}
+use Rattle.sc_conn.specs.Ends.{end_of}
+use Rattle.sc_daemon.specs.Daemons.{Kept, machine_of, script_of}
 use Rattle.sc_daemon.specs.Lines.{Line, new_line}
 use Rattle.sc_daemon.specs.Standings.{Rests}
+use Rattle.sc_daemon.specs.declared.driven.Driven.{Driven}
 use Rattle.sc_job.specs.Setups.{Config, setup}
-use Rattle.sc_model.specs.Machine.{Does}
-use Rattle.sc_model.specs.Script.{Script}
+use Rattle.sc_model.specs.Headline.{Result_of_run}
+use Rattle.sc_model.specs.Machine.{Does, Runs}
+use Rattle.sc_model.specs.Script.{End, Script}
+use Rattle.sc_model.specs.Trace.{if_too_long}
 use Rattle.sc_model.specs.declared.event.Event.{Event}
 use Rattle.sc_model.specs.declared.event.Step.{Step}
 use Rattle.sc_wire.specs.Streams.{served_reader}
@@ -42,3 +46,27 @@ pub record StepsOn (k : Config) (inputs : List (List ℕ)) (p : Step) (events ev
   pub event : Event
   pub grown : events2 ≡ events ++ event ∷ []
   pub steps : (s : Script) → IsScriptOf s k inputs → Steps s p event d d2 lines lines2
+
+-- what a connection has come to
+abbrev pub line_end : Line → End
+line_end l = if_too_long l.long ((served_reader l.limit).ends l.rest l.closed)
+
+-- a drive so far: what was done of its steps, and the machine's run of them
+pub record Progress (d0 d : Kept) (inputs : List (List ℕ)) (steps left : List Step) (events : List Event) (lines : List Line) : Type 0 where
+  pub done : List Step
+  pub split : done ++ left ≡ steps
+  pub runs : Runs (script_of d0 inputs) (machine_of d0 (lines_of d0.state.config.limit (length inputs))) (reverse done) (reverse events) (machine_of d lines)
+  pub config : d.state.config ≡ d0.state.config
+  pub told : d.state.told ≡ true
+  pub count : length lines ≡ length inputs
+  pub at : AreAt d.state.config lines
+
+-- what a drive came to, as the headline speaks of it
+abbrev pub result_of : Kept → Driven → Result_of_run
+result_of d driven = record {
+  stats = d.stats;
+  level_stats = [];
+  background = [];
+  ends = map (λ c. end_of c.end) driven.conns;
+  out = map (λ c. c.sent) driven.conns;
+}

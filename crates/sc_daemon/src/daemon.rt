@@ -173,13 +173,7 @@ impl<P: Parts> Daemon<P> {
     }
 
     /// Keeps what an event counts, and which tokens it takes or gives back.
-    fn count(
-        &mut self,
-        alloc: Global,
-        since: u64,
-        moment: u64,
-        what: &What,
-    ) -> Result<(), NoMemory>
+    fn count(&mut self, alloc: Global, since: u64, moment: u64, what: &What) -> Result<(), NoMemory>
         requires { self.old.free + 1 < 2 ^ 64 }
         ensures { IfOk result (λ _. (k : Config) (c : CompileRequest) → self.new ≡ record self.old { stats = rows.count (rows.zeroes what.now) self.old.stats (rows.row (setup k) (CompileOf c) since moment what.now); free = machine.free_after self.old.free what.now }) }
     {
@@ -209,7 +203,11 @@ impl<P: Parts> Daemon<P> {
             Some(what) => {
                 let counted = self.count(alloc, since, moment, &what);
                 let owner = Owner::Request(number, at);
-                let event = Event { moment, owner, what };
+                let event = Event {
+                    moment,
+                    owner,
+                    what,
+                };
                 if_counted(counted, event)
             }
         }

@@ -1,7 +1,7 @@
 -- A key step without a distributed client.
-use Rattle.std.proofs.Common.{◌≡◌, ℕ, ◌≤◌, Bool, false, Option, Some, None, refl, sym, ap, subst, arith}
+use Rattle.std.proofs.Common.{◌≡◌, Bool, false, Option, Some, None, refl, sym, ap, subst, arith}
 use Rattle.sc_compile.specs.Plain.{PlainArguments, arguments, plain_key}
-use Rattle.sc_compile.specs.Tools.{key_told, told_key}
+use Rattle.sc_compile.specs.Tools.{key_told}
 use Rattle.sc_entry.specs.Causes.{IfTold}
 use Rattle.sc_job.specs.Setups.{Config, setup}
 use Rattle.sc_model.specs.World.{Moves, Need, Renews, World, keys_of}

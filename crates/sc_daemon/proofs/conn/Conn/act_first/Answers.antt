@@ -1,4 +1,4 @@
-use Rattle.std.proofs.Common.{◌≡◌, drop, sym, ap, ◌∙◌, subst}
+use Rattle.std.proofs.Common.{drop, sym, ap, subst}
 use Rattle.sc_action.specs.Acts.{Acts}
 use Rattle.sc_daemon.specs.Lines.{Line, conn_of}
 use Rattle.sc_daemon.specs.Turns.{ActsFirst}

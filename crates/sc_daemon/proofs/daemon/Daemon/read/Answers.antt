@@ -1,4 +1,4 @@
-use Rattle.std.proofs.Common.{◌≡◌, refl, sym, subst}
+use Rattle.std.proofs.Common.{refl, sym, subst}
 use Rattle.sc_daemon.specs.Daemons.{ReadsEvent}
 use Rattle.sc_daemon.specs.Turns.{Reads}
 use Rattle.sc_daemon.specs.declared.reading.Reading.{Reading}

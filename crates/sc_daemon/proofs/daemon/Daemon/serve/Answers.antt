@@ -1,10 +1,9 @@
-use Rattle.std.proofs.Common.{◌≡◌, ℕ, ◌+◌, ◌≤◌, List, [], Option, sym, ap, ◌∙◌, subst}
+use Rattle.std.proofs.Common.{ℕ, ◌+◌, ◌≤◌, [], Option, sym, ap, ◌∙◌, subst}
 use Rattle.std.specs.Prelude.{IfOk}
 use Rattle.sc_daemon.specs.Daemons.{Kept, ServesEvent}
 use Rattle.sc_daemon.specs.Lines.{conn_of}
 use Rattle.sc_daemon.specs.Standings.{Rests}
-use Rattle.sc_daemon.specs.Turns.{MovesHold, ServesLine, Serves_one}
-use Rattle.sc_daemon.specs.contracts.daemon.Daemon.{the_view}
+use Rattle.sc_daemon.specs.Turns.{MovesHold, ServesLine}
 use Rattle.sc_daemon.proofs.Counted.{free_most, if_any, if_both, serves_event}
 use Rattle.sc_job.specs.Setups.{setup}
 use Rattle.sc_model.specs.Machine.{current, need_at}

@@ -1,10 +1,7 @@
-use Rattle.std.proofs.Common.{◌≡◌, Result, Ok, Err, List, ℕ, sym, subst}
-use Rattle.std.specs.Prelude.{IfOk}
-use Rattle.sc_daemon.specs.Drives.{IsScriptOf, Steps}
+use Rattle.std.proofs.Common.{sym, subst}
+use Rattle.sc_daemon.specs.Drives.{Steps}
 use Rattle.sc_daemon.proofs.Counted.{if_map}
 use Rattle.sc_daemon.proofs.Stepping.{steps_back, steps_pass}
-use Rattle.sc_model.specs.Script.{Script}
-use Rattle.sc_model.specs.declared.event.Event.{Event}
 use Rattle.sc_model.specs.declared.event.Step.{Step}
 use Rattle.sc_daemon.proofs.driver.Driver.event_of.Goals as goal
 

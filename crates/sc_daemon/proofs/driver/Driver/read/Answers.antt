@@ -1,6 +1,4 @@
-use Rattle.std.proofs.Common.{◌≡◌, ℕ, ◌<◌, ◌≤◌, List, length, sym, ap, ◌∙◌, subst, arith}
-use Rattle.sc_daemon.specs.Daemons.{ReadsEvent}
-use Rattle.sc_daemon.specs.Lines.{Line}
+use Rattle.std.proofs.Common.{ℕ, ◌<◌, ◌≤◌, length, ◌∙◌, subst}
 use Rattle.sc_daemon.proofs.Stepping.{reads_at, steps_read, steps_unread}
 use Rattle.sc_daemon.proofs.driver.Driver.read.Goals as goal
 

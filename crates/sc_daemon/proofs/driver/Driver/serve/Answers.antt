@@ -1,4 +1,4 @@
-use Rattle.std.proofs.Common.{◌≡◌, ℕ, ◌<◌, ◌≤◌, length, sym, ap, ◌∙◌, subst, arith}
+use Rattle.std.proofs.Common.{ℕ, ◌<◌, ◌≤◌, length, sym, ◌∙◌, subst}
 use Rattle.sc_daemon.specs.Daemons.{ServesEvent}
 use Rattle.sc_daemon.specs.Lines.{Line}
 use Rattle.sc_daemon.specs.Standings.{Rests}

@@ -1,4 +1,4 @@
-use Rattle.std.proofs.Common.{◌≡◌, List, [], ◌∷◌, ◌++◌, ap, ◌∙◌}
+use Rattle.std.proofs.Common.{[], ◌∷◌, ◌++◌, ap, ◌∙◌}
 use Rattle.std.specs.Global.{Vec}
 use Rattle.sc_model.specs.declared.event.Event.{Event}
 use Rattle.sc_daemon.proofs.driver.Driver.step.Goals as goal

@@ -1,7 +1,5 @@
-use Rattle.std.proofs.Common.{◌≡◌, refl}
+use Rattle.std.proofs.Common.{refl}
 use Rattle.sc_owned.proofs.Keying.{keyed}
-use Rattle.sc_owned.specs.State.{State}
-use Rattle.sc_owned.specs.contracts.owned.Owned.{the_view}
 use Rattle.sc_owned.proofs.holding.OwnedHold.key.Goals as goal
 
 pub returns-clause-moves : goal.returns-clause-moves

@@ -1,0 +1,141 @@
+-- A whole drive is a run of the machine.
+use Rattle.std.proofs.Common.{◌≡◌, ℕ, zero, suc, ◌+◌, ◌<◌, true, List, [], ◌∷◌, ◌++◌, length, map, drop, reverse, get_or, refl, sym, ap, ◌∙◌, subst, append_assoc, add-one, Result, Ok, Err}
+use Rattle.std.specs.Prelude.{IfOk}
+use Rattle.std.proofs.Math.Seq.{drop-cons}
+use Rattle.std.proofs.lemmas.List.{append-nil, length-map, reverse-append}
+use Rattle.sc_conn.specs.Ends.{end_of}
+use Rattle.sc_daemon.specs.Daemons.{Kept, machine_of, script_of}
+use Rattle.sc_daemon.specs.Drives.{AreAt, IsScriptOf, Progress, StepsOn, line_end, lines_of, result_of}
+use Rattle.sc_daemon.specs.Lines.{Line, conn_of}
+use Rattle.sc_daemon.specs.declared.driven.Driven.{Driven}
+use Rattle.sc_job.specs.Setups.{Config, setup}
+use Rattle.sc_model.proofs.Streams.{reads_on}
+use Rattle.sc_model.specs.Headline.{Headline, Result_of_run}
+use Rattle.sc_model.specs.Machine.{Conn, IsIdle, Machine, Runs, end_at, new_conn, result_of_run, shown_levels}
+use Rattle.sc_model.specs.Script.{End, Script}
+use Rattle.sc_model.specs.Trace.{if_too_long}
+use Rattle.sc_model.specs.declared.event.Event.{Event}
+use Rattle.sc_model.specs.declared.event.Step.{Step}
+use Rattle.sc_model.specs.declared.level.Policy.{Policy}
+use Rattle.sc_model.specs.declared.level.Policy.TheVariants.{Single}
+use Rattle.sc_owned.specs.Laws.{single_store}
+use Rattle.sc_stats.specs.declared.counters.LevelStats.{LevelStats}
+use Rattle.sc_wire.specs.Requests.{read_served}
+use Rattle.sc_wire.specs.Streams.{served_reader}
+
+new_conns : (limit n c : ℕ) → get_or (map conn_of (lines_of limit n)) c new_conn ≡ new_conn
+new_conns limit zero c = refl
+new_conns limit (suc n) zero = refl
+new_conns limit (suc n) (suc c) = new_conns limit n c
+
+count_of : (limit n : ℕ) → length (lines_of limit n) ≡ n
+count_of limit zero = refl
+count_of limit (suc n) = ap suc (count_of limit n)
+
+at_first : (k : Config) (n : ℕ) → AreAt k (lines_of k.limit n)
+at_first k zero c = (refl, tt)
+at_first k (suc n) zero = (refl, tt)
+at_first k (suc n) (suc c) = at_first k n c
+
+-- a drive begins with an idle machine
+pub is_idle : (d : Kept) (inputs : List (List ℕ)) → d.free ≡ d.state.config.tokens → IsIdle (script_of d inputs) (machine_of d (lines_of d.state.config.limit (length inputs)))
+is_idle d inputs free = record {
+  reads_on = reads_on d.state.config.limit read_served;
+  conns = λ c. new_conns d.state.config.limit (length inputs) c;
+  same_count = length-map (lines_of d.state.config.limit (length inputs)) conn_of ∙ count_of d.state.config.limit (length inputs);
+  free = free;
+  stats = refl;
+  level_stats = refl;
+  level_count = length-map d.state.config.levels _;
+  background = refl;
+  handed = refl;
+  reserved = refl;
+}
+
+pub begins : (d : Kept) (inputs : List (List ℕ)) (steps : List Step) (events : List Event) (lines : List Line) → d.state.told ≡ true → events ≡ [] → lines ≡ lines_of d.state.config.limit (length inputs) → Progress d d inputs steps steps events lines
+begins d inputs steps events lines told no_events first =
+    subst (λ (ls : List Line). Progress d d inputs steps steps events ls) (sym first)
+    (subst (λ (es : List Event). Progress d d inputs steps steps es (lines_of d.state.config.limit (length inputs))) (sym no_events)
+    record {
+      done = [];
+      split = refl;
+      runs = refl;
+      config = refl;
+      told = told;
+      count = count_of d.state.config.limit (length inputs);
+      at = at_first d.state.config (length inputs);
+    })
+
+-- one step more
+pub goes_on : (d0 d d2 : Kept) (inputs : List (List ℕ)) (steps rest : List Step) (p : Step) (events events2 : List Event) (lines lines2 : List Line) → Progress d0 d inputs steps (p ∷ rest) events lines
+    → StepsOn d.state.config inputs p events events2 d d2 lines lines2 → Progress d0 d2 inputs steps rest events2 lines2
+goes_on d0 d d2 inputs steps rest p events events2 lines lines2 before on =
+    let s = script_of d0 inputs in
+    let of : IsScriptOf s d.state.config inputs = record { of_setup = ap setup (sym before.config); of_reader = ap (λ (k : Config). served_reader k.limit) (sym before.config); of_inputs = refl } in
+    let step = on.steps s of in
+    let m0 = machine_of d0 (lines_of d0.state.config.limit (length inputs)) in
+    record {
+      done = before.done ++ p ∷ [];
+      split = append_assoc before.done (p ∷ []) rest ∙ before.split;
+      runs = subst (λ (ps : List Step). Runs s m0 ps (reverse events2) (machine_of d2 lines2)) (sym (reverse-append before.done (p ∷ [])))
+          (subst (λ (es : List Event). Runs s m0 (p ∷ reverse before.done) (reverse es) (machine_of d2 lines2)) (sym on.grown)
+          (subst (λ (t : List Event). Runs s m0 (p ∷ reverse before.done) t (machine_of d2 lines2)) (sym (reverse-append events (on.event ∷ [])))
+          (machine_of d lines, before.runs, step.does)));
+      config = step.config ∙ before.config;
+      told = step.told ∙ before.told;
+      count = step.count ∙ before.count;
+      at = subst (λ (k : Config). AreAt k lines2) (sym step.config) step.at;
+    }
+
+sent_lines : (lines : List Line) → map (λ (k : Conn). k.out) (map conn_of lines) ≡ map (λ (l : Line). l.out) lines
+sent_lines [] = refl
+sent_lines (l ∷ lines) = ap (λ (o : List (List ℕ)). l.out ∷ o) (sent_lines lines)
+
+end_line : (s : Script) (limit : ℕ) (l : Line) → s.reader ≡ served_reader limit → l.limit ≡ limit → end_at s (conn_of l) ≡ line_end l
+end_line s limit l reads same =
+    ap (λ r. if_too_long l.long (r.ends l.rest l.closed)) reads ∙ ap (λ (n : ℕ). if_too_long l.long ((served_reader n).ends l.rest l.closed)) (sym same)
+
+end_lines : (s : Script) (k : Config) (lines : List Line) → s.reader ≡ served_reader k.limit → AreAt k lines → map (end_at s) (map conn_of lines) ≡ map line_end lines
+end_lines s k [] reads at = refl
+end_lines s k (l ∷ lines) reads at =
+    ap (λ (e : End). e ∷ map (end_at s) (map conn_of lines)) (end_line s k.limit l reads ((at 0).0)) ∙ ap (λ (es : List End). line_end l ∷ es) (end_lines s k lines reads (λ c. at (suc c)))
+
+shows_none : (p : Policy) (ls : List LevelStats) → p ≡ Single → shown_levels p ls ≡ []
+shows_none p ls e = rw e refl
+
+-- the headline holds of what a drive came to
+pub headline : ((s : Script) (m0 : Machine) (steps : List Step) (t : List Event) (m : Machine) → IsIdle s m0 → Runs s m0 steps t m → Headline s m0.world steps t m.world (result_of_run s m))
+    → (d0 d : Kept) (inputs : List (List ℕ)) (steps left : List Step) (events : List Event) (lines : List Line) (driven : Driven)
+    → d0.free ≡ d0.state.config.tokens → Progress d0 d inputs steps left events lines → left ≡ [] → driven.trace ≡ events
+    → map (λ c. end_of c.end) driven.conns ≡ map line_end lines → map (λ c. c.sent) driven.conns ≡ map (λ (l : Line). l.out) lines
+    → Headline (script_of d0 inputs) d0.state.world (reverse steps) (reverse driven.trace) d.state.world (result_of d driven)
+headline every d0 d inputs steps left events lines driven free progress none trace ends sent =
+    let s = script_of d0 inputs in
+    let m = machine_of d lines in
+    let all : progress.done ≡ steps = sym (append-nil progress.done) ∙ ap (λ (l : List Step). progress.done ++ l) (sym none) ∙ progress.split in
+    let reads : s.reader ≡ served_reader d.state.config.limit = ap (λ (k : Config). served_reader k.limit) (sym progress.config) in
+    let same : result_of_run s m ≡ result_of d driven =
+    (λ i. record {
+      stats = d.stats;
+      level_stats = shows_none d0.state.config.policy m.level_stats (single_store d0.state) i;
+      background = [];
+      ends = (end_lines s d.state.config lines reads progress.at ∙ sym ends) i;
+      out = (sent_lines lines ∙ sym sent) i;
+    }) in
+    subst (λ (r : Result_of_run). Headline s d0.state.world (reverse steps) (reverse driven.trace) d.state.world r) same
+    (subst (λ (ps : List Step). Headline s d0.state.world (reverse ps) (reverse driven.trace) d.state.world (result_of_run s m)) all
+    (subst (λ (es : List Event). Headline s d0.state.world (reverse progress.done) (reverse es) d.state.world (result_of_run s m)) (sym trace)
+    (every s (machine_of d0 (lines_of d0.state.config.limit (length inputs))) (reverse progress.done) (reverse events) m (is_idle d0 inputs free) progress.runs)))
+
+-- the step of that number is the first of those that are left
+pub next_step : (steps : List Step) (i : ℕ) (p : Step) → i < length steps → drop i steps ≡ get_or steps i p ∷ drop (i + 1) steps
+next_step steps i p lt = drop-cons steps i p lt ∙ ap (λ (n : ℕ). get_or steps i p ∷ drop n steps) (sym (add-one i))
+
+pub goes_by : (d0 d d2 : Kept) (inputs : List (List ℕ)) (steps left rest : List Step) (p : Step) (events events2 : List Event) (lines lines2 : List Line) → left ≡ p ∷ rest → Progress d0 d inputs steps left events lines
+    → StepsOn d.state.config inputs p events events2 d d2 lines lines2 → Progress d0 d2 inputs steps rest events2 lines2
+goes_by d0 d d2 inputs steps left rest p events events2 lines lines2 is_left before on =
+    goes_on d0 d d2 inputs steps rest p events events2 lines lines2 (subst (λ (l : List Step). Progress d0 d inputs steps l events lines) is_left before) on
+
+pub if_three : {A E : Type 0} {P Q R S : A → Type 0} (r : Result A E) → IfOk r P → IfOk r Q → IfOk r R → ((a : A) → P a → Q a → R a → S a) → IfOk r S
+if_three (Ok a) p q r f = f a p q r
+if_three (Err e) p q r f = tt

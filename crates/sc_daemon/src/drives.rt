@@ -1,0 +1,116 @@
+//! Drives of any steps over any bytes on any connections.
+ghost use Rattle.std.specs.Prelude.{◌≡◌, [], true, Ok, IfOk, map, reverse};
+ghost use Rattle.sc_conn.specs.Ends.{end_of};
+ghost use Rattle.sc_daemon.specs.Daemons.{script_of};
+ghost use Rattle.sc_daemon.specs.Drives.{Progress, line_end, result_of};
+ghost use Rattle.sc_model.specs.Headline.{Headline};
+
+use crate::conn::Conn;
+use crate::daemon::Daemon;
+use crate::driven::{Driven, DrivenConn};
+use crate::driver::Driver;
+use sc_entry::{ByteText, Items, NoMemory};
+use sc_model::{Event, Step, every_run};
+use sc_owned::Parts;
+use std::alloc::Global;
+
+/// More free tokens than this cannot be told of. A drive would need as many steps to come there.
+const MOST_TOKENS: u64 = 0xffff_ffff_ffff_fff0;
+
+/// What a connection came to.
+fn driven_conn(conn: Conn) -> DrivenConn
+    ensures end { end_of result.end ≡ line_end conn }
+    ensures sent { result.sent ≡ conn.out }
+{
+    let end = conn.end();
+    DrivenConn {
+        end,
+        sent: conn.into_sent(),
+    }
+}
+
+fn driven_conns(alloc: Global, conns: Vec<Conn>) -> Result<Items<DrivenConn>, NoMemory>
+    ensures ends { IfOk result (λ driven. map (λ c. end_of c.end) driven ≡ map line_end conns.items) }
+    ensures sent { IfOk result (λ driven. map (λ c. c.sent) driven ≡ map (λ l. l.out) conns.items) }
+{
+    let mut driven = Items::new(alloc);
+    for conn in conns {
+        driven.push(driven_conn(conn))?;
+    }
+    Ok(driven)
+}
+
+/// What a drive came to. So far no write is handed on.
+fn finish(alloc: Global, driver: Driver) -> Result<Driven, NoMemory>
+    ensures trace { IfOk result (λ driven. driven.trace ≡ driver.events.items) }
+    ensures ends { IfOk result (λ driven. map (λ c. end_of c.end) driven.conns ≡ map line_end driver.conns.items) }
+    ensures sent { IfOk result (λ driven. map (λ c. c.sent) driven.conns ≡ map (λ l. l.out) driver.conns.items) }
+{
+    let Driver { conns, events } = driver;
+    let trace = Items::from_vec(events);
+    let conns = driven_conns(alloc, conns);
+    if_driven(alloc, trace, conns)
+}
+
+/// Drops a trace in a call of its own: dropped at the end of a branch it takes the check minutes.
+fn discard(trace: Items<Event>) {
+    drop(trace);
+}
+
+fn if_driven(
+    alloc: Global,
+    trace: Items<Event>,
+    conns: Result<Items<DrivenConn>, NoMemory>,
+) -> Result<Driven, NoMemory>
+    ensures trace { IfOk result (λ driven. driven.trace ≡ trace) }
+    ensures conns { IfOk result (λ driven. conns ≡ Ok driven.conns) }
+{
+    match conns {
+        Ok(conns) => Ok(Driven {
+            trace,
+            conns,
+            background: Items::new(alloc),
+        }),
+        Err(refused) => {
+            discard(trace);
+            Err(refused)
+        }
+    }
+}
+
+/// Does all steps, from the first on.
+fn all_steps<P: Parts>(
+    alloc: Global,
+    daemon: &mut Daemon<P>,
+    inputs: &[ByteText],
+    steps: &[Step],
+) -> Result<Driver, NoMemory>
+    requires { daemon.old.state.told ≡ true }
+    ensures { IfOk result (λ driver. Progress daemon.old daemon.new inputs.now steps.now [] driver.events.items driver.conns.items) }
+{
+    let mut driver = Driver::new(alloc, inputs.len(), daemon.limit())?;
+    for step in steps {
+        if daemon.free() > MOST_TOKENS {
+            return Err(NoMemory);
+        }
+        driver.step(alloc, daemon, inputs, step)?;
+    }
+    Ok(driver)
+}
+
+/// Drives a daemon: each step is one atomic step, over these bytes on each connection. What it answers is what happened,
+/// and the headline holds of it.
+pub fn drive<P: Parts>(
+    alloc: Global,
+    daemon: &mut Daemon<P>,
+    inputs: &[ByteText],
+    steps: &[Step],
+) -> Result<Driven, NoMemory>
+    requires idle { daemon.old.free ≡ daemon.old.state.config.tokens }
+    requires told { daemon.old.state.told ≡ true }
+    ensures headline { IfOk result (λ driven. Headline (script_of daemon.old inputs.now) daemon.old.state.world (reverse steps.now) (reverse driven.trace) daemon.new.state.world (result_of daemon.new driven)) }
+{
+    every_run();
+    let driver = all_steps(alloc, daemon, inputs, steps)?;
+    finish(alloc, driver)
+}
