@@ -1,0 +1,46 @@
+-- What a program that drives by a script prints.
+use Rattle.std.specs.Prelude.{◌≡◌, ℕ, true, List, [], ◌∷◌, length, map, reverse, Some, None, Result, Ok, Err}
+use Rattle.std.specs.Global.{Vec}
+use Rattle.sc_daemon.specs.Daemons.{Kept, script_of as given_of}
+use Rattle.sc_daemon.specs.Drives.{result_of}
+use Rattle.sc_daemon.specs.declared.driven.Driven.{Driven}
+use Rattle.sc_memory.specs.Making.{AreLines, first_world}
+use Rattle.sc_memory.specs.Sizes.{sizes_of}
+use Rattle.sc_model.specs.Headline.{Headline}
+use Rattle.sc_model.specs.declared.level.Policy.TheVariants.{Single}
+use Rattle.sc_model.specs.declared.message.CacheMode.TheVariants.{ReadWrite}
+use Rattle.sc_report.specs.Report.{report_of}
+use Rattle.sc_script.specs.Scripts.{first_bad, script_of}
+use Rattle.sc_script.specs.declared.script.Script.{Script}
+use Rattle.sc_script.specs.declared.script.ScriptError.{ScriptError}
+use Rattle.sc_script.specs.declared.script.ScriptError.TheVariants.{Bad, Memory}
+use Rattle.sc_stats.specs.Sums.{no_stats}
+use Rattle.sc_store.specs.Held.{remote_facts}
+
+-- the daemon that a script is for, before its first step
+pub record Begins (s : Script) (d : Kept) : Type 0 where
+  pub levels : d.state.config.levels ≡ remote_facts ReadWrite ∷ []
+  pub policy : d.state.config.policy ≡ Single
+  pub tokens : d.state.config.tokens ≡ s.tokens
+  pub limit : d.state.config.limit ≡ s.limit
+  pub table : d.state.config.table ≡ Some s.tools
+  pub lines : AreLines d.state.config.lines s.runs
+  pub told : d.state.told ≡ true
+  pub world : d.state.world ≡ first_world s
+  pub stats : d.stats ≡ no_stats
+  pub free : d.free ≡ s.tokens
+
+-- The text is the report of a drive by the script that the headline holds of.
+pub record Reports (s : Script) (text : List ℕ) : Type 0 where
+  pub first : Kept
+  pub last : Kept
+  pub driven : Driven
+  pub begins : Begins s first
+  pub headline : Headline (given_of first s.inputs) first.state.world (reverse s.steps) (reverse driven.trace) last.state.world (result_of last driven)
+  pub report : text ≡ report_of (map (λ c. c.end) driven.conns) driven.trace (sizes_of last.state.world.levels) (length driven.background) last.free last.stats
+
+-- Bytes that are a script are driven by, and others refused with their first bad line; want of memory is free.
+abbrev pub DrivesScript : List ℕ → Result (Vec ℕ) ScriptError → Type 0
+DrivesScript bytes (Ok text) = (s : Script) × (script_of bytes ≡ Some s) × Reports s text.items
+DrivesScript bytes (Err Memory) = Unit {0}
+DrivesScript bytes (Err (Bad n)) = (script_of bytes ≡ None) × (first_bad bytes ≡ n)

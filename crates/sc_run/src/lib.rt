@@ -1,0 +1,8 @@
+//! What the program does with its words and its input, whatever its streams are.
+#![tactic(auto)]
+
+mod printing;
+mod scripted;
+
+pub use printing::printed;
+pub use scripted::drive_script;

@@ -1,0 +1,42 @@
+//! The report of a drive over memory.
+ghost use Rattle.std.specs.Prelude.{◌≡◌, IfOk, length, map};
+ghost use Rattle.sc_memory.specs.Sizes.{sizes_of};
+ghost use Rattle.sc_report.specs.Report.{report_of};
+
+use sc_conn::End;
+use sc_daemon::{Daemon, Driven, DrivenConn};
+use sc_entry::NoMemory;
+use sc_memory::{Memory, level_sizes};
+use sc_report::{Report, put_report};
+use std::alloc::Global;
+
+fn ends_of(alloc: Global, conns: &[DrivenConn]) -> Result<Vec<End>, NoMemory>
+    ensures { IfOk result (λ ends. ends.items ≡ map (λ c. c.end) conns.now) }
+{
+    let mut ends = Vec::new(alloc);
+    let mut left = conns;
+    while let [conn, rest @ ..] = left {
+        ends.push(conn.end)?;
+        left = rest;
+    }
+    Ok(ends)
+}
+
+/// The report of what a drive came to.
+pub fn printed(alloc: Global, daemon: &Daemon<Memory>, driven: &Driven) -> Result<Vec<u8>, NoMemory>
+    ensures { IfOk result (λ text. text.items ≡ report_of (map (λ c. c.end) driven.now.conns) driven.now.trace (sizes_of daemon.now.state.world.levels) (length driven.now.background) daemon.now.free daemon.now.stats) }
+{
+    let ends = ends_of(alloc, driven.conns.as_slice())?;
+    let levels = level_sizes(alloc, daemon.owned())?;
+    let mut text = Vec::new(alloc);
+    let report = Report {
+        ends: &ends,
+        events: driven.trace.as_slice(),
+        levels: &levels,
+        background: driven.background.len() as u64,
+        tokens: daemon.free(),
+        stats: daemon.stats(),
+    };
+    put_report(alloc, &mut text, &report)?;
+    Ok(text)
+}
