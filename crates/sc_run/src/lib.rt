@@ -2,7 +2,9 @@
 #![tactic(auto)]
 
 mod printing;
+mod running;
 mod scripted;
 
 pub use printing::printed;
+pub use running::run;
 pub use scripted::drive_script;

@@ -1,0 +1,42 @@
+//! The program. Its words, its streams and its exit code are the process's; `sc_run::run` does the rest.
+#![tactic(auto)]
+
+use sc_entry::{ByteText, NoMemory, ReaderSource, WriterSink};
+use sc_report::{Ended, exit_code};
+use sc_run::run;
+use std::alloc::Global;
+use std::env;
+use std::process::ExitCode;
+
+/// The words, the program's name first.
+fn words_in(alloc: Global, args: env::Args) -> Result<Vec<ByteText>, NoMemory> {
+    let mut words = Vec::new(alloc);
+    for word in args {
+        words.push(ByteText::from_vec(word.into_bytes()))?;
+    }
+    Ok(words)
+}
+
+/// The words behind the program's name.
+fn behind_name(words: &[ByteText]) -> &[ByteText] {
+    match words {
+        [_, rest @ ..] => rest,
+        [] => words,
+    }
+}
+
+fn main(rt: HostRuntime) -> ExitCode {
+    let alloc = rt.alloc();
+    let mut input = ReaderSource::new(rt.stdin());
+    let mut out = WriterSink::new(rt.stdout());
+    let mut err = WriterSink::new(rt.stderr());
+    let words = match env::args(&rt) {
+        Ok(args) => words_in(alloc, args),
+        Err(_) => Ok(Vec::new(alloc)),
+    };
+    let ended = match words {
+        Ok(words) => run(alloc, behind_name(&words), &mut input, &mut out, &mut err),
+        Err(_) => Ended::NoMemory,
+    };
+    ExitCode::from(exit_code(&ended))
+}

@@ -1,0 +1,109 @@
+//! What the program does, by its words.
+ghost use Rattle.std.specs.Prelude.{◌≡◌, ◌≤◌, ◌⊎◌, pos, Some};
+ghost use Rattle.sc_entry.specs.Causes.{Rose, Told};
+ghost use Rattle.sc_entry.specs.Streams.{ReadsToEnd, WritesAll};
+ghost use Rattle.sc_report.specs.Words.{help_lines, version_line};
+ghost use Rattle.sc_run.specs.Runs.{DriveEnds, RunEnds, TextEnds};
+ghost use Rattle.sc_script.specs.Commands.{command_of};
+ghost use Rattle.sc_script.specs.declared.words.Command.TheVariants as commands;
+
+use crate::scripted::drive_script;
+use sc_entry::{ByteText, ReadError, Sink, Source, WriteError, read_to_end, write_all};
+use sc_report::{Ended, put_error, put_help, put_version};
+use sc_script::{Command, ScriptError, parse_words};
+use std::alloc::Global;
+
+/// The most bytes that a script may have.
+const MOST: usize = 67_108_864;
+
+/// Writes a text, which is all that is left to do.
+fn write_text<O: Sink>(out: &mut O, text: &[u8]) -> Ended
+    ensures { TextEnds (Told (WritesAll text.now) (O.written out.old) (O.written out.new)) (Rose (O.fault_count out.old) (O.fault_count out.new)) result }
+{
+    match write_all(out, text) {
+        Ok(()) => Ended::Status(0),
+        Err(WriteError::NoMemory) => Ended::NoMemory,
+        Err(WriteError::WriteFault) => Ended::WriteFault,
+    }
+}
+
+/// Reads a script, drives a daemon by it, and writes the report.
+fn run_drive<S: Source, O: Sink>(alloc: Global, input: &mut S, out: &mut O) -> Ended
+    ensures { DriveEnds (λ bytes. Told (ReadsToEnd 67108864 bytes) (S.left input.old) (S.left input.new)) (λ text. Told (WritesAll text) (O.written out.old) (O.written out.new)) (Rose (S.fault_count input.old) (S.fault_count input.new)) (Rose (O.fault_count out.old) (O.fault_count out.new)) result }
+{
+    match read_to_end(alloc, input, MOST) {
+        Ok(bytes) => match drive_script(alloc, bytes.as_slice()) {
+            Ok(text) => write_text(out, &text),
+            Err(ScriptError::Memory) => Ended::NoMemory,
+            Err(ScriptError::Bad(line)) => Ended::BadScript(line),
+        },
+        Err(ReadError::NoMemory) => Ended::NoMemory,
+        Err(ReadError::ReadFault) => Ended::ReadFault,
+    }
+}
+
+fn run_help<O: Sink>(alloc: Global, out: &mut O) -> Ended
+    ensures { TextEnds (Told (WritesAll help_lines) (O.written out.old) (O.written out.new)) (Rose (O.fault_count out.old) (O.fault_count out.new)) result }
+{
+    let mut text = Vec::new(alloc);
+    match put_help(&mut text) {
+        Ok(()) => write_text(out, &text),
+        Err(_) => Ended::NoMemory,
+    }
+}
+
+fn run_version<O: Sink>(alloc: Global, out: &mut O) -> Ended
+    ensures { TextEnds (Told (WritesAll version_line) (O.written out.old) (O.written out.new)) (Rose (O.fault_count out.old) (O.fault_count out.new)) result }
+{
+    let mut text = Vec::new(alloc);
+    match put_version(&mut text) {
+        Ok(()) => write_text(out, &text),
+        Err(_) => Ended::NoMemory,
+    }
+}
+
+fn run_words<S: Source, O: Sink>(
+    alloc: Global,
+    words: &[ByteText],
+    input: &mut S,
+    out: &mut O,
+) -> Ended
+    ensures { RunEnds (command_of words.now) (λ bytes. Told (ReadsToEnd 67108864 bytes) (S.left input.old) (S.left input.new)) (λ text. Told (WritesAll text) (O.written out.old) (O.written out.new)) (Rose (S.fault_count input.old) (S.fault_count input.new)) (Rose (O.fault_count out.old) (O.fault_count out.new)) result }
+{
+    match parse_words(words) {
+        None => Ended::Usage,
+        Some(Command::Drive) => run_drive(alloc, input, out),
+        Some(Command::Help) => run_help(alloc, out),
+        Some(Command::Version) => run_version(alloc, out),
+    }
+}
+
+/// Writes the line that an end has on standard error; where that is refused, the end is `WriteFault`.
+fn told<E: Sink>(alloc: Global, err: &mut E, ended: Ended) -> Ended
+    ensures { (result ≡ ended) ⊎ ((result ≡ Ended.NoMemory) ⊎ ((result ≡ Ended.WriteFault) × Rose (E.fault_count err.old) (E.fault_count err.new))) }
+{
+    let mut line = Vec::new(alloc);
+    match put_error(alloc, &mut line, &ended) {
+        Ok(()) => match write_all(err, &line) {
+            Ok(()) => ended,
+            Err(WriteError::NoMemory) => Ended::NoMemory,
+            Err(WriteError::WriteFault) => Ended::WriteFault,
+        },
+        Err(_) => Ended::NoMemory,
+    }
+}
+
+/// Does what the words say: `drive` reads a script of at most 67,108,864 bytes, drives a daemon by it and writes the report;
+/// `--help` and `--version` write a text. An end other than `Status` writes one line to `err`. Each end has its cause.
+pub fn run<S: Source, O: Sink, E: Sink>(
+    alloc: Global,
+    words: &[ByteText],
+    input: &mut S,
+    out: &mut O,
+    err: &mut E,
+) -> Ended
+    ensures { RunEnds (command_of words.now) (λ bytes. Told (ReadsToEnd 67108864 bytes) (S.left input.old) (S.left input.new)) (λ text. Told (WritesAll text) (O.written out.old) (O.written out.new)) (Rose (S.fault_count input.old) (S.fault_count input.new)) (Rose (O.fault_count out.old) (O.fault_count out.new) ⊎ Rose (E.fault_count err.old) (E.fault_count err.new)) result }
+{
+    let ended = run_words(alloc, words, input, out);
+    told(alloc, err, ended)
+}
