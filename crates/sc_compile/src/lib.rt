@@ -15,6 +15,8 @@ mod probe;
 mod run_line;
 mod script_workshop;
 mod shelf;
+#[cfg(test)]
+mod tests;
 mod tool;
 mod words;
 mod words_error;

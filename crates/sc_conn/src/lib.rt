@@ -3,6 +3,8 @@
 
 mod end;
 mod inbox;
+#[cfg(test)]
+mod tests;
 
 pub use end::End;
 pub use inbox::Inbox;

@@ -1,7 +1,8 @@
 -- A whole drive is a run of the machine.
-use Rattle.std.proofs.Common.{◌≡◌, ℕ, zero, suc, ◌+◌, ◌<◌, true, List, [], ◌∷◌, ◌++◌, length, map, drop, reverse, get_or, refl, sym, ap, ◌∙◌, subst, append_assoc, add-one, Result, Ok, Err}
+use Rattle.std.proofs.Common.{◌≡◌, ℕ, zero, suc, ◌+◌, ◌^◌, ◌<◌, Bool, true, false, ◌&&◌, nat_lt, arith, List, [], ◌∷◌, ◌++◌, length, map, drop, reverse, get_or, refl, sym, ap, ◌∙◌, subst, append_assoc, add-one, Result, Ok, Err}
 use Rattle.std.specs.Prelude.{IfOk}
 use Rattle.std.proofs.Math.Seq.{drop-cons}
+use Rattle.std.proofs.lemmas.Bool.{ltb-true}
 use Rattle.std.proofs.lemmas.List.{append-nil, length-map, reverse-append}
 use Rattle.sc_conn.specs.Ends.{end_of}
 use Rattle.sc_daemon.specs.Daemons.{Kept, machine_of, script_of}
@@ -13,12 +14,13 @@ use Rattle.sc_model.proofs.Streams.{reads_on}
 use Rattle.sc_model.specs.Headline.{Headline, Result_of_run}
 use Rattle.sc_model.specs.Machine.{Conn, IsIdle, Machine, Runs, end_at, new_conn, result_of_run, shown_levels}
 use Rattle.sc_model.specs.Script.{End, Script}
-use Rattle.sc_model.specs.Trace.{if_too_long}
+use Rattle.sc_model.specs.Trace.{if_too_long, open_runs}
 use Rattle.sc_model.specs.declared.event.Event.{Event}
 use Rattle.sc_model.specs.declared.event.Step.{Step}
 use Rattle.sc_model.specs.declared.level.Policy.{Policy}
 use Rattle.sc_model.specs.declared.level.Policy.TheVariants.{Single}
-use Rattle.sc_owned.specs.Laws.{single_store}
+use Rattle.sc_owned.specs.Laws.{lone_level, single_store, within_limits}
+use Rattle.sc_owned.specs.State.{State}
 use Rattle.sc_stats.specs.declared.counters.LevelStats.{LevelStats}
 use Rattle.sc_wire.specs.Requests.{read_served}
 use Rattle.sc_wire.specs.Streams.{served_reader}
@@ -47,6 +49,7 @@ is_idle d inputs free = record {
   stats = refl;
   level_stats = refl;
   level_count = length-map d.state.config.levels _;
+  one_level = λ single. lone_level d.state;
   background = refl;
   handed = refl;
   reserved = refl;
@@ -107,9 +110,9 @@ shows_none p ls e = rw e refl
 pub headline : ((s : Script) (m0 : Machine) (steps : List Step) (t : List Event) (m : Machine) → IsIdle s m0 → Runs s m0 steps t m → Headline s m0.world steps t m.world (result_of_run s m))
     → (d0 d : Kept) (inputs : List (List ℕ)) (steps left : List Step) (events : List Event) (lines : List Line) (driven : Driven)
     → d0.free ≡ d0.state.config.tokens → Progress d0 d inputs steps left events lines → left ≡ [] → driven.trace ≡ events
-    → map (λ c. end_of c.end) driven.conns ≡ map line_end lines → map (λ c. c.sent) driven.conns ≡ map (λ (l : Line). l.out) lines
+    → map (λ c. end_of c.end) driven.conns ≡ map line_end lines → map (λ c. c.sent) driven.conns ≡ map (λ (l : Line). l.out) lines → driven.background ≡ []
     → Headline (script_of d0 inputs) d0.state.world (reverse steps) (reverse driven.trace) d.state.world (result_of d driven)
-headline every d0 d inputs steps left events lines driven free progress none trace ends sent =
+headline every d0 d inputs steps left events lines driven free progress none trace ends sent back =
     let s = script_of d0 inputs in
     let m = machine_of d lines in
     let all : progress.done ≡ steps = sym (append-nil progress.done) ∙ ap (λ (l : List Step). progress.done ++ l) (sym none) ∙ progress.split in
@@ -118,7 +121,8 @@ headline every d0 d inputs steps left events lines driven free progress none tra
     (λ i. record {
       stats = d.stats;
       level_stats = shows_none d0.state.config.policy m.level_stats (single_store d0.state) i;
-      background = [];
+      background = sym back i;
+      free = d.free;
       ends = (end_lines s d.state.config lines reads progress.at ∙ sym ends) i;
       out = (sent_lines lines ∙ sym sent) i;
     }) in
@@ -126,6 +130,30 @@ headline every d0 d inputs steps left events lines driven free progress none tra
     (subst (λ (ps : List Step). Headline s d0.state.world (reverse ps) (reverse driven.trace) d.state.world (result_of_run s m)) all
     (subst (λ (es : List Event). Headline s d0.state.world (reverse progress.done) (reverse es) d.state.world (result_of_run s m)) (sym trace)
     (every s (machine_of d0 (lines_of d0.state.config.limit (length inputs))) (reverse progress.done) (reverse events) m (is_idle d0 inputs free) progress.runs)))
+
+right_of : (a b : Bool) → (a && b) ≡ true → b ≡ true
+right_of true b e = e
+right_of false b e = (cc)
+
+left_of : (a b : Bool) → (a && b) ≡ true → a ≡ true
+left_of true b e = refl
+left_of false b e = e
+
+tokens_few : (o : State) → o.config.tokens < 65536
+tokens_few o =
+    let t = o.config.tokens in
+    let l = o.config.limit in
+    ltb-true t 65536 (right_of (nat_lt 0 t) (nat_lt t 65536) (left_of (nat_lt 0 t && nat_lt t 65536) (nat_lt 0 l && nat_lt l 16777217) (within_limits o)))
+
+-- no more tokens are free than there are
+pub free_few : ((s : Script) (m0 : Machine) (steps : List Step) (t : List Event) (m : Machine) → IsIdle s m0 → Runs s m0 steps t m → Headline s m0.world steps t m.world (result_of_run s m))
+    → (d0 d : Kept) (inputs : List (List ℕ)) (steps left : List Step) (events : List Event) (lines : List Line)
+    → d0.free ≡ d0.state.config.tokens → Progress d0 d inputs steps left events lines → d.free + 1 < 2 ^ 64
+free_few every d0 d inputs steps left events lines free progress =
+    let h = every (script_of d0 inputs) (machine_of d0 (lines_of d0.state.config.limit (length inputs))) (reverse progress.done) (reverse events) (machine_of d lines) (is_idle d0 inputs free) progress.runs in
+    let few = tokens_few d0.state in
+    let all : d.free + length (open_runs (reverse events)) ≡ d0.state.config.tokens = h.tokens in
+    omega (arith, few, all)
 
 -- the step of that number is the first of those that are left
 pub next_step : (steps : List Step) (i : ℕ) (p : Step) → i < length steps → drop i steps ≡ get_or steps i p ∷ drop (i + 1) steps
@@ -136,6 +164,6 @@ pub goes_by : (d0 d d2 : Kept) (inputs : List (List ℕ)) (steps left rest : Lis
 goes_by d0 d d2 inputs steps left rest p events events2 lines lines2 is_left before on =
     goes_on d0 d d2 inputs steps rest p events events2 lines lines2 (subst (λ (l : List Step). Progress d0 d inputs steps l events lines) is_left before) on
 
-pub if_three : {A E : Type 0} {P Q R S : A → Type 0} (r : Result A E) → IfOk r P → IfOk r Q → IfOk r R → ((a : A) → P a → Q a → R a → S a) → IfOk r S
-if_three (Ok a) p q r f = f a p q r
-if_three (Err e) p q r f = tt
+pub if_four : {A E : Type 0} {P Q R S U : A → Type 0} (r : Result A E) → IfOk r P → IfOk r Q → IfOk r R → IfOk r S → ((a : A) → P a → Q a → R a → S a → U a) → IfOk r U
+if_four (Ok a) p q r s f = f a p q r s
+if_four (Err e) p q r s f = tt

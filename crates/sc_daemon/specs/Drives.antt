@@ -66,7 +66,8 @@ abbrev pub result_of : Kept → Driven → Result_of_run
 result_of d driven = record {
   stats = d.stats;
   level_stats = [];
-  background = [];
+  background = driven.background;
+  free = d.free;
   ends = map (λ c. end_of c.end) driven.conns;
   out = map (λ c. c.sent) driven.conns;
 }

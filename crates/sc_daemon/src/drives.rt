@@ -14,9 +14,6 @@ use sc_model::{Event, Step, every_run};
 use sc_owned::Parts;
 use std::alloc::Global;
 
-/// More free tokens than this cannot be told of. A drive would need as many steps to come there.
-const MOST_TOKENS: u64 = 0xffff_ffff_ffff_fff0;
-
 /// What a connection came to.
 fn driven_conn(conn: Conn) -> DrivenConn
     ensures end { end_of result.end ≡ line_end conn }
@@ -45,6 +42,7 @@ fn finish(alloc: Global, driver: Driver) -> Result<Driven, NoMemory>
     ensures trace { IfOk result (λ driven. driven.trace ≡ driver.events.items) }
     ensures ends { IfOk result (λ driven. map (λ c. end_of c.end) driven.conns ≡ map line_end driver.conns.items) }
     ensures sent { IfOk result (λ driven. map (λ c. c.sent) driven.conns ≡ map (λ l. l.out) driver.conns.items) }
+    ensures background { IfOk result (λ driven. driven.background ≡ []) }
 {
     let Driver { conns, events } = driver;
     let trace = Items::from_vec(events);
@@ -64,6 +62,7 @@ fn if_driven(
 ) -> Result<Driven, NoMemory>
     ensures trace { IfOk result (λ driven. driven.trace ≡ trace) }
     ensures conns { IfOk result (λ driven. conns ≡ Ok driven.conns) }
+    ensures background { IfOk result (λ driven. driven.background ≡ []) }
 {
     match conns {
         Ok(conns) => Ok(Driven {
@@ -85,14 +84,13 @@ fn all_steps<P: Parts>(
     inputs: &[ByteText],
     steps: &[Step],
 ) -> Result<Driver, NoMemory>
-    requires { daemon.old.state.told ≡ true }
+    requires idle { daemon.old.free ≡ daemon.old.state.config.tokens }
+    requires told { daemon.old.state.told ≡ true }
     ensures { IfOk result (λ driver. Progress daemon.old daemon.new inputs.now steps.now [] driver.events.items driver.conns.items) }
 {
+    every_run();
     let mut driver = Driver::new(alloc, inputs.len(), daemon.limit())?;
     for step in steps {
-        if daemon.free() > MOST_TOKENS {
-            return Err(NoMemory);
-        }
         driver.step(alloc, daemon, inputs, step)?;
     }
     Ok(driver)

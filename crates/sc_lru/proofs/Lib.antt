@@ -6,6 +6,8 @@ pub mod Pairs
 pub mod Steps
 pub mod Walks
 pub mod Windows
+pub mod Places
+pub mod Rests
 pub mod Shown
 pub mod DryRuns
 pub mod Shifts

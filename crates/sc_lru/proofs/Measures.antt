@@ -8,7 +8,7 @@ use Rattle.std.specs.List.{sum_by}
 use Rattle.sc_lru.specs.LruCache.{total, suffix_within, inserted, inserted_all, Extends, KeepsParts, LruCache}
 use native.Mathlib.Decide.{dec_lt}
 use Rattle.std.specs.Option.{option_map_or}
-use Rattle.sc_lru.specs.Order.{touched}
+use Rattle.sc_lru.specs.Order.{touched, written_at}
 
 module _ {K V : Type 0} (measure : K → V → ℕ) where
   abbrev weigh : K × V → ℕ
@@ -96,6 +96,13 @@ module _ {K V : Type 0} (measure : K → V → ℕ) where
     | true ↦ let m = same e.0 w e.1 in omega (arith, m, total-cons (e.0, w) es, total-cons e es)
     | false ↦ let on = total-set_value same test es w in omega (arith, on, total-cons e es, total-cons e (set_value test es w))
   ]
+
+  pub total-written_at : ((k : K) (v w : V) → measure k v ≡ measure k w) → (eq : K → K → Bool) (es : List (K × V)) (ks : List K) (p : ℕ) (w : V) → total measure (written_at eq es ks p w) ≡ total measure es
+  total-written_at same eq es ks p w = by_key (slice_get ks p)
+    where
+      by_key : (o : Option K) → total measure (option_map_or (λ k. set_value (eq k) es w) o es) ≡ total measure es
+      by_key None = refl
+      by_key (Some k) = total-set_value same (eq k) es w
 
   pub inserted_all_push : (eq : K → K → Bool) (n : ℕ) (es xs : List (K × V)) (x : K × V) → inserted_all measure eq n es (xs ++ x ∷ []) ≡ inserted measure (eq x.0) n (inserted_all measure eq n es xs) x.0 x.1
   inserted_all_push eq n es [] x = refl

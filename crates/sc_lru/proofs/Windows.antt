@@ -16,7 +16,7 @@ length-chase : (n : ℕ) (f : ℕ → ℕ) (a : ℕ) → length (chase n f a) �
 length-chase zero f a = refl
 length-chase (suc n) f a = let on = length-chase n f (f a) in omega arith
 
-walk_left : (f : ℕ → ℕ) (a : ℕ) (xs ys : List ℕ) → Walk f a (xs ++ ys) → Walk f a xs
+pub walk_left : (f : ℕ → ℕ) (a : ℕ) (xs ys : List ℕ) → Walk f a (xs ++ ys) → Walk f a xs
 walk_left f a [] ys w = tt
 walk_left f a (x ∷ xs) ys w = (w.0, walk_left f (f x) xs ys w.1)
 

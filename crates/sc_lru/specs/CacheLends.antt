@@ -1,6 +1,6 @@
 -- What a cache ends as, once a reference into it has ended.
-use Rattle.std.specs.Prelude.{◌≡◌, Bool, List, Option, ⊤}
-use Rattle.std.specs.Borrow.{Fml, RattleType, MutBor, LendsIf, follows_so}
+use Rattle.std.specs.Prelude.{◌≡◌, ℕ, Bool, List, Option, ⊤}
+use Rattle.std.specs.Borrow.{Fml, RattleType, MutBor, Lends, LendsIf, follows_so}
 use Rattle.std.specs.HashMap.Lent.{HashMembers}
 use Rattle.std.specs.Map.{set_value}
 use Rattle.std.specs.declared.hash.Hasher as hasher
@@ -8,6 +8,7 @@ use Rattle.std.specs.declared.hash.BuildHasher as builder
 use mathlib.Core.Option.{none}
 use Rattle.sc_lru.specs.declared.meter.Meter as metering
 use Rattle.sc_lru.specs.LruCache.{LruCache, with_entries}
+use Rattle.sc_lru.specs.Order.{written_at}
 use Rattle.sc_lru.specs.contracts.meter.Count.{the_row as count_row}
 use Rattle.sc_lru.specs.contracts.cache.LruCache.{the_row}
 
@@ -30,3 +31,7 @@ module _ (K V S H : RattleType) (key : HashMembers K.Denot) (build : builder.Gho
     -- it has the pairs es, with the last value written through r at the key that passes, and at `None` it stays as it is
     abbrev pub lends_value : (K.Denot → Bool) → List (K.Denot × V.Denot) → Option (MutBor V.Denot) → Fml
     lends_value test es r = LendsIf counting_row V c r (λ w. with_entries c.now (set_value test es w)) c.now
+
+    -- it has the last value written through r at the key of position i
+    abbrev pub lends_pair : ℕ → MutBor V.Denot → Fml
+    lends_pair i r = Lends counting_row V c r (λ w. with_entries c.now (written_at key.eq c.now.entries c.now.slots i w))

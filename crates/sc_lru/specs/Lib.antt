@@ -5,3 +5,4 @@ pub mod Linked
 pub mod CacheLends
 pub mod NodeLends
 pub mod DryRun
+pub mod IterMut

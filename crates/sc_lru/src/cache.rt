@@ -1,12 +1,13 @@
 //! `LruCache`. A clause sees a cache as its `entries`, the least recently used first, its `slots`, which are its keys by position,
 //! its `capacity`, its `meter`, its `hasher`, and its `spare`, the number of inserts that can't fail.
-ghost use Rattle.std.specs.Prelude.{◌≡◌, ◌+◌, ◌<◌, ◌≤◌, ◌↔◌, ◌∷◌, ◌++◌, [], None, length, drop, is_some, position, slice_get, option_copied, option_map, IfErr, IfNone, IfOk, IsOk, IsTrue, OnErr, OnOk};
+ghost use Rattle.std.specs.Prelude.{◌≡◌, ℕ, ◌+◌, ◌-◌, ◌<◌, ◌≤◌, ◌↔◌, ◌∷◌, ◌++◌, [], None, Some, length, drop, is_some, position, slice_get, option_copied, option_map, IfErr, IfNone, IfOk, IfSome, IsOk, IsTrue, OnErr, OnOk};
 ghost use Rattle.std.specs.List.{IsDistinct};
 ghost use Rattle.std.specs.Map.{keys_of, lookup, lookup_entry, remove_entry};
 ghost use Rattle.std.specs.Option.{option_copied_mut};
 ghost use Rattle.std.specs.Map.Iter.{deref_pair, ShowsInOrder, ShowsInReverse};
 ghost use Rattle.sc_lru.specs.LruCache.{inserted, suffix_within, total, with_entries, HasParts, IsUnchanged, KeepsParts};
-ghost use Rattle.sc_lru.specs.Order.{touched, vacated};
+ghost use Rattle.sc_lru.specs.Order.{position_at, touched, vacated, vacated_first, written_at, IsPosition};
+ghost use Rattle.indexmap.specs.IndexMap.{set_value_at};
 
 use crate::iter::Iter;
 use crate::linked::Order;
@@ -96,6 +97,7 @@ impl<K: Eq + Hash, V, S: BuildHasher, M: Meter<K, V>> LruCache<K, V, S, M> {
     /// The number of pairs.
     pub fn len(&self) -> usize
         ensures len { result ≡ length self.now.entries }
+        ensures slots { result ≡ length self.now.slots }
         ensures distinct { IsDistinct K.eq (keys_of self.now.entries) }
     {
         self.order.len()
@@ -137,6 +139,7 @@ impl<K: Eq + Hash, V, S: BuildHasher, M: Meter<K, V>> LruCache<K, V, S, M> {
     pub fn position_of(&self, key: &K) -> Option<usize>
         ensures position { result ≡ position (K.eq key.now) self.now.slots }
         ensures found { is_some result ≡ is_some (lookup (K.eq key.now) self.now.entries) }
+        ensures within { IfSome result (λ at. at < length self.now.entries) }
     {
         self.order.position_of(key)
     }
@@ -216,6 +219,7 @@ impl<K: Eq + Hash, V, S: BuildHasher, M: Meter<K, V>> LruCache<K, V, S, M> {
     pub fn remove_lru(&mut self) -> Option<(K, V)>
         ensures value { result ≡ slice_get self.old.entries 0 }
         ensures entries { self.new.entries ≡ drop 1 self.old.entries }
+        ensures slots { self.new.slots ≡ vacated_first K.eq self.old.entries self.old.slots }
         ensures missing { IfNone result (self.new ≡ self.old) }
         ensures spare { self.old.spare ≤ self.new.spare }
         ensures parts { KeepsParts self.old self.new }
@@ -247,6 +251,7 @@ impl<K: Eq + Hash + Drop, V: Drop, S: BuildHasher, M: Meter<K, V>> LruCache<K, V
     /// Takes all pairs out.
     pub fn clear(&mut self)
         ensures empty { self.new.entries ≡ [] }
+        ensures slots { self.new.slots ≡ [] }
         ensures spare { self.old.spare ≤ self.new.spare }
         ensures parts { KeepsParts self.old self.new }
     {
@@ -329,7 +334,7 @@ impl<K: Eq + Hash + Drop, V: Drop, S: BuildHasher, M: Meter<K, V>> LruCache<K, V
 
 impl<K: Eq + Hash, V, S: BuildHasher> LruCache<K, V, S, Count> {
     ghost use Rattle.std.specs.Borrow.{sem};
-    ghost use Rattle.sc_lru.specs.CacheLends.{lends_value};
+    ghost use Rattle.sc_lru.specs.CacheLends.{lends_pair, lends_value};
 
     /// The key's value to write. Its pair becomes the most recently used, at the same position.
     pub fn get_mut(&mut self, key: &K) -> Option<&mut V>
@@ -337,5 +342,39 @@ impl<K: Eq + Hash, V, S: BuildHasher> LruCache<K, V, S, Count> {
         ensures value { option_copied_mut result ≡ lookup (K.eq key.now) self.old.entries }
     {
         self.order.get_mut(key)
+    }
+
+    // The positions of the first pair and of the last.
+    pub(crate) fn ends(&self) -> (usize, usize)
+        ensures first { result.0 ≡ position_at K.eq self.now.entries self.now.slots 0 }
+        ensures last { result.1 ≡ position_at K.eq self.now.entries self.now.slots (length self.now.entries - 1) }
+    {
+        self.order.ends()
+    }
+
+    // The position of the pair behind the one at `at`, and 0 behind the last.
+    pub(crate) fn position_after(&self, at: usize) -> usize
+        requires { IsPosition K.eq self.now.entries self.now.slots at }
+        ensures { (i : ℕ) → i < length self.now.entries → at ≡ position_at K.eq self.now.entries self.now.slots i → result ≡ position_at K.eq self.now.entries self.now.slots (i + 1) }
+    {
+        self.order.position_after(at)
+    }
+
+    // The position of the pair before the one at `at`, and that one's before the first.
+    pub(crate) fn position_before(&self, at: usize) -> usize
+        requires { IsPosition K.eq self.now.entries self.now.slots at }
+        ensures { (i : ℕ) → i < length self.now.entries → at ≡ position_at K.eq self.now.entries self.now.slots i → result ≡ position_at K.eq self.now.entries self.now.slots (i - 1) }
+    {
+        self.order.position_before(at)
+    }
+
+    // The pair at a position, whose value can be written. The order stays.
+    pub(crate) fn pair_mut(&mut self, at: usize) -> (&K, &mut V)
+        requires { IsPosition K.eq self.old.entries self.old.slots at }
+        ensures* writes_back { sem 𝓛 (lends_pair K.row V.row S.row S.Hasher.row K.Hash S.BuildHasher S.Hasher.Hasher self.entry at result.1) }
+        ensures pair { (i : ℕ) → i < length self.old.entries → at ≡ position_at K.eq self.old.entries self.old.slots i → slice_get self.old.entries i ≡ Some (result.0.now, result.1.now) }
+        ensures written { (i : ℕ) → i < length self.old.entries → at ≡ position_at K.eq self.old.entries self.old.slots i → (w : V) → written_at K.eq self.old.entries self.old.slots at w ≡ set_value_at self.old.entries i w }
+    {
+        self.order.pair_mut(at)
     }
 }

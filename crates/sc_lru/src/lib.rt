@@ -7,6 +7,7 @@ mod debug;
 mod extend;
 mod into_iter;
 mod iter;
+mod iter_mut;
 mod linked;
 mod links;
 mod meter;
@@ -16,6 +17,7 @@ pub use cache::{DefaultHasher, LruCache};
 pub use capacity_report::{DryLine, Use, dry_run};
 pub use into_iter::IntoIter;
 pub use iter::Iter;
+pub use iter_mut::IterMut;
 pub use meter::{Count, Meter};
 
 #[cfg(test)]

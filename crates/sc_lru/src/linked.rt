@@ -1,10 +1,11 @@
 //! An order of use whose pairs are linked by their positions: a use changes links alone.
-ghost use Rattle.std.specs.Prelude.{◌≡◌, ◌+◌, ◌<◌, ◌≤◌, [], ◌∷◌, ◌++◌, None, length, drop, is_some, position, slice_get, option_copied, IfNone, OnOk, IsOk};
+ghost use Rattle.std.specs.Prelude.{◌≡◌, ℕ, ◌+◌, ◌-◌, ◌<◌, ◌≤◌, [], ◌∷◌, ◌++◌, None, Some, length, drop, is_some, position, slice_get, option_copied, IfNone, IfSome, OnOk, IsOk};
 ghost use Rattle.std.specs.List.{IsDistinct};
 ghost use Rattle.std.specs.Map.{keys_of, lookup, lookup_entry, remove_entry};
 ghost use Rattle.std.specs.Option.{option_copied_mut, option_map};
 ghost use Rattle.std.specs.Map.Iter.{deref_pair, TakesLast};
-ghost use Rattle.sc_lru.specs.Order.{touched, vacated, with_entries, KeepsRoom};
+ghost use Rattle.sc_lru.specs.Order.{position_at, touched, vacated, vacated_first, with_entries, written_at, IsPosition, KeepsRoom};
+ghost use Rattle.indexmap.specs.IndexMap.{set_value_at};
 
 use crate::iter::Iter;
 use crate::links::{link, move_last, take};
@@ -55,6 +56,7 @@ impl<K: Eq + Hash, V, S: BuildHasher> Order<K, V, S> {
     /// The number of pairs.
     pub fn len(&self) -> usize
         ensures len { result ≡ length self.now.entries }
+        ensures slots { result ≡ length self.now.slots }
         ensures distinct { IsDistinct K.eq (keys_of self.now.entries) }
     {
         let _ = &self.first;
@@ -72,6 +74,7 @@ impl<K: Eq + Hash, V, S: BuildHasher> Order<K, V, S> {
     pub fn position_of(&self, key: &K) -> Option<usize>
         ensures position { result ≡ position (K.eq key.now) self.now.slots }
         ensures found { is_some result ≡ is_some (lookup (K.eq key.now) self.now.entries) }
+        ensures within { IfSome result (λ at. at < length self.now.entries) }
     {
         self.map.get_index_of(key)
     }
@@ -115,10 +118,11 @@ impl<K: Eq + Hash, V, S: BuildHasher> Order<K, V, S> {
         Some((key, value))
     }
 
-    /// Takes the first pair out.
+    /// Takes the first pair out. The pair at the last position comes to its position.
     pub fn pop_first(&mut self) -> Option<(K, V)>
         ensures value { result ≡ slice_get self.old.entries 0 }
         ensures entries { self.new.entries ≡ drop 1 self.old.entries }
+        ensures slots { self.new.slots ≡ vacated_first K.eq self.old.entries self.old.slots }
         ensures missing { IfNone result (self.new ≡ self.old) }
         ensures room { KeepsRoom self.old self.new }
     {
@@ -158,6 +162,40 @@ impl<K: Eq + Hash, V, S: BuildHasher> Order<K, V, S> {
         }
     }
 
+    /// The positions of the first pair and of the last.
+    pub fn ends(&self) -> (usize, usize)
+        ensures first { result.0 ≡ position_at K.eq self.now.entries self.now.slots 0 }
+        ensures last { result.1 ≡ position_at K.eq self.now.entries self.now.slots (length self.now.entries - 1) }
+    {
+        let (first, last) = (self.first, self.last);
+        if self.map.len() == 0 {
+            return (0, 0);
+        }
+        (first, last)
+    }
+
+    /// The position of the pair behind the one at `at`, and 0 behind the last.
+    pub fn position_after(&self, at: usize) -> usize
+        requires { IsPosition K.eq self.now.entries self.now.slots at }
+        ensures { (i : ℕ) → i < length self.now.entries → at ≡ position_at K.eq self.now.entries self.now.slots i → result ≡ position_at K.eq self.now.entries self.now.slots (i + 1) }
+    {
+        if at == self.last {
+            return 0;
+        }
+        self.map[at].after
+    }
+
+    /// The position of the pair before the one at `at`, and that one's before the first.
+    pub fn position_before(&self, at: usize) -> usize
+        requires { IsPosition K.eq self.now.entries self.now.slots at }
+        ensures { (i : ℕ) → i < length self.now.entries → at ≡ position_at K.eq self.now.entries self.now.slots i → result ≡ position_at K.eq self.now.entries self.now.slots (i - 1) }
+    {
+        if at == self.first {
+            return at;
+        }
+        self.map[at].before
+    }
+
     /// Makes room for more pairs.
     pub fn reserve(&mut self, additional: usize) -> Result<(), AllocError>
         ensures entries { self.new.entries ≡ self.old.entries }
@@ -175,6 +213,7 @@ impl<K: Eq + Hash, V, S: BuildHasher> Order<K, V, S> {
         K: Drop,
         V: Drop,
         ensures empty { self.new.entries ≡ [] }
+        ensures slots { self.new.slots ≡ [] }
         ensures room { KeepsRoom self.old self.new }
     {
         self.map.clear();
@@ -212,7 +251,7 @@ impl<K: Eq + Hash + Drop, V: Drop, S: BuildHasher> Order<K, V, S> {
 
 impl<K: Eq + Hash, V, S: BuildHasher> Order<K, V, S> {
     ghost use Rattle.std.specs.Borrow.{sem};
-    ghost use Rattle.sc_lru.specs.Lends.{ends_as, lends_value};
+    ghost use Rattle.sc_lru.specs.Lends.{ends_as, lends_pair, lends_value};
 
     /// The key's value. Its pair becomes the last.
     pub fn get(&mut self, key: &K) -> Option<&V>
@@ -238,5 +277,16 @@ impl<K: Eq + Hash, V, S: BuildHasher> Order<K, V, S> {
         self.first = move_last(&mut self.map, self.first, self.last, at);
         self.last = at;
         Some(self.map[at].value_mut())
+    }
+
+    /// The pair at a position, whose value can be written. The order stays.
+    pub fn pair_mut(&mut self, at: usize) -> (&K, &mut V)
+        requires { IsPosition K.eq self.old.entries self.old.slots at }
+        ensures* writes_back { sem 𝓛 (lends_pair K.row V.row S.row S.Hasher.row K.Hash S.BuildHasher S.Hasher.Hasher self.entry at result.1) }
+        ensures pair { (i : ℕ) → i < length self.old.entries → at ≡ position_at K.eq self.old.entries self.old.slots i → slice_get self.old.entries i ≡ Some (result.0.now, result.1.now) }
+        ensures written { (i : ℕ) → i < length self.old.entries → at ≡ position_at K.eq self.old.entries self.old.slots i → (w : V) → written_at K.eq self.old.entries self.old.slots at w ≡ set_value_at self.old.entries i w }
+    {
+        let (key, node) = self.map.pair_mut(at);
+        (key, node.value_mut())
     }
 }

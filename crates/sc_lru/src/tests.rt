@@ -305,6 +305,18 @@ impl Bodies {
             self.list.as_slice()
         );
         assert_eq!(rt; self.linked.len(), self.list.len());
+        let sum = self
+            .list
+            .iter()
+            .fold(0u64, |sum, pair| sum.saturating_add(pair.1));
+        assert_eq!(rt; self.linked.size(), sum);
+        let first = self.linked.peek_lru().map(|pair| (*pair.0, *pair.1));
+        assert_eq!(rt; first, self.list.first().copied());
+        let last = self.linked.iter().next_back();
+        assert_eq!(rt;
+            last.map(|pair| (*pair.0, *pair.1)),
+            self.list.last().copied()
+        );
         let mut at = 0usize;
         for (key, value) in self.shifted.iter() {
             assert_eq!(rt; self.list.get(at).copied(), Some((*key, *value)));

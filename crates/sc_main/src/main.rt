@@ -2,11 +2,22 @@
 #![tactic(auto)]
 
 use sc_entry::{ByteText, NoMemory, ReaderSource, WriterSink};
-use sc_report::{Ended, exit_code};
-use sc_run::run;
+use sc_run::{Ended, Outside, exit_code, run};
 use std::alloc::Global;
 use std::env;
 use std::process::ExitCode;
+
+/// The process's own parts.
+#[derive(Drop)]
+struct Process {
+    alloc: Global,
+}
+
+impl Outside for Process {
+    fn alloc(&self) -> Global {
+        self.alloc
+    }
+}
 
 /// The words, the program's name first.
 fn words_in(alloc: Global, args: env::Args) -> Result<Vec<ByteText>, NoMemory> {
@@ -30,12 +41,19 @@ fn main(rt: HostRuntime) -> ExitCode {
     let mut input = ReaderSource::new(rt.stdin());
     let mut out = WriterSink::new(rt.stdout());
     let mut err = WriterSink::new(rt.stderr());
+    let mut outside = Process { alloc };
     let words = match env::args(&rt) {
         Ok(args) => words_in(alloc, args),
         Err(_) => Ok(Vec::new(alloc)),
     };
     let ended = match words {
-        Ok(words) => run(alloc, behind_name(&words), &mut input, &mut out, &mut err),
+        Ok(words) => run(
+            behind_name(&words),
+            &mut input,
+            &mut out,
+            &mut err,
+            &mut outside,
+        ),
         Err(_) => Ended::NoMemory,
     };
     ExitCode::from(exit_code(&ended))

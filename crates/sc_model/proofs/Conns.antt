@@ -1,5 +1,5 @@
 -- One connection: its requests one after the other.
-use Rattle.std.proofs.Common.{◌≡◌, ℕ, zero, suc, ◌+◌, ◌<◌, ◌≤◌, ◌⊎◌, ⊎_elim, cond, List, [], ◌∷◌, ◌++◌, length, take, drop, refl, sym, ap, ◌∙◌, subst, arith, append_assoc, length-append, get_or}
+use Rattle.std.proofs.Common.{◌≡◌, ℕ, zero, suc, ◌<◌, ◌≤◌, ◌⊎◌, ⊎_elim, cond, List, [], ◌∷◌, ◌++◌, length, take, drop, refl, sym, ap, ◌∙◌, subst, arith, append_assoc, length-append, get_or}
 use Rattle.sc_model.specs.declared.message.Response.{Response}
 use Rattle.sc_model.proofs.Keeping.{Ties, ties_new, ties_step}
 use Rattle.sc_model.proofs.Owed.{frames_are, owed}
@@ -11,7 +11,7 @@ use Rattle.sc_model.specs.Machine.{Conn, advanced, after, current, due_at, long_
 use Rattle.sc_model.specs.Next.{IsFirst, due_of}
 use Rattle.sc_model.specs.Rows.{last_at, outcome_at, reserved_since}
 use Rattle.sc_model.specs.Script.{ReadsOn, Script, Setup, input}
-use Rattle.sc_model.specs.Trace.{frame_bytes, frame_of, Came, Did, Mine, Shut, came, is_closed, no_request, owned, request, sent, sent_by, sent_of, taken, too_long}
+use Rattle.sc_model.specs.Trace.{frame_bytes, frame_of, Came, Did, Mine, Shut, is_closed, no_request, owned, request, sent, sent_by, sent_of, taken, too_long}
 use Rattle.sc_model.specs.declared.event.What.{What}
 use Rattle.sc_model.specs.declared.event.What.TheVariants.{Outcome, Reserved, TooLong}
 use Rattle.sc_model.specs.declared.event.Written.TheVariants.{Done as WriteDone, Refused as WriteRefused}

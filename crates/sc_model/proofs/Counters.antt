@@ -1,5 +1,5 @@
 -- Level counters: what the code counts is the sum of the rows.
-use Rattle.std.proofs.Common.{◌≡◌, ℕ, zero, suc, ◌<◌, ◌≤◌, ◌⊎◌, ⊎_elim, Bool, true, false, cond, ◌&&◌, eqb, List, [], ◌∷◌, length, Option, Some, None, refl, sym, ap, ◌∙◌, arith, get_or, set, get_or-set_same, get_or-set_other, nat_lt}
+use Rattle.std.proofs.Common.{◌≡◌, ℕ, zero, suc, ◌<◌, ◌≤◌, ⊎_elim, Bool, true, false, cond, ◌&&◌, eqb, List, [], ◌∷◌, length, Option, Some, None, refl, sym, ap, ◌∙◌, arith, get_or, set, get_or-set_same, get_or-set_other, nat_lt}
 use Rattle.sc_model.proofs.Backs.{IsWrite}
 use Rattle.sc_model.specs.Machine.{counted_at, counted_level}
 use Rattle.sc_model.specs.Rows.{by_backfill, is_at, level_named, level_row}

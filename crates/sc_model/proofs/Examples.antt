@@ -1,7 +1,7 @@
 -- Worked rows, event by event, computed.
 use Rattle.std.proofs.Common.{◌≡◌, ℕ, zero, suc, Bool, true, false, List, [], ◌∷◌, length, Option, Some, None, refl, arith, pos, codes}
 use Rattle.sc_model.specs.Follows.{Lawful, Over, ToDist, ToEnd, ToFinish, ToKey, ToPlace, ToTake, due}
-use Rattle.sc_model.specs.Job.{At, Own, retcode, signal}
+use Rattle.sc_model.specs.Job.{At, Own}
 use Rattle.sc_model.specs.Plan.{backfilled, background, goes_on, plan}
 use Rattle.sc_model.specs.Rows.{total}
 use Rattle.sc_model.specs.Script.{IsOpen, Script, Setup, no_task}

@@ -327,12 +327,11 @@ module _ (s : Setup) where
   pub ties_step : (r : Request) (own : List Own) (p : Phase) (m : ℕ) (x : What) → Ties r own p → Fits s r (due_at s r p) x → Ties r (At m x ∷ own) (after s r p m x)
   ties_step r own p m x t f = record { is_due = due_step s r own p m x t.is_due t.keeps f; keeps = keeps_step r own p m x t.keeps f; lawful = (ties_fits r own p x t f, t.lawful) }
 
-  pub phase_of : Request → List Own → Phase
+  abbrev pub phase_of : Request → List Own → Phase
   phase_of r [] = AtBegin
   phase_of r (At m x ∷ own) = after s r (phase_of r own) m x
 
   pub lawful_ties : (r : Request) (own : List Own) → Lawful s r own → Ties r own (phase_of r own)
-  unfolding phase_of
   lawful_ties r [] l = ties_new r
   lawful_ties r (At m x ∷ own) l =
       let t = lawful_ties r own l.1 in

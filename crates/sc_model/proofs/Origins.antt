@@ -1,5 +1,5 @@
 -- What levels hold and what is handed on is rightful.
-use Rattle.std.proofs.Common.{◌≡◌, ℕ, zero, suc, ◌+◌, ◌⊎◌, ⊎_elim, inl, inr, Bool, true, false, cond, eqb, List, [], ◌∷◌, ◌++◌, length, Some, refl, sym, ap, ◌∙◌, subst, get_or, set}
+use Rattle.std.proofs.Common.{◌≡◌, ℕ, zero, suc, ◌⊎◌, ⊎_elim, inl, inr, Bool, true, false, cond, eqb, List, [], ◌∷◌, ◌++◌, length, Some, refl, sym, ap, ◌∙◌, subst, get_or, set}
 use Rattle.sc_model.proofs.Claims.{next_fits}
 use Rattle.sc_model.proofs.Entries.{PutsAt, keeps_held, level_held}
 use Rattle.sc_model.proofs.Keeping.{lawful_ties, phase_of}

@@ -1,7 +1,8 @@
 -- The headline holds of every run of the machine.
-use Rattle.std.proofs.Common.{◌≡◌, ℕ, ◌+◌, List, [], ◌∷◌, ◌++◌, length, refl, sym, ap, ◌∙◌, subst, arith, get_or, Bool, true, false, cond}
+use Rattle.std.proofs.Common.{◌≡◌, ℕ, List, [], ◌∷◌, length, map, refl, sym, ap, ◌∙◌, subst, arith, get_or, false, cond}
 use Rattle.sc_entry.specs.Causes.{IfTold}
 use Rattle.sc_model.proofs.Backs.{BackTie, IsWrite, back_new, pending_writes}
+use Rattle.sc_model.proofs.Bounds.{few_events}
 use Rattle.sc_model.proofs.Claims.{get_map, lawful_finishes, lawful_notes, next_fits}
 use Rattle.sc_model.proofs.Conns.{ConnTie, conn_new, conn_prefix, current_is}
 use Rattle.sc_model.proofs.Machines.{Tie, tie_step}
@@ -11,12 +12,10 @@ use Rattle.sc_model.proofs.Steps.{start_is}
 use Rattle.sc_model.specs.Follows.{Fits, Lawful, kind_at}
 use Rattle.sc_model.specs.Headline.{Begins_in_order, BytesWithin, Each, Finishes, Headline, IsFinished, IsInOrder, IsRightful, IsStoredFirst, RunsWithin, StoresBefore}
 use Rattle.sc_model.specs.Job.{Own}
-use Rattle.sc_model.specs.Machine.{Conn, Does, DoesBack, DoesPass, DoesRead, DoesServe, DoesStep, IsIdle, Machine, Runs, conn, due_at, end_at, need_at, new_conn, result_of_run, shown_levels}
+use Rattle.sc_model.specs.Machine.{Conn, Does, DoesBack, DoesPass, DoesRead, DoesServe, DoesStep, IsIdle, Machine, Runs, conn, due_at, end_at, given_of, need_at, new_conn, result_of_run, shown_levels}
 use Rattle.sc_model.specs.Next.{Leads, NextStep, at_moment, ticked}
-use Rattle.sc_model.specs.Plan.{background}
 use Rattle.sc_model.specs.Script.{IsOpen, ReadsOn, Script, input, is_single}
-use Rattle.sc_entry.specs.Tally.{counted}
-use Rattle.sc_model.specs.Trace.{about, all, if_too_long, no_request, own_of, owned, request, request_of, reservations, reserved_at, taken, too_long, written}
+use Rattle.sc_model.specs.Trace.{Given, about, all, if_too_long, no_request, own_of, owned, request, request_of, reservations, reserved_at, taken, too_long, written}
 use Rattle.sc_model.specs.World.{and_one, IsWithinBytes, Moves, MovesPlaced, Need, World, first_missing, need_of, placed_of}
 use Rattle.sc_model.specs.declared.event.Event.{Event}
 use Rattle.sc_model.specs.declared.level.LevelFacts.{LevelFacts}
@@ -35,6 +34,7 @@ use Rattle.sc_model.specs.declared.event.What.TheVariants.{Closed, Idle, Keyed, 
 use Rattle.sc_model.specs.declared.message.Request.{Request}
 use Rattle.sc_model.specs.declared.message.Response.TheVariants.{ArtifactNotification as Note, CompileFinished as Finished}
 use Rattle.sc_model.specs.declared.phase.Job.{Job}
+use Rattle.sc_model.specs.declared.phase.Pending.{Pending}
 use Rattle.sc_model.specs.declared.phase.Phase.{Phase}
 use Rattle.sc_model.specs.declared.phase.Phase.TheVariants.{AtPlace, AtRun, AtWrite, PrePut}
 use Rattle.sc_stats.specs.Sums.{no_level_stats, sat}
@@ -46,6 +46,10 @@ shown_is (Levels ps) ls e = refl
 shown_count : (p : Policy) (ls : List LevelStats) (fs : List LevelFacts) → length ls ≡ length fs → length (shown_levels p ls) ≡ cond (is_single p) 0 (length fs)
 shown_count Single ls fs e = refl
 shown_count (Levels ps) ls fs e = e
+
+handed_same : (ps : List Pending) → map (λ (p : Pending). p.handed) ps ≡ map (λ (g : Given). g.handed) (map given_of ps)
+handed_same [] = refl
+handed_same (p ∷ ps) = ap (λ v. p.handed ∷ v) (handed_same ps)
 
 module _ (s : Script) where
   module _ (t : List Event) (lawful : (c n : ℕ) → Lawful s.setup (request (all s c) n) (owned n (about c t))) (p : Step) where
@@ -230,5 +234,7 @@ module _ (s : Script) where
         runs_within = g.within;
         counted = g.tie.stats;
         levels_counted = λ p l q. ap (λ v. get_or v l no_level_stats) (shown_is s.setup.policy m.level_stats p) ∙ g.tie.levels.is p l;
-        background = g.tie.back.same;
+        tokens = g.tie.tokens;
+        own_events = λ c n. few_events s.setup i.one_level (request (all s c) n) (owned n (about c t)) ((g.tie.conns c).holds.lawful n);
+        background = handed_same m.background ∙ ap (map (λ (v : Given). v.handed)) g.tie.back.same;
       }

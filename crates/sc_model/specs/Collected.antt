@@ -1,5 +1,5 @@
 -- Objects that a run hands back: what an entry may hold besides both streams.
-use Rattle.std.specs.Prelude.{◌≡◌, ℕ, ◌<◌, false, List, [], ◌∷◌, ◌++◌, length, codes, None}
+use Rattle.std.specs.Prelude.{◌≡◌, ◌<◌, false, List, [], ◌∷◌, ◌++◌, length, codes, None}
 use Rattle.sc_entry.specs.Entries.{has_name}
 use Rattle.sc_entry.specs.EntryAnswers.{put_refusal}
 use Rattle.sc_entry.specs.declared.object.Object.{Object}

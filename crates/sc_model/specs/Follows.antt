@@ -1,5 +1,5 @@
 -- What follows what, for one request or one handed write, read off its own events.
-use Rattle.std.specs.Prelude.{◌≡◌, ℕ, zero, suc, ◌+◌, ◌-◌, ◌^◌, min, ◌<◌, ◌≤◌, Bool, true, false, ◌&&◌, not, if◌then◌else◌, List, [], ◌∷◌, ◌++◌, length, drop, Option, Some, None, Ok, Err, codes, IsTrue, nat_lt}
+use Rattle.std.specs.Prelude.{◌≡◌, ℕ, zero, suc, ◌-◌, ◌<◌, ◌≤◌, Bool, true, false, ◌&&◌, not, if◌then◌else◌, List, [], ◌∷◌, ◌++◌, length, drop, Option, Some, None, Ok, Err, codes, nat_lt}
 use Rattle.sc_entry.specs.Causes.{IfTold}
 use Rattle.sc_model.specs.Job.{At, Own, asked_at, bytes_of, dist_of, finish, is_late, job_of, judge, judged_verdict, miss_of, notes_of, over, put_bytes, refused, run_verdict, sized, stats_of, task_of, work_from}
 use Rattle.sc_model.specs.Plan.{backfills, cause_text, goes_on, handed_by, is_disk, is_none, level_facts, plan, pre_plan, pre_put_result, put_answer, put_result, reads_only}

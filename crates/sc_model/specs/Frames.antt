@@ -1,5 +1,5 @@
 -- The reply frames that a request is owed so far.
-use Rattle.std.specs.Prelude.{ℕ, suc, ◌+◌, Bool, true, false, if◌then◌else◌, List, [], ◌∷◌, ◌++◌, length, Some, None, Ok, Err, codes, nat_lt}
+use Rattle.std.specs.Prelude.{ℕ, suc, Bool, true, false, if◌then◌else◌, List, [], ◌∷◌, ◌++◌, length, Some, None, Ok, Err, codes, nat_lt}
 use Rattle.sc_model.specs.Follows.{is_disk_alone, left_pre, notes_then, server_info, stats_reply, with_size}
 use Rattle.sc_model.specs.Job.{At, Own, finish, notes_of, refused, sized, stats_of}
 use Rattle.sc_model.specs.Plan.{cause_text, pre_plan, pre_put_result, put_result}

@@ -1,5 +1,5 @@
 -- The headline, of a whole run.
-use Rattle.std.specs.Prelude.{if◌then◌else◌, ◌≡◌, ℕ, zero, suc, ◌+◌, ◌<◌, ◌≤◌, false, List, [], ◌∷◌, ◌++◌, length, slice_index_or, ◌⊎◌}
+use Rattle.std.specs.Prelude.{if◌then◌else◌, ◌≡◌, ℕ, zero, suc, ◌+◌, ◌*◌, ◌<◌, ◌≤◌, false, List, [], ◌∷◌, ◌++◌, length, map, slice_index_or, ◌⊎◌}
 use Rattle.sc_model.specs.Follows.{Over, left}
 use Rattle.sc_model.specs.Frames.{frames}
 use Rattle.sc_model.specs.Job.{At, Own, finish, finish_fatal, finish_hit, finish_http, finish_output, job_of}
@@ -7,7 +7,7 @@ use Rattle.sc_model.specs.Next.{Leads, due_of}
 use Rattle.sc_model.specs.Origin.{Origin}
 use Rattle.sc_model.specs.Rows.{level_total, total}
 use Rattle.sc_model.specs.Script.{End, IsOpen, Script, Setup, input, is_single}
-use Rattle.sc_model.specs.Trace.{frame_bytes, Given, Mine, about, all, came, end_of, left_writes, open_runs, owned, request, reservations, sent, taken}
+use Rattle.sc_model.specs.Trace.{frame_bytes, Mine, about, all, came, end_of, left_writes, open_runs, owned, request, reservations, sent, taken}
 use Rattle.sc_model.specs.World.{IsWithinBytes, World}
 use Rattle.sc_model.specs.declared.event.Answer.TheVariants.{Hit}
 use Rattle.sc_model.specs.declared.event.DistAnswer.TheVariants.{Done as DistDone, Http as DistHttp, TooLarge as DistTooLarge}
@@ -23,6 +23,7 @@ use Rattle.sc_model.specs.declared.event.Step.{Step}
 use Rattle.sc_model.specs.declared.event.Verdict.TheVariants.{CacheMiss}
 use Rattle.sc_model.specs.declared.event.What.{What}
 use Rattle.sc_model.specs.declared.event.What.TheVariants.{Asked, Dist, Keyed, Outcome, Placed, Ran, Sent, WriteEnded}
+use Rattle.sc_model.specs.declared.level.Handed.{Handed}
 use Rattle.sc_model.specs.declared.message.CompileFinished.{CompileFinished}
 use Rattle.sc_model.specs.declared.message.Request.{Request}
 use Rattle.sc_model.specs.declared.message.Response.{Response}
@@ -136,11 +137,22 @@ BytesWithin s start [] t end = Unit {0}
 BytesWithin s start (p ∷ ps) [] end = Unit {0}
 BytesWithin s start (p ∷ ps) (e ∷ t) end = IsWithinBytes s.setup (reservations (e ∷ t)) end × ((mid : World) × Leads s start ps t mid × BytesWithin s start ps t mid)
 
--- what the daemon counted and has left, and what each connection came to
+-- how many notifications a request was sent
+abbrev pub notes_sent : List Own → ℕ
+notes_sent [] = 0
+notes_sent (At m (Sent (Note line)) ∷ own) = suc (notes_sent own)
+notes_sent (_ ∷ own) = notes_sent own
+
+-- no request has more events than eleven, four for each level, and one for each notification
+abbrev pub AreFew : Setup → List Own → Type 0
+AreFew s own = length own ≤ 11 + 4 * length s.levels + notes_sent own
+
+-- what the daemon counted and has left, its free tokens, and what each connection came to
 pub record Result_of_run : Type 0 where
   pub stats : ServerStats
   pub level_stats : List LevelStats
-  pub background : List Given
+  pub background : List Handed
+  pub free : ℕ
   pub ends : List End
   -- the bytes that each connection was sent
   pub out : List (List ℕ)
@@ -166,9 +178,13 @@ pub record Headline (s : Script) (start : World) (steps : List Step) (t : List E
   pub stored_first : Each (IsStoredFirst s.setup) t
   pub bytes_within : BytesWithin s start steps t end
   pub runs_within : Each (RunsWithin s.setup) t
+  -- every token is free or an open run's
+  pub tokens : last.free + length (open_runs t) ≡ s.setup.tokens
+  -- so no request can be put off
+  pub own_events : (c n : ℕ) → AreFew s.setup (owned n (about c t))
   -- the counters are the sums of the rows
   pub counted : last.stats ≡ total s t
   pub levels_counted : is_single s.setup.policy ≡ false → (l : ℕ) → l < length s.setup.levels → slice_index_or last.level_stats l no_level_stats ≡ level_total s t l
   pub each_level : length last.level_stats ≡ counted_levels s.setup
   -- the writes handed and not done, in order
-  pub background : last.background ≡ left_writes t
+  pub background : last.background ≡ map (λ g. g.handed) (left_writes t)

@@ -1,5 +1,5 @@
 -- What a request's own events tell of its job, the newest event first.
-use Rattle.std.specs.Prelude.{ℕ, zero, suc, ◌+◌, ◌-◌, Bool, true, false, ◌==◌, if◌then◌else◌, List, [], ◌∷◌, ◌++◌, Option, Some, None, codes, bytes_eq, pos, negsuc, ℤ, nat_lt}
+use Rattle.std.specs.Prelude.{ℕ, zero, suc, ◌-◌, Bool, true, false, ◌==◌, if◌then◌else◌, List, [], ◌∷◌, ◌++◌, Option, Some, None, codes, pos, negsuc, ℤ, nat_lt}
 use Rattle.sc_entry.specs.Entries.{find_object}
 use Rattle.sc_entry.specs.EntryAnswers.{bytes_of as data_of, stream_object}
 use Rattle.sc_model.specs.Plan.{note}
@@ -48,9 +48,7 @@ use Rattle.sc_model.specs.declared.phase.Job.{Job}
 use Rattle.sc_model.specs.declared.phase.Refusal.{Refusal}
 use Rattle.sc_model.specs.declared.phase.Refusal.TheVariants.{NoneYet}
 use Rattle.sc_model.specs.declared.phase.Sized.{Sized}
-use Rattle.sc_stats.specs.declared.counters.PerLanguageCount.{PerLanguageCount}
 use Rattle.sc_stats.specs.declared.counters.ServerStats.{ServerStats}
-use Rattle.std.specs.FinMap.{empty as empty_map}
 use Rattle.sc_stats.specs.Sums.{no_stats}
 
 -- an event of the owner's own, with its moment

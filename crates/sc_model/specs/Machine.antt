@@ -6,7 +6,7 @@ use Rattle.sc_model.specs.Job.{IsStored, Judged, by_answer, finish_dist, finish_
 use Rattle.sc_model.specs.Next.{Ended, at_moment, ticked}
 use Rattle.sc_model.specs.Plan.{cause_text, goes_on, note, plan, pre_plan, put_result}
 use Rattle.sc_model.specs.Rows.{Direct, by_backfill, count, level_named, level_row, row, zeroes}
-use Rattle.sc_model.specs.Script.{BadFrame, Control, Default, End, ReadsOn, Script, Setup, control, counted_task, input}
+use Rattle.sc_model.specs.Script.{BadFrame, Control, Default, End, ReadsOn, Script, Setup, control, counted_task, input, is_single}
 use Rattle.sc_model.specs.Trace.{Given, Open, ends_write, hands, if_too_long, no_request, request, reserved_at, reserved_by, sent_by, frame_bytes}
 use Rattle.sc_model.specs.World.{IsWithinBytes, Moves, Need, World, keys_of, need_of, placed_of}
 use Rattle.sc_model.specs.declared.event.Answer.{Answer}
@@ -49,7 +49,6 @@ use Rattle.sc_model.specs.declared.message.CompileResponse.TheVariants.{CompileS
 use Rattle.sc_model.specs.declared.message.GetPathResult.TheVariants.{Found as PathFound, Miss as PathMiss, Unsupported as PathUnsupported}
 use Rattle.sc_model.specs.declared.message.Request.{Request}
 use Rattle.sc_model.specs.declared.message.Request.TheVariants.{Compile, DistStatus, GetStats, RecordStats, Shutdown, StorageGetPath as GetPath, StorageGetPreprocessorEntry as GetPre, StorageGetRaw as GetRaw, StorageHandshake as Handshake, StoragePutPreprocessorEntry as PutPre, StoragePutRaw as PutRaw, ZeroStats}
-use Rattle.sc_model.specs.declared.message.Response.{Response}
 use Rattle.sc_model.specs.declared.message.Response.TheVariants.{Compile as Answered, DistStatus as DistTold, RecordStats as Recorded, StorageGetPath as PathReply, StorageGetPreprocessorEntry as PreReply, StorageGetRaw as RawReply, StorageHandshake as Shaken, StoragePutPreprocessorEntry as PrePutReply, StoragePutRaw as PutReply, ZeroStats as Zeroed}
 use Rattle.sc_model.specs.declared.phase.Bytes.{Bytes}
 use Rattle.sc_model.specs.declared.phase.Ending.{Ending}
@@ -458,6 +457,10 @@ Runs s m0 (p ∷ ps) (e ∷ t) m2 = (m : Machine) × Runs s m0 ps t m × Does s 
 Runs s m0 [] (e ∷ t) m = ⊥
 Runs s m0 (p ∷ ps) [] m = ⊥
 
+-- a single store is one level
+abbrev pub IsOneWhereSingle : Setup → Type 0
+IsOneWhereSingle s = is_single s.policy ≡ true → length s.levels ≡ 1
+
 -- as one begins
 pub record IsIdle (s : Script) (m : Machine) : Type 0 where
   pub reads_on : ReadsOn s.reader
@@ -467,6 +470,7 @@ pub record IsIdle (s : Script) (m : Machine) : Type 0 where
   pub stats : m.stats ≡ s.first
   pub level_stats : m.level_stats ≡ s.first_levels
   pub level_count : length s.first_levels ≡ length s.setup.levels
+  pub one_level : IsOneWhereSingle s.setup
   pub background : m.background ≡ []
   pub handed : m.handed ≡ 0
   pub reserved : m.reserved ≡ []
@@ -484,7 +488,8 @@ abbrev pub result_of_run : Script → Machine → Result_of_run
 result_of_run s m = record {
   stats = m.stats;
   level_stats = shown_levels s.setup.policy m.level_stats;
-  background = map given_of m.background;
+  background = map (λ p. p.handed) m.background;
+  free = m.free;
   ends = map (end_at s) m.conns;
   out = map (λ k. k.out) m.conns;
 }

@@ -1,9 +1,7 @@
 -- What each event counts, and the sums.
-use Rattle.std.specs.Prelude.{ℕ, ◌+◌, ◌-◌, ◌*◌, ◌^◌, min, Bool, true, false, ◌==◌, ◌&&◌, not, if◌then◌else◌, List, [], ◌∷◌, ◌++◌, length, Option, Some, None, slice_index_or, codes, bytes_eq, nat_lt}
-use Rattle.sc_model.specs.Follows.{multi_level}
+use Rattle.std.specs.Prelude.{ℕ, ◌-◌, Bool, true, false, ◌==◌, ◌&&◌, not, if◌then◌else◌, List, [], ◌∷◌, ◌++◌, length, Option, Some, None, slice_index_or, codes, bytes_eq, nat_lt}
 use Rattle.sc_model.specs.Job.{At, Own}
 use Rattle.sc_model.specs.Script.{Script, Setup, is_single}
-use Rattle.sc_entry.specs.Tally.{Tally, counted}
 use Rattle.sc_model.specs.Trace.{Given, about, all, left_writes, own_of, owned, request}
 use Rattle.sc_model.specs.declared.event.Answer.{Answer}
 use Rattle.sc_model.specs.declared.event.Answer.TheVariants.{Hit}
@@ -34,8 +32,7 @@ use Rattle.sc_model.specs.declared.message.Request.TheVariants.{Compile, RecordS
 use Rattle.sc_stats.specs.declared.counters.LevelStats.{LevelStats}
 use Rattle.sc_stats.specs.declared.counters.PerLanguageCount.{PerLanguageCount}
 use Rattle.sc_stats.specs.declared.counters.ServerStats.{ServerStats}
-use Rattle.std.specs.FinMap.{empty as empty_map, entries as entries_map}
-use Rattle.sc_stats.specs.Sums.{add_level, no_level_stats, no_stats, one_of, sat, sum}
+use Rattle.sc_stats.specs.Sums.{add_level, no_level_stats, no_stats, one_of, sum}
 
 abbrev pub counted_language : Setup → Task → PerLanguageCount
 counted_language s task = record { counts = one_of (s.compilers.kind_text task); adv_counts = one_of (s.compilers.full_text task) }

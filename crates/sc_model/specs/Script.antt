@@ -1,5 +1,5 @@
 -- What the caller hands in, and what its parts tell: bytes, limits, levels, policy, compiler part, texts.
-use Rattle.std.specs.Prelude.{◌≡◌, ℕ, ◌+◌, ◌<◌, Bool, true, false, ◌||◌, List, [], ◌∷◌, ◌++◌, length, Option, slice_index_or, codes, bytes_eq}
+use Rattle.std.specs.Prelude.{◌≡◌, ℕ, ◌<◌, Bool, true, false, ◌||◌, List, [], ◌∷◌, ◌++◌, length, Option, slice_index_or, codes, bytes_eq}
 use Rattle.sc_model.specs.declared.event.CCompilerKind.TheVariants.{Gcc, Nvcc}
 use Rattle.sc_model.specs.declared.event.CompilerKind.TheVariants.{C as KindC}
 use Rattle.sc_model.specs.declared.event.KeyStep.{KeyStep}

@@ -1,7 +1,6 @@
 -- The requests of a stream of bytes: frames, each a length and a payload that spells a request.
 use Rattle.std.specs.Prelude.{ℕ, zero, suc, ◌+◌, ◌*◌, Bool, true, false, if◌then◌else◌, List, [], ◌∷◌, length, take, drop, Option, Some, None, nat_lt}
 use Rattle.sc_model.specs.Script.{BadFrame, End, EndInFrame, IsEnded, IsOpen, Reader}
-use Rattle.sc_model.specs.Trace.{request}
 use Rattle.sc_model.specs.declared.message.Request.{Request}
 
 -- what stands at the front

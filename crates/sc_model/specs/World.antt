@@ -1,5 +1,5 @@
 -- What the parts hold, and how an event of a request or a handed write moves it.
-use Rattle.std.specs.Prelude.{◌≡◌, ℕ, ◌+◌, ◌-◌, ◌^◌, min, ◌<◌, ◌≤◌, Bool, true, false, ◌==◌, ◌&&◌, ◌||◌, not, if◌then◌else◌, List, [], ◌∷◌, ◌++◌, length, take, drop, Option, Some, None, slice_index_or, slice_set, ◌⊎◌, codes, bytes_eq, IsTrue, nat_lt}
+use Rattle.std.specs.Prelude.{◌≡◌, ℕ, ◌+◌, ◌-◌, ◌^◌, min, ◌<◌, ◌≤◌, Bool, true, false, ◌&&◌, not, if◌then◌else◌, List, [], ◌∷◌, ◌++◌, length, Option, Some, None, slice_index_or, slice_set, ◌⊎◌, codes, bytes_eq, IsTrue, nat_lt}
 use Rattle.sc_entry.specs.Entries.{has_name}
 use Rattle.sc_model.specs.Follows.{kind_at}
 use Rattle.sc_model.specs.Job.{Own, hit_of, job_of}

@@ -42,6 +42,11 @@ lone_count [] e = absurd (never e)
 lone_count (f ∷ []) e = lit< tt
 lone_count (f ∷ g ∷ fs) e = absurd (never e)
 
+lone_length : (fs : List LevelFacts) → is_lone_remote fs ≡ true → length fs ≡ 1
+lone_length [] e = absurd (never e)
+lone_length (f ∷ []) e = refl
+lone_length (f ∷ g ∷ fs) e = absurd (never e)
+
 left_true : (a b : Bool) → (a && b) ≡ true → a ≡ true
 left_true true b e = refl
 left_true false b e = absurd (never e)
@@ -64,6 +69,10 @@ remote_levels o l = lone_kind o.config.levels l (lone_of o.config.policy o.confi
 -- there is one store alone
 pub single_store : (o : State) → o.config.policy ≡ Single
 single_store o = single_of o.config.policy o.config.levels (one_of o)
+
+-- and one level
+pub lone_level : (o : State) → length o.config.levels ≡ 1
+lone_level o = lone_length o.config.levels (lone_of o.config.policy o.config.levels (one_of o))
 
 -- which is there
 pub one_level : (o : State) → 0 < length o.config.levels

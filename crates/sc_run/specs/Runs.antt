@@ -1,5 +1,5 @@
 -- How the program ends, by its words.
-use Rattle.std.specs.Prelude.{◌≡◌, ℕ, List, Option, Some, None, pos}
+use Rattle.std.specs.Prelude.{◌≡◌, ℕ, List, Option, Some, None, Result, Ok, Err, pos}
 use Rattle.sc_report.specs.Words.{help_lines, version_line}
 use Rattle.sc_report.specs.declared.ended.Ended.{Ended}
 use Rattle.sc_report.specs.declared.ended.Ended.TheVariants.{BadScript, NoMemory, ReadFault, Status, Usage, WriteFault}
@@ -46,6 +46,13 @@ UsageEnds write_rose Usage = Unit {0}
 UsageEnds write_rose NoMemory = Unit {0}
 UsageEnds write_rose WriteFault = write_rose
 UsageEnds write_rose _ = ⊥
+
+-- The words are that command, or none, which is the one refusal beside want of memory.
+abbrev pub Parses : Option Command → Result Command Ended → Type 0
+Parses command (Ok c) = command ≡ Some c
+Parses command (Err Usage) = command ≡ None
+Parses command (Err NoMemory) = Unit {0}
+Parses command (Err _) = ⊥
 
 -- Usage is the end exactly where the words are no command.
 abbrev pub RunEnds : Option Command → (read wrote : List ℕ → Type 0) (read_rose write_rose : Type 0) → Ended → Type 0

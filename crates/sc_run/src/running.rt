@@ -3,14 +3,15 @@ ghost use Rattle.std.specs.Prelude.{◌≡◌, ◌≤◌, ◌⊎◌, pos, Some};
 ghost use Rattle.sc_entry.specs.Causes.{Rose, Told};
 ghost use Rattle.sc_entry.specs.Streams.{ReadsToEnd, WritesAll};
 ghost use Rattle.sc_report.specs.Words.{help_lines, version_line};
-ghost use Rattle.sc_run.specs.Runs.{DriveEnds, RunEnds, TextEnds};
+ghost use Rattle.sc_run.specs.Runs.{DriveEnds, Parses, RunEnds, TextEnds};
 ghost use Rattle.sc_script.specs.Commands.{command_of};
 ghost use Rattle.sc_script.specs.declared.words.Command.TheVariants as commands;
 
+use crate::outside::Outside;
 use crate::scripted::drive_script;
 use sc_entry::{ByteText, ReadError, Sink, Source, WriteError, read_to_end, write_all};
 use sc_report::{Ended, put_error, put_help, put_version};
-use sc_script::{Command, ScriptError, parse_words};
+use sc_script::{Command, ScriptError};
 use std::alloc::Global;
 
 /// The most bytes that a script may have.
@@ -62,22 +63,6 @@ fn run_version<O: Sink>(alloc: Global, out: &mut O) -> Ended
     }
 }
 
-fn run_words<S: Source, O: Sink>(
-    alloc: Global,
-    words: &[ByteText],
-    input: &mut S,
-    out: &mut O,
-) -> Ended
-    ensures { RunEnds (command_of words.now) (λ bytes. Told (ReadsToEnd 67108864 bytes) (S.left input.old) (S.left input.new)) (λ text. Told (WritesAll text) (O.written out.old) (O.written out.new)) (Rose (S.fault_count input.old) (S.fault_count input.new)) (Rose (O.fault_count out.old) (O.fault_count out.new)) result }
-{
-    match parse_words(words) {
-        None => Ended::Usage,
-        Some(Command::Drive) => run_drive(alloc, input, out),
-        Some(Command::Help) => run_help(alloc, out),
-        Some(Command::Version) => run_version(alloc, out),
-    }
-}
-
 /// Writes the line that an end has on standard error; where that is refused, the end is `WriteFault`.
 fn told<E: Sink>(alloc: Global, err: &mut E, ended: Ended) -> Ended
     ensures { (result ≡ ended) ⊎ ((result ≡ Ended.NoMemory) ⊎ ((result ≡ Ended.WriteFault) × Rose (E.fault_count err.old) (E.fault_count err.new))) }
@@ -93,17 +78,62 @@ fn told<E: Sink>(alloc: Global, err: &mut E, ended: Ended) -> Ended
     }
 }
 
-/// Does what the words say: `drive` reads a script of at most 67,108,864 bytes, drives a daemon by it and writes the report;
-/// `--help` and `--version` write a text. An end other than `Status` writes one line to `err`. Each end has its cause.
-pub fn run<S: Source, O: Sink, E: Sink>(
-    alloc: Global,
+/// The command that the words are.
+///
+/// # Errors
+///
+/// `Usage` exactly where they are none.
+pub fn parse_words(words: &[ByteText]) -> Result<Command, Ended>
+    ensures { Parses (command_of words.now) result }
+{
+    match sc_script::parse_words(words) {
+        Some(command) => Ok(command),
+        None => Err(Ended::Usage),
+    }
+}
+
+/// Does a command, and writes nothing to standard error.
+fn done<S: Source, O: Sink>(alloc: Global, command: Command, input: &mut S, out: &mut O) -> Ended
+    ensures { RunEnds (Some command) (λ bytes. Told (ReadsToEnd 67108864 bytes) (S.left input.old) (S.left input.new)) (λ text. Told (WritesAll text) (O.written out.old) (O.written out.new)) (Rose (S.fault_count input.old) (S.fault_count input.new)) (Rose (O.fault_count out.old) (O.fault_count out.new)) result }
+{
+    match command {
+        Command::Drive => run_drive(alloc, input, out),
+        Command::Help => run_help(alloc, out),
+        Command::Version => run_version(alloc, out),
+    }
+}
+
+/// Does a command: `drive` reads a script of at most 67,108,864 bytes, drives a daemon by it and writes the report; `--help`
+/// and `--version` write a text. An end other than `Status` writes one line to `err`. Each end has its cause.
+pub fn run_command<S: Source, O: Sink, E: Sink, X: Outside>(
+    command: Command,
+    input: &mut S,
+    out: &mut O,
+    err: &mut E,
+    outside: &mut X,
+) -> Ended
+    ensures { RunEnds (Some command) (λ bytes. Told (ReadsToEnd 67108864 bytes) (S.left input.old) (S.left input.new)) (λ text. Told (WritesAll text) (O.written out.old) (O.written out.new)) (Rose (S.fault_count input.old) (S.fault_count input.new)) (Rose (O.fault_count out.old) (O.fault_count out.new) ⊎ Rose (E.fault_count err.old) (E.fault_count err.new)) result }
+{
+    let alloc = outside.alloc();
+    let ended = done(alloc, command, input, out);
+    told(alloc, err, ended)
+}
+
+/// Does what the words say. Where they are no command the end is `Usage`. Each end has its cause.
+pub fn run<S: Source, O: Sink, E: Sink, X: Outside>(
     words: &[ByteText],
     input: &mut S,
     out: &mut O,
     err: &mut E,
+    outside: &mut X,
 ) -> Ended
     ensures { RunEnds (command_of words.now) (λ bytes. Told (ReadsToEnd 67108864 bytes) (S.left input.old) (S.left input.new)) (λ text. Told (WritesAll text) (O.written out.old) (O.written out.new)) (Rose (S.fault_count input.old) (S.fault_count input.new)) (Rose (O.fault_count out.old) (O.fault_count out.new) ⊎ Rose (E.fault_count err.old) (E.fault_count err.new)) result }
 {
-    let ended = run_words(alloc, words, input, out);
-    told(alloc, err, ended)
+    match parse_words(words) {
+        Ok(command) => run_command(command, input, out, err, outside),
+        Err(ended) => {
+            let alloc = outside.alloc();
+            told(alloc, err, ended)
+        }
+    }
 }

@@ -17,6 +17,8 @@ mod reading;
 mod replies;
 mod run_rule;
 mod script;
+#[cfg(test)]
+mod script_tests;
 mod tokens;
 mod words;
 

@@ -17,6 +17,8 @@ mod response;
 mod several;
 mod statistics;
 mod storage;
+#[cfg(test)]
+mod tests;
 mod wire;
 
 pub use bincode::BincodeCodec;

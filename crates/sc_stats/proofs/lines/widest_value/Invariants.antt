@@ -1,7 +1,7 @@
-use Rattle.std.proofs.Common.{◌≡◌, drop}
+use Rattle.std.proofs.Common.{◌≡◌, drop, zero}
 use Rattle.sc_stats.specs.Lines.{value_width}
 use Rattle.sc_stats.proofs.lines.widest_value.Given as goal
 
 -- with the rows that are left, the widest of all
 abbrev pub invariant-loop-row : goal.invariant-loop-row
-invariant-loop-row l = value_width (drop l.row-index l.rows) l.width ≡ value_width l.rows 0
+invariant-loop-row l = value_width (drop l.row-index l.rows) l.width ≡ value_width l.rows zero

@@ -1,0 +1,35 @@
+#!/bin/sh
+# Times sc_lru beside the hand-made baseline, and prints a table. Needs `rt`, cargo and no network.
+# Usage: bench/sc_lru/run.sh [RUNS], at the top of the repository. The scratch repository is kept in $SCRATCH, to be used again.
+set -eu
+runs=${1:-5}
+top=$(pwd)
+here=$top/bench/sc_lru
+scratch=${SCRATCH:-${TMPDIR:-/tmp}/sc_lru_bench}
+
+# A repository of its own, since a benchmark's source is no crate of this one.
+mkdir -p "$scratch/crates/lru_bench/src" "$scratch/crates/kit_bench/src" "$scratch/runs"
+rm -rf "$scratch/crates/sc_lru/src" "$scratch/crates/sc_lru/specs" "$scratch/crates/sc_lru/proofs"
+mkdir -p "$scratch/crates/sc_lru"
+cp -r "$top/crates/sc_lru/src" "$top/crates/sc_lru/specs" "$top/crates/sc_lru/proofs" "$scratch/crates/sc_lru/"
+cp "$here/program.txt" "$scratch/crates/lru_bench/src/main.rt"
+cp "$here/kit_program.txt" "$scratch/crates/kit_bench/src/main.rt"
+cat >"$scratch/crates.txt" <<'END'
+sc_lru: indexmap std_collections
+lru_bench: sc_lru anyhow
+kit_bench: lru anyhow
+END
+# Each program is proved before it is built, and runs once.
+(cd "$scratch/crates/lru_bench" && rt run) >"$scratch/build.log" 2>&1
+(cd "$scratch/crates/kit_bench" && rt run) >"$scratch/kit_build.log" 2>&1
+CARGO_TARGET_DIR="$scratch/target" cargo build --release --offline --quiet --manifest-path "$here/baseline/Cargo.toml"
+
+rm -f "$scratch"/runs/*
+i=0
+while [ "$i" -lt "$runs" ]; do
+    "$scratch/crates/lru_bench/out/lru_bench" >"$scratch/runs/ours.$i"
+    "$scratch/crates/kit_bench/out/kit_bench" >"$scratch/runs/kit.$i"
+    "$scratch/target/release/lru-baseline" >"$scratch/runs/baseline.$i"
+    i=$((i + 1))
+done
+python3 "$here/table.py" "$scratch/runs"
