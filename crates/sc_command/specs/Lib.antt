@@ -1,0 +1,9 @@
+pub mod Children
+pub mod Creating
+pub mod Mocks
+pub mod Programs
+pub mod Refusals
+pub mod Settings
+pub mod Spawning
+pub mod Statuses
+pub mod Variables

@@ -1,0 +1,129 @@
+ghost use Rattle.std.specs.Prelude.{◌≡◌, ◌<◌};
+ghost use Rattle.sc_command.specs.Settings.{with_jobserver};
+
+use crate::pool::{Pool, Token};
+use crate::setting::Setting;
+use sc_entry::NoMemory;
+use std::alloc::Global;
+use std::sync::{Arc, Condvar, Mutex, Wait};
+
+/// A pool behind its lock, and the condition that a token came back.
+#[derive(Drop)]
+struct Shared {
+    pool: Mutex<Pool>,
+    freed: Condvar,
+}
+
+impl Shared {
+    fn wait_for_token<R: Wait>(&self, rt: &R) -> Token {
+        let mut pool = self
+            .freed
+            .wait_while(rt, self.pool.lock(rt), |pool| !pool.has_free());
+        pool.take_free()
+    }
+
+    fn give_back<R: Wait>(&self, rt: &R, token: Token) {
+        self.pool.lock(rt).give(token);
+        self.freed.notify_one();
+    }
+}
+
+/// A pool of tokens that threads share.
+#[derive(Drop)]
+pub struct Client {
+    shared: Arc<Shared>,
+}
+
+/// A token of a client. Dropped, it goes back to the client, which wakes one that waits for it.
+pub struct Acquired<'a, R: Wait> {
+    rt: &'a R,
+    client: &'a Client,
+    token: Token,
+}
+
+impl<'a, R: Wait> Drop for Acquired<'a, R> {
+    fn drop(self) {
+        let Acquired { rt, client, token } = self;
+        client.shared.give_back(rt, token);
+    }
+}
+
+/// A token of a client, which it keeps beside its client. Dropped, it goes back as `Acquired` does.
+pub struct AcquiredOwned<R: Wait + Drop> {
+    rt: R,
+    client: Client,
+    token: Token,
+}
+
+impl<R: Wait + Drop> Drop for AcquiredOwned<R> {
+    fn drop(self) {
+        let AcquiredOwned { rt, client, token } = self;
+        client.shared.give_back(&rt, token);
+    }
+}
+
+impl Client {
+    /// A pool of tokens, all free. There is one at least.
+    pub fn new(alloc: Global, tokens: u64) -> Result<Client, NoMemory>
+        requires { 0 < tokens }
+    {
+        Client::new_num(alloc, tokens)
+    }
+
+    /// The same pool, by another name.
+    pub fn new_num(alloc: Global, tokens: u64) -> Result<Client, NoMemory>
+        requires { 0 < tokens }
+    {
+        let shared = Shared {
+            pool: Mutex::new(Pool::new(tokens)),
+            freed: Condvar::new(),
+        };
+        Ok(Client {
+            shared: Arc::new(alloc, shared)?,
+        })
+    }
+
+    /// The same pool for another owner.
+    pub fn try_clone(&self) -> Result<Client, NoMemory> {
+        Ok(Client {
+            shared: Arc::try_clone(&self.shared)?,
+        })
+    }
+
+    /// Lets a command's child use the tokens of this process.
+    pub fn configure(&self, setting: &mut Setting)
+        ensures { setting.new ≡ with_jobserver setting.old }
+    {
+        setting.shares_jobserver = true;
+    }
+
+    /// Waits for a token.
+    pub fn acquire<'a, R: Wait>(&'a self, rt: &'a R) -> Acquired<'a, R> {
+        let token = self.shared.wait_for_token(rt);
+        Acquired {
+            rt,
+            client: self,
+            token,
+        }
+    }
+
+    /// A token, where one is free. None exactly where `Pool::take` found none.
+    pub fn try_acquire<'a, R: Wait>(&'a self, rt: &'a R) -> Option<Acquired<'a, R>> {
+        let token = self.shared.pool.lock(rt).take()?;
+        Some(Acquired {
+            rt,
+            client: self,
+            token,
+        })
+    }
+
+    /// Waits for a token that may outlive this reference to the pool.
+    pub fn acquire_owned<R: Wait + Drop>(self, rt: R) -> AcquiredOwned<R> {
+        let token = self.shared.wait_for_token(&rt);
+        AcquiredOwned {
+            rt,
+            client: self,
+            token,
+        }
+    }
+}
