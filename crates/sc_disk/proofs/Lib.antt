@@ -1,0 +1,15 @@
+pub mod FileTables
+pub mod Files
+pub mod Outside
+pub mod Names
+pub mod KeyPaths
+pub mod Doing
+pub mod Slots
+pub mod Temporaries
+pub mod Pairs
+pub mod Changing
+pub mod Keeping
+pub mod Evictions
+pub mod Tidying
+pub mod Sizes
+pub mod Placing

@@ -1,0 +1,43 @@
+use Rattle.std.proofs.Common.{◌≡◌, ◌+◌, ◌≤◌, ℕ, List, sym, ap, subst, arith, ◌∷◌, [], ◌∙◌, rules, false, None, Some}
+use Rattle.slab.specs.Slab.{get, Updates}
+use Rattle.sc_lru.specs.LruCache.{total}
+use Rattle.sc_disk.specs.Disks.{Does}
+use Rattle.sc_disk.specs.declared.change.Change.TheVariants.{Made}
+use Rattle.sc_disk.specs.declared.pending.Pending.{Pending}
+use Rattle.sc_disk.specs.Names.{is_temporary_path, temporary}
+use Rattle.sc_disk.specs.Store.{declared, size_of}
+use Rattle.sc_disk.proofs.Keeping.{Keeps-opened, opened_as}
+use Rattle.sc_disk.proofs.Slots.{declared-opened}
+use Rattle.sc_disk.proofs.lru_disk_cache.LruDiskCache.open_entry.Goals as goal
+
+pub invariant_of-self-2 : goal.invariant_of-self-2
+invariant_of-self-2 g c = let s = c.self.inside in let i = c.self.invariant in let r = c.insert_reserved-number.ensures in let state = g.D.Disk.state in let v = c.self.view_is in
+    let n = c.insert_reserved-number.result in
+    let e : Pending = record { key = c.in_ok-reserved_key.reserved_key; size = c.args.size } in
+    let key : e.key ≡ c.args.key.now = search rules in
+    let path : c.in_ok-path.path ≡ temporary n = c.in_ok-path.ensures ∙ ap temporary (c.vacant_key-number.ensures.value ∙ sym r.key) in
+    let did : Does (Made (temporary n) c.args.now ∷ []) (state s.disk) (state c.create.new.self) = subst (λ (k : List ℕ). Does (Made k c.args.now ∷ []) (state s.disk) (state c.create.new.self)) path c.in_ok-create.ensures.ok in
+    let more = declared-opened s.pending c.insert_reserved-number.new.self n e r.was_vacant r.updates in
+    Keeps-opened s.index.entries s.index.capacity s.pending c.insert_reserved-number.new.self s.held _ s.capacity (state s.disk) (state c.create.new.self) n e c.args.now r.updates
+    (ap is_temporary_path key ∙ c.requires.key) (omega (arith, i.reserved, more))
+    (omega (arith, c.requires.room, i.reserved, ap (λ w. total size_of w.index) v, ap (λ w. declared w.pending.slots) v, ap (λ w. w.capacity) v)) did i
+
+pub returns-clause-ok : goal.returns-clause-ok
+returns-clause-ok g c = let s = c.self.inside in let r = c.insert_reserved-number.ensures in let state = g.D.Disk.state in let v = c.self.view_is in
+    let n = c.insert_reserved-number.result in let old = c.args.self.now in
+    let e : Pending = record { key = c.in_ok-reserved_key.reserved_key; size = c.args.size } in
+    let key : e.key ≡ c.args.key.now = search rules in
+    let key2 : c.in_ok-key.key ≡ c.args.key.now = search rules in
+    let path : c.in_ok-path.path ≡ temporary n = c.in_ok-path.ensures ∙ ap temporary (c.vacant_key-number.ensures.value ∙ sym r.key) in
+    let more = declared-opened s.pending c.insert_reserved-number.new.self n e r.was_vacant r.updates in
+    record {
+      key = key2;
+      opened = record {
+        free = subst (λ w. get w.pending n ≡ None) v r.was_vacant;
+        entry = subst (λ w. Updates w.pending c.insert_reserved-number.new.self n (Some (record { key = c.in_ok-key.key; size = c.args.size }))) v (opened_as s.pending c.insert_reserved-number.new.self n e.key c.in_ok-key.key c.args.size (key ∙ sym key2) r.updates);
+        reserved = omega (arith, more, ap (λ w. declared w.pending.slots) v);
+      };
+      index = ap (λ w. w.index) v;
+      capacity = ap (λ w. w.capacity) v;
+      disk = subst (λ w. Does (Made (temporary n) c.args.now ∷ []) w.disk (state c.create.new.self)) v (subst (λ (k : List ℕ). Does (Made k c.args.now ∷ []) (state s.disk) (state c.create.new.self)) path c.in_ok-create.ensures.ok);
+    }

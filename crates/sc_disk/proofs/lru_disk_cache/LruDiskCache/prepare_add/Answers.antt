@@ -1,0 +1,32 @@
+use Rattle.std.proofs.Common.{◌≡◌, List, ℕ, sym, ap, subst, ◌∷◌, [], ◌∙◌, None, Some, false, true}
+use Rattle.sc_entry.specs.Keys.{is_file_key}
+use Rattle.sc_disk.specs.Disks.{Does}
+use Rattle.sc_disk.specs.Names.{temporary}
+use Rattle.sc_disk.specs.Store.{gone, firsts}
+use Rattle.sc_disk.specs.declared.change.Change.TheVariants.{Made}
+use Rattle.sc_disk.proofs.Names.{key_not_temporary}
+use Rattle.sc_disk.proofs.Tidying.{quiet-gone, tidy-opened, tidy-quiet, tidy-same}
+use Rattle.sc_disk.proofs.lru_disk_cache.LruDiskCache.prepare_add.Goals as goal
+
+pub open_entry-requires-clause-key : goal.open_entry-requires-clause-key
+open_entry-requires-clause-key g c = key_not_temporary c.args.key.now (ap is_file_key (sym c.as_text.ensures) ∙ sym c.is_file_key.ensures ∙ c.if-not-is_file_key.false)
+
+pub returns-in_err-evict_to-clause-tidy : goal.returns-in_err-evict_to-clause-tidy
+returns-in_err-evict_to-clause-tidy g c = λ h. let old = c.args.self.now in let mid = c.reserve_entry.new.self in let new = c.evict_to.new.self in
+    let r = c.in_ok-reserve_entry.ensures in let e = c.in_err-evict_to.ensures.evicts in
+    tidy-same old.pending.slots new.pending.slots new.disk (ap (λ p. p.slots) e.1.pending ∙ r.slots)
+    (tidy-quiet old.pending.slots old.disk new.disk (gone (firsts e.0 mid.index)) (quiet-gone (firsts e.0 mid.index)) (subst (λ d. Does (gone (firsts e.0 mid.index)) d new.disk) r.disk e.1.disk) h)
+
+pub returns-in_err-entry-clause-tidy : goal.returns-in_err-entry-clause-tidy
+returns-in_err-entry-clause-tidy g c = λ h. let old = c.args.self.now in let mid = c.reserve_entry.new.self in let after = c.evict_to.new.self in let new = c.open_entry.new.self in
+    let r = c.in_ok-reserve_entry.ensures in let e = c.in_ok-evict_to.ensures.evicts in let a = c.in_err-entry.ensures.err in
+    tidy-same old.pending.slots new.pending.slots new.disk (ap (λ p. p.slots) (a.pending ∙ e.1.pending) ∙ r.slots)
+    (tidy-quiet old.pending.slots after.disk new.disk [] tt a.disk
+    (tidy-quiet old.pending.slots old.disk after.disk (gone (firsts e.0 mid.index)) (quiet-gone (firsts e.0 mid.index)) (subst (λ d. Does (gone (firsts e.0 mid.index)) d after.disk) r.disk e.1.disk) h))
+
+pub returns-clause-tidy : goal.returns-clause-tidy
+returns-clause-tidy g c = λ h. let old = c.args.self.now in let mid = c.reserve_entry.new.self in let after = c.evict_to.new.self in let new = c.open_entry.new.self in
+    let r = c.in_ok-reserve_entry.ensures in let e = c.in_ok-evict_to.ensures.evicts in let o = c.in_ok-entry.ensures.ok in
+    tidy-opened after.pending new.pending after.disk new.disk c.in_ok-entry.entry.number _ c.args.now [] o.opened.free o.opened.entry tt o.disk
+    (tidy-same old.pending.slots after.pending.slots after.disk (ap (λ p. p.slots) e.1.pending ∙ r.slots)
+    (tidy-quiet old.pending.slots old.disk after.disk (gone (firsts e.0 mid.index)) (quiet-gone (firsts e.0 mid.index)) (subst (λ d. Does (gone (firsts e.0 mid.index)) d after.disk) r.disk e.1.disk) h))

@@ -1,0 +1,8 @@
+use Rattle.std.proofs.Common.{ap}
+use Rattle.sc_disk.proofs.Keeping.{Keeps-used}
+use Rattle.sc_disk.proofs.lru_disk_cache.LruDiskCache.use_key.Goals as goal
+
+pub invariant_of-self : goal.invariant_of-self
+invariant_of-self g c = let s = c.self.inside in let after = c.get.follows.lender-at-none in
+    Keeps-used s.index.entries after.entries s.index.capacity after.capacity s.pending.slots s.held s.capacity (g.D.Disk.state s.disk) c.args.key.now c.len-distinct.ensures.distinct
+    (ap (λ i. i.entries) c.get.follows.holds-at-none) (ap (λ i. i.capacity) c.get.follows.holds-at-none) c.self.invariant

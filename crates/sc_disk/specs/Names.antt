@@ -1,0 +1,26 @@
+-- Names of files: which are keys, and which are of temporaries.
+use Rattle.std.specs.Prelude.{◌≡◌, ℕ, Bool, List, [], ◌∷◌, ◌++◌, codes, Option, Some, None}
+use Rattle.std.specs.Fmt.{decimal}
+use Rattle.sc_entry.specs.Keys.{parts_of, is_temporary}
+
+abbrev pub last_of : List (List ℕ) → List ℕ
+last_of [] = []
+last_of (p ∷ []) = p
+last_of (p ∷ q ∷ ps) = last_of (q ∷ ps)
+
+-- the name of a path's file: its last part
+abbrev pub file_name : List ℕ → List ℕ
+file_name path = last_of (parts_of path)
+
+-- the name of the path's file begins as that of a temporary
+unfoldable pub is_temporary_path : List ℕ → Bool
+is_temporary_path path = is_temporary (file_name path)
+
+-- the path of the temporary with this number
+unfoldable pub temporary : ℕ → List ℕ
+temporary number = codes ".sccachetmp" ++ decimal number
+
+-- a path cut behind its first part, if another follows
+abbrev pub PartsBy : List ℕ → Option (List ℕ × List ℕ) → Type 0
+PartsBy path None = parts_of path ≡ path ∷ []
+PartsBy path (Some p) = parts_of path ≡ p.0 ∷ parts_of p.1

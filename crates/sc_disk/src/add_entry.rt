@@ -1,0 +1,24 @@
+use crate::file_key::FileKey;
+use sc_entry::Text;
+use std::marker::Model;
+
+/// An entry that is open in the store that made it. Its bytes go to a temporary, which gets the key's path when the entry
+/// is committed. One that is dropped stays reserved.
+#[derive(Drop)]
+pub struct LruDiskCacheAddEntry {
+    pub(crate) number: usize,
+    pub(crate) key: FileKey,
+    pub(crate) path: Text,
+}
+
+impl Model for LruDiskCacheAddEntry {
+    ghost use Rattle.std.specs.Prelude.{◌≡◌, ◌<◌, ◌^◌};
+    ghost use Rattle.sc_disk.specs.Names.{temporary};
+    ghost use Rattle.sc_disk.specs.Store.{AddEntry, add_entry};
+
+    ghost Value = { AddEntry };
+
+    ghost view = { λ e. add_entry e.number e.key };
+
+    ghost invariant = { λ e. (e.path ≡ temporary e.number) × (e.number < 2 ^ 64) };
+}

@@ -1,0 +1,124 @@
+ghost use Rattle.std.specs.Prelude.{◌≡◌, ◌∷◌, [], IfOk, OnOk, OnErr};
+ghost use Rattle.sc_disk.specs.declared.change.Change.TheVariants.{Made, Added, Touched, Moved, Gone};
+ghost use Rattle.sc_disk.specs.Disks.{DiskState, Does, DoesPart, DiskCause, IsSize, HasBytes, IsListing, Adopts, AdoptsPart};
+ghost use Rattle.sc_disk.specs.declared.disk.DiskError.TheVariants as disk_errors;
+
+use sc_entry::{ByteText, Items, NoMemory, Text};
+use std::alloc::{AllocError, AllocFailed};
+
+/// Why a disk refused.
+#[derive(Clone, Copy, Debug, Drop, PartialEq, Eq)]
+pub enum DiskError {
+    NoMemory,
+    /// The disk failed; it counted this.
+    Fault,
+}
+
+impl From<NoMemory> for DiskError {
+    ghost from_gives = { λ _ error. error ≡ disk_errors.NoMemory };
+
+    fn from(_: NoMemory) -> DiskError {
+        DiskError::NoMemory
+    }
+}
+
+impl From<AllocError> for DiskError {
+    ghost from_gives = { λ _ error. error ≡ disk_errors.NoMemory };
+
+    fn from(_: AllocError) -> DiskError {
+        DiskError::NoMemory
+    }
+}
+
+impl<T: Drop> From<AllocFailed<T>> for DiskError {
+    ghost from_gives = { λ _ error. error ≡ disk_errors.NoMemory };
+
+    fn from(_: AllocFailed<T>) -> DiskError {
+        DiskError::NoMemory
+    }
+}
+
+/// A file as a listing has it.
+///
+/// Files are ordered by their use: by their moments, then by their paths.
+#[derive(Debug, Drop, PartialEq, Eq, PartialOrd, Ord)]
+pub struct Listed {
+    /// When it was last used, in nanoseconds.
+    pub moment: u64,
+    pub path: Text,
+    /// In bytes.
+    pub size: u64,
+}
+
+/// A folder of files by their paths in it.
+///
+/// A disk that tells what it holds tells the files that it had at first and each change since, so also every state that
+/// it had since a moment. A stop leaves one of these, or that of an append or adoption under way with a front of its
+/// bytes. No call changes whether a disk tells, nor its root, and no count of faults falls.
+pub trait Disk {
+    /// What the disk tells, how often it failed, and its root.
+    ghost state: { Self → DiskState };
+
+    /// How often it failed. The count never falls, and stays at the greatest `u64`.
+    fn faults(&self) -> u64
+        ensures { result ≡ (state self.now).faults };
+
+    /// The path that its files stand under.
+    fn root(&self) -> &ByteText
+        ensures { result.now ≡ (state self.now).root };
+
+    /// All files, their paths ascending by their bytes.
+    fn list(&mut self) -> Result<Items<Listed>, DiskError>
+        ensures same { Does [] (state self.old) (state self.new) }
+        ensures listed { IfOk result (λ all. IsListing all (state self.old)) }
+        ensures cause { DiskCause (state self.old) (state self.new) result };
+
+    /// Makes an empty file at a path, in place of any that stood there.
+    fn create(&mut self, path: &Text, now: u64) -> Result<(), DiskError>
+        ensures ok { OnOk result (Does (Made path.now now ∷ []) (state self.old) (state self.new)) }
+        ensures err { OnErr result (Does [] (state self.old) (state self.new)) }
+        ensures cause { DiskCause (state self.old) (state self.new) result };
+
+    /// Adds bytes at the end of a path's file. A refused call may leave a front of them there.
+    fn append(&mut self, path: &Text, bytes: &[u8]) -> Result<(), DiskError>
+        ensures ok { OnOk result (Does (Added path.now bytes.now ∷ []) (state self.old) (state self.new)) }
+        ensures err { OnErr result (DoesPart path.now bytes.now (state self.old) (state self.new)) }
+        ensures cause { DiskCause (state self.old) (state self.new) result };
+
+    /// Adds the bytes of an outside file at the end of a path's file. The outside file stays. A refused call may leave a
+    /// front of them there.
+    fn adopt(&mut self, outside: &ByteText, path: &Text) -> Result<(), DiskError>
+        ensures ok { OnOk result (Adopts outside.now path.now (state self.old) (state self.new)) }
+        ensures err { OnErr result (AdoptsPart outside.now path.now (state self.old) (state self.new)) }
+        ensures cause { DiskCause (state self.old) (state self.new) result };
+
+    /// The size of a path's file, in bytes.
+    fn len(&mut self, path: &Text) -> Result<u64, DiskError>
+        ensures same { Does [] (state self.old) (state self.new) }
+        ensures size { IfOk result (λ n. IsSize path.now n (state self.old)) }
+        ensures cause { DiskCause (state self.old) (state self.new) result };
+
+    /// The bytes of a path's file.
+    fn read(&mut self, path: &Text) -> Result<ByteText, DiskError>
+        ensures same { Does [] (state self.old) (state self.new) }
+        ensures bytes { IfOk result (λ bytes. HasBytes path.now bytes (state self.old)) }
+        ensures cause { DiskCause (state self.old) (state self.new) result };
+
+    /// Moves a file to another path, in place of any that stood there, and makes the folders that it needs.
+    fn rename(&mut self, from: &Text, to: &Text) -> Result<(), DiskError>
+        ensures ok { OnOk result (Does (Moved from.now to.now ∷ []) (state self.old) (state self.new)) }
+        ensures err { OnErr result (Does [] (state self.old) (state self.new)) }
+        ensures cause { DiskCause (state self.old) (state self.new) result };
+
+    /// Removes a path's file. An absent one counts as removed.
+    fn remove(&mut self, path: &Text) -> Result<(), DiskError>
+        ensures ok { OnOk result (Does (Gone path.now ∷ []) (state self.old) (state self.new)) }
+        ensures err { OnErr result (Does [] (state self.old) (state self.new)) }
+        ensures cause { DiskCause (state self.old) (state self.new) result };
+
+    /// Gives a path's file this moment.
+    fn touch(&mut self, path: &Text, now: u64) -> Result<(), DiskError>
+        ensures ok { OnOk result (Does (Touched path.now now ∷ []) (state self.old) (state self.new)) }
+        ensures err { OnErr result (Does [] (state self.old) (state self.new)) }
+        ensures cause { DiskCause (state self.old) (state self.new) result };
+}

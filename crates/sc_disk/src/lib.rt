@@ -1,0 +1,27 @@
+//! A store of files on a disk, in the order of their use, within a capacity.
+#![tactic(auto)]
+
+mod add_entry;
+mod change;
+mod disk;
+mod disk_file;
+mod error;
+mod file_key;
+mod file_name;
+mod file_size;
+mod file_table;
+mod key_path;
+mod lru_disk_cache;
+mod mem_disk;
+mod pending;
+mod reading;
+
+pub use add_entry::LruDiskCacheAddEntry;
+pub use change::Change;
+pub use disk::{Disk, DiskError, Listed};
+pub use disk_file::DiskFile;
+pub use error::Error;
+pub use file_key::FileKey;
+pub use key_path::{make_key_path, normalize_key};
+pub use lru_disk_cache::LruDiskCache;
+pub use mem_disk::MemDisk;
