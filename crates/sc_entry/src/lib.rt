@@ -4,6 +4,7 @@
 
 mod byte_text;
 mod cache;
+mod cache_mode;
 mod cache_read;
 mod cache_write;
 mod calls;
@@ -14,6 +15,7 @@ mod entry_files;
 mod entry_laws;
 mod file_error;
 mod files;
+mod get_path_result;
 mod held;
 mod host_files;
 mod items;
@@ -36,6 +38,7 @@ mod text;
 
 pub use byte_text::ByteText;
 pub use cache::Cache;
+pub use cache_mode::CacheMode;
 pub use cache_read::CacheRead;
 pub use cache_write::CacheWrite;
 pub use calls::Calls;
@@ -46,6 +49,7 @@ pub use entry_files::{ExtractError, FromObjectsError};
 pub use entry_laws::{reading_is_spelled, spelling_is_read_again};
 pub use file_error::FileError;
 pub use files::{FileContent, Files};
+pub use get_path_result::GetPathResult;
 pub use host_files::HostFiles;
 pub use items::Items;
 pub use mem_files::MemFiles;

@@ -2,11 +2,12 @@
 use Rattle.std.specs.Prelude.{◌≡◌, ℕ, List, [], ◌∷◌, map, Option, Some, None}
 use Rattle.sc_compile.specs.declared.run_line.RunLine.{RunLine}
 use Rattle.sc_entry.specs.Keys.{normalize_key}
+use Rattle.sc_model.specs.Devices.{calls_failing}
 use Rattle.sc_model.specs.World.{Files, World, no_files}
 use Rattle.sc_model.specs.declared.event.RunAnswer.{RunAnswer}
 use Rattle.sc_model.specs.declared.level.Container.TheVariants.{Disabled}
 use Rattle.sc_model.specs.declared.level.Policy.TheVariants.{Single}
-use Rattle.sc_model.specs.declared.message.CacheMode.TheVariants.{ReadWrite}
+use Rattle.sc_entry.specs.declared.cache_mode.CacheMode.TheVariants.{ReadWrite}
 use Rattle.sc_script.specs.declared.run_rule.RunRule.{RunRule}
 use Rattle.sc_script.specs.declared.script.Script.{Script}
 use Rattle.sc_store.specs.Held.{Held, held_of, held_remote}
@@ -34,14 +35,14 @@ AreLines None runs = ⊥
 AreLines (Some lines) runs = told_lines lines ≡ told_runs runs
 
 -- one remote level that may be written, as a single store
-abbrev pub first_levels : List (List ℕ × List ℕ) → Held
-first_levels holds = held_of (held_remote ReadWrite (Some (first_files holds)) 0 0 ∷ []) Single
+abbrev pub first_levels : List (List ℕ × List ℕ) → List ℕ → Held
+first_levels holds fails = held_of (held_remote ReadWrite (Some (first_files holds)) 0 0 (Some (calls_failing fails)) ∷ []) Single
 
 -- nothing was run, placed or refused
 abbrev pub first_world : Script → World
 first_world script = record {
   moment = 0;
-  levels = (first_levels script.holds).levels;
+  levels = (first_levels script.holds script.fails).levels;
   runs = Some [];
   placings = Some [];
   shop_faults = 0;

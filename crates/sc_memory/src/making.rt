@@ -1,19 +1,18 @@
 //! Makes a daemon of what a script says.
 ghost use Rattle.std.specs.Prelude.{◌≡◌, ℕ, true, Some, [], ◌∷◌, IfOk};
-ghost use Rattle.std.specs.List.{list_any};
-ghost use Rattle.std.specs.Ordering.{nat_cmp, eq_by_cmp};
 ghost use Rattle.sc_compile.specs.Shop.{new_shop};
-ghost use Rattle.sc_entry.specs.Failing.{fails_at};
 ghost use Rattle.sc_memory.specs.Making.{AreLines, first_files, first_world, placed, told_lines, told_runs};
 ghost use Rattle.sc_model.specs.declared.level.Policy.TheVariants.{Single};
-ghost use Rattle.sc_model.specs.declared.message.CacheMode.TheVariants.{ReadWrite};
+ghost use Rattle.sc_entry.specs.declared.cache_mode.CacheMode.TheVariants.{ReadWrite};
 ghost use Rattle.sc_script.specs.Goods.{IsGood, are_good_runs, are_store_keys};
+ghost use Rattle.sc_model.specs.Devices.{calls_failing};
+ghost use Rattle.sc_store.specs.Devices.{calls_of};
 ghost use Rattle.sc_store.specs.Held.{held_of, held_remote, remote_facts};
 
 use crate::memory::Memory;
 use sc_compile::{RunLine, ScriptWorkshop, ToolTable};
-use sc_entry::{ByteText, Items, NoMemory, Text};
-use sc_model::{CacheMode, Policy, Step};
+use sc_entry::{ByteText, CacheMode, Items, NoMemory, Text};
+use sc_model::{Policy, Step};
 use sc_owned::Owned;
 use sc_script::{RunRule, Script};
 use sc_store::{Level, Levels, MemRemote, RemoteStorage, normalize_key};
@@ -52,8 +51,7 @@ fn device(
 ) -> Result<MemRemote, NoMemory>
     requires { are_store_keys holds ≡ true }
     ensures held { IfOk result (λ remote. remote.files ≡ first_files holds) }
-    ensures failing { IfOk result (λ remote. (number : ℕ) → fails_at remote.calls number ≡ list_any (eq_by_cmp nat_cmp number) fails) }
-    ensures made { IfOk result (λ remote. remote.calls.made ≡ 0) }
+    ensures calls { IfOk result (λ remote. calls_of remote.calls ≡ calls_failing fails) }
     ensures faults { IfOk result (λ remote. remote.calls.faults ≡ 0) }
 {
     let files = placed(alloc, holds)?;
@@ -64,7 +62,7 @@ fn device(
 /// One remote level that may be written, as a single store.
 fn levels_over(alloc: Global, remote: MemRemote) -> Result<Levels<MemRemote>, NoMemory>
     requires { remote.calls.faults ≡ 0 }
-    ensures { IfOk result (λ levels. levels ≡ held_of (held_remote ReadWrite (Some remote.files) 0 0 ∷ []) Single) }
+    ensures { IfOk result (λ levels. levels ≡ held_of (held_remote ReadWrite (Some remote.files) 0 0 (Some (calls_of remote.calls)) ∷ []) Single) }
 {
     let store = RemoteStorage::new(remote, CacheMode::ReadWrite);
     let levels = vec![in alloc; Level::Remote(store)]?;

@@ -37,7 +37,7 @@ use Rattle.sc_model.specs.declared.level.LevelKind.TheVariants.{Remote}
 use Rattle.sc_model.specs.declared.level.LevelPolicy.TheVariants.{Background, Off, Required}
 use Rattle.sc_model.specs.declared.level.Policy.TheVariants.{Levels, Single}
 use Rattle.sc_model.specs.declared.level.Put.TheVariants.{Done as PutDone}
-use Rattle.sc_model.specs.declared.message.CacheMode.TheVariants.{ReadOnly as ModeReadOnly, ReadWrite as ModeReadWrite}
+use Rattle.sc_entry.specs.declared.cache_mode.CacheMode.TheVariants.{ReadOnly as ModeReadOnly, ReadWrite as ModeReadWrite}
 use Rattle.sc_model.specs.declared.message.ColorMode.TheVariants.{Auto as ColorAuto}
 use Rattle.sc_model.specs.declared.message.CompileResponse.TheVariants.{CompileStarted}
 use Rattle.sc_model.specs.declared.message.Request.{Request}

@@ -43,7 +43,7 @@ use Rattle.sc_model.specs.declared.event.Written.TheVariants.{Done as WriteDone,
 use Rattle.sc_model.specs.declared.level.Handed.{Handed}
 use Rattle.sc_model.specs.declared.level.Put.{Put}
 use Rattle.sc_model.specs.declared.message.CompileFinished.{CompileFinished}
-use Rattle.sc_model.specs.declared.message.GetPathResult.TheVariants.{Unsupported as PathUnsupported}
+use Rattle.sc_entry.specs.declared.get_path_result.GetPathResult.TheVariants.{Unsupported as PathUnsupported}
 use Rattle.sc_model.specs.declared.message.Request.{Request}
 use Rattle.sc_model.specs.declared.message.Request.TheVariants.{Compile, DistStatus, GetStats, RecordStats, Shutdown, StorageGetPath as GetPath, StorageGetPreprocessorEntry as GetPre, StorageGetRaw as GetRaw, StorageHandshake as Handshake, StoragePutPreprocessorEntry as PutPre, StoragePutRaw as PutRaw, ZeroStats}
 use Rattle.sc_model.specs.declared.message.Response.TheVariants.{StorageGetPath as PathReply, StorageGetPreprocessorEntry as PreReply, StorageGetRaw as RawReply}

@@ -24,7 +24,7 @@ use Rattle.sc_model.specs.declared.event.Written.TheVariants.{Done as WriteDone,
 use Rattle.sc_model.specs.declared.level.LevelKind.{LevelKind}
 use Rattle.sc_model.specs.declared.level.LevelKind.TheVariants.{Disk, Remote}
 use Rattle.sc_model.specs.declared.message.CompileResponse.TheVariants.{CompileStarted, UnhandledCompile, UnsupportedCompiler}
-use Rattle.sc_model.specs.declared.message.GetPathResult.TheVariants.{Unsupported as PathUnsupported}
+use Rattle.sc_entry.specs.declared.get_path_result.GetPathResult.TheVariants.{Unsupported as PathUnsupported}
 use Rattle.sc_model.specs.declared.message.Request.{Request}
 use Rattle.sc_model.specs.declared.message.Request.TheVariants.{Compile, DistStatus, GetStats, RecordStats, Shutdown, StorageGetPath as GetPath, StorageGetPreprocessorEntry as GetPre, StorageGetRaw as GetRaw, StorageHandshake as Handshake, StoragePutPreprocessorEntry as PutPre, StoragePutRaw as PutRaw, ZeroStats}
 use Rattle.sc_model.specs.declared.message.Response.{Response}

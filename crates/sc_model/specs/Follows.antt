@@ -33,11 +33,11 @@ use Rattle.sc_model.specs.declared.level.LevelKind.TheVariants.{Disk, Remote}
 use Rattle.sc_model.specs.declared.level.Policy.{Policy}
 use Rattle.sc_model.specs.declared.level.Policy.TheVariants.{Levels, Single}
 use Rattle.sc_model.specs.declared.level.Put.{Put}
-use Rattle.sc_model.specs.declared.message.CacheMode.{CacheMode}
-use Rattle.sc_model.specs.declared.message.CacheMode.TheVariants.{ReadOnly as ModeReadOnly, ReadWrite as ModeReadWrite}
+use Rattle.sc_entry.specs.declared.cache_mode.CacheMode.{CacheMode}
+use Rattle.sc_entry.specs.declared.cache_mode.CacheMode.TheVariants.{ReadOnly as ModeReadOnly, ReadWrite as ModeReadWrite}
 use Rattle.sc_model.specs.declared.message.CompileFinished.{CompileFinished}
 use Rattle.sc_model.specs.declared.message.CompileResponse.TheVariants.{CompileStarted, UnhandledCompile, UnsupportedCompiler}
-use Rattle.sc_model.specs.declared.message.GetPathResult.TheVariants.{Found as PathFound, Miss as PathMiss, Unsupported as PathUnsupported}
+use Rattle.sc_entry.specs.declared.get_path_result.GetPathResult.TheVariants.{Found as PathFound, Miss as PathMiss, Unsupported as PathUnsupported}
 use Rattle.sc_model.specs.declared.message.Request.{Request}
 use Rattle.sc_model.specs.declared.message.Request.TheVariants.{Compile, DistStatus, GetStats, RecordStats, Shutdown, StorageGetPath as GetPath, StorageGetPreprocessorEntry as GetPre, StorageGetRaw as GetRaw, StorageHandshake as Handshake, StoragePutPreprocessorEntry as PutPre, StoragePutRaw as PutRaw, ZeroStats}
 use Rattle.sc_model.specs.declared.message.Response.{Response}

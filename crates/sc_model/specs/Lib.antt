@@ -12,3 +12,4 @@ pub mod Headline
 pub mod Stream
 pub mod Machine
 pub mod Collected
+pub mod Devices

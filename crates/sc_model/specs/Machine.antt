@@ -46,7 +46,7 @@ use Rattle.sc_model.specs.declared.level.Policy.TheVariants.{Levels, Single}
 use Rattle.sc_model.specs.declared.level.Put.{Put}
 use Rattle.sc_model.specs.declared.message.CompileFinished.{CompileFinished}
 use Rattle.sc_model.specs.declared.message.CompileResponse.TheVariants.{CompileStarted, UnhandledCompile, UnsupportedCompiler}
-use Rattle.sc_model.specs.declared.message.GetPathResult.TheVariants.{Found as PathFound, Miss as PathMiss, Unsupported as PathUnsupported}
+use Rattle.sc_entry.specs.declared.get_path_result.GetPathResult.TheVariants.{Found as PathFound, Miss as PathMiss, Unsupported as PathUnsupported}
 use Rattle.sc_model.specs.declared.message.Request.{Request}
 use Rattle.sc_model.specs.declared.message.Request.TheVariants.{Compile, DistStatus, GetStats, RecordStats, Shutdown, StorageGetPath as GetPath, StorageGetPreprocessorEntry as GetPre, StorageGetRaw as GetRaw, StorageHandshake as Handshake, StoragePutPreprocessorEntry as PutPre, StoragePutRaw as PutRaw, ZeroStats}
 use Rattle.sc_model.specs.declared.message.Response.TheVariants.{Compile as Answered, DistStatus as DistTold, RecordStats as Recorded, StorageGetPath as PathReply, StorageGetPreprocessorEntry as PreReply, StorageGetRaw as RawReply, StorageHandshake as Shaken, StoragePutPreprocessorEntry as PrePutReply, StoragePutRaw as PutReply, ZeroStats as Zeroed}

@@ -19,8 +19,8 @@ use Rattle.sc_model.specs.declared.level.Put.TheVariants.{Done as PutDone, Level
 use Rattle.sc_model.specs.declared.level.RemoteFault.{RemoteFault}
 use Rattle.sc_model.specs.declared.level.RemoteFault.TheVariants.{AlreadyExists, Other as OtherFault, RateLimited}
 use Rattle.sc_model.specs.declared.level.Store.TheVariants.{Disk as DiskStore, Remote as RemoteStore, Wrapper as WrapperStore}
-use Rattle.sc_model.specs.declared.message.CacheMode.{CacheMode}
-use Rattle.sc_model.specs.declared.message.CacheMode.TheVariants.{ReadOnly as ModeReadOnly, ReadWrite as ModeReadWrite}
+use Rattle.sc_entry.specs.declared.cache_mode.CacheMode.{CacheMode}
+use Rattle.sc_entry.specs.declared.cache_mode.CacheMode.TheVariants.{ReadOnly as ModeReadOnly, ReadWrite as ModeReadWrite}
 use Rattle.sc_model.specs.declared.phase.Bytes.{Bytes}
 use Rattle.sc_model.specs.declared.phase.Refusal.{Refusal}
 use Rattle.sc_model.specs.declared.phase.Refusal.TheVariants.{At as RefusedAt, NoneYet}

@@ -1,6 +1,7 @@
 -- What the parts hold, and how an event of a request or a handed write moves it.
 use Rattle.std.specs.Prelude.{◌≡◌, ℕ, ◌+◌, ◌-◌, ◌^◌, min, ◌<◌, ◌≤◌, Bool, true, false, ◌&&◌, not, if◌then◌else◌, List, [], ◌∷◌, ◌++◌, length, Option, Some, None, slice_index_or, slice_set, ◌⊎◌, codes, bytes_eq, IsTrue, nat_lt}
 use Rattle.sc_entry.specs.Entries.{has_name}
+use Rattle.sc_model.specs.Devices.{Calls, MakesOn}
 use Rattle.sc_model.specs.Follows.{kind_at}
 use Rattle.sc_model.specs.Job.{Own, hit_of, job_of}
 use Rattle.sc_model.specs.Plan.{is_disk, level_facts, reads_only}
@@ -74,16 +75,17 @@ sum_lengths (e ∷ es) = length (e.1) + sum_lengths es
 abbrev pub size_of : Files → ℕ
 size_of files = sum_lengths (entries_map files)
 
--- a level: its device's counts, whether a disk store was opened, and both maps; a remote has the first alone
+-- a level: its device's counts and calls, whether a disk store was opened, and both maps; a remote has the first alone
 pub record Level : Type 0 where
   pub faults : ℕ
   pub losses : ℕ
+  pub calls : Option Calls
   pub opened : Bool
   pub main : Files
   pub pre : Files
 
 abbrev pub no_level_held : Level
-no_level_held = record { faults = 0; losses = 0; opened = false; main = no_files; pre = no_files }
+no_level_held = record { faults = 0; losses = 0; calls = None; opened = false; main = no_files; pre = no_files }
 
 pub record Place : Type 0 where
   pub outputs : List FileObjectSource
@@ -128,7 +130,7 @@ abbrev pub Keeps_all : LevelKind → Level → Level → Type 0
 Keeps_all Disk v w = (w.main ≡ v.main) × (w.pre ≡ v.pre)
 Keeps_all Remote v w = ((w.main ≡ v.main) ⊎ (IsPart w.main v.main × Rose v.losses w.losses)) × (w.pre ≡ v.pre)
 
--- no count falls, and what is opened stays so
+-- no count falls, one that tells its device's calls rises only at a call that is to fail, and what is opened stays so
 abbrev pub is_later : Bool → Bool → Bool
 is_later true b = b
 is_later false b = true
@@ -136,6 +138,7 @@ is_later false b = true
 pub record Later (v w : Level) : Type 0 where
   pub faults : v.faults ≤ w.faults
   pub losses : v.losses ≤ w.losses
+  pub calls : MakesOn v.calls w.calls v.faults w.faults
   pub opened : IsTrue (is_later v.opened w.opened)
 
 -- why a device refuses

@@ -1,8 +1,7 @@
 //! Stores, as the daemon's definitions see them.
 ghost use Rattle.std.specs.Prelude.{◌≡◌};
 
-use crate::message::CacheMode;
-use sc_entry::{ByteText, Items, Text};
+use sc_entry::{ByteText, CacheMode, Items, Text};
 use std::alloc::AllocError;
 
 /// Why a store refuses.

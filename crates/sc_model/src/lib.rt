@@ -22,8 +22,8 @@ pub use level::{
     Cause, Container, Handed, LevelFacts, LevelKind, LevelPolicy, Policy, Put, RemoteFault, Store,
 };
 pub use message::{
-    CacheMode, ColorMode, Compile, CompileFinished, CompileResponse, GetPathResult, Request,
-    Response, StorageHandshakeInfo, Variable,
+    ColorMode, Compile, CompileFinished, CompileResponse, Request, Response, StorageHandshakeInfo,
+    Variable,
 };
 pub use phase::{Bytes, Ending, Job, Pending, Phase, Refusal, Sized, Stage, Work};
 

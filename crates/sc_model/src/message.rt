@@ -1,7 +1,7 @@
 //! What goes over a connection.
 ghost use Rattle.std.specs.Prelude.{◌≡◌};
 
-use sc_entry::{ByteText, Items, Text};
+use sc_entry::{ByteText, CacheMode, GetPathResult, Items, Text};
 use sc_stats::{DistInfo, ServerInfo, ServerStats};
 use std::alloc::AllocError;
 
@@ -58,12 +58,6 @@ pub struct CompileFinished {
     pub color_mode: ColorMode,
 }
 
-#[derive(Clone, Copy)]
-pub enum CacheMode {
-    ReadOnly,
-    ReadWrite,
-}
-
 #[derive(Drop)]
 pub struct StorageHandshakeInfo {
     pub location: Text,
@@ -72,13 +66,6 @@ pub struct StorageHandshakeInfo {
     pub use_preprocessor_cache_mode: bool,
     pub cache_mode: CacheMode,
     pub max_size: Option<u64>,
-}
-
-#[derive(Drop)]
-pub enum GetPathResult {
-    Found(ByteText),
-    Miss,
-    Unsupported,
 }
 
 #[derive(Drop)]

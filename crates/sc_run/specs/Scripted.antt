@@ -8,7 +8,7 @@ use Rattle.sc_memory.specs.Making.{AreLines, first_world}
 use Rattle.sc_memory.specs.Sizes.{sizes_of}
 use Rattle.sc_model.specs.Headline.{Headline}
 use Rattle.sc_model.specs.declared.level.Policy.TheVariants.{Single}
-use Rattle.sc_model.specs.declared.message.CacheMode.TheVariants.{ReadWrite}
+use Rattle.sc_entry.specs.declared.cache_mode.CacheMode.TheVariants.{ReadWrite}
 use Rattle.sc_report.specs.Report.{report_of}
 use Rattle.sc_script.specs.Scripts.{first_bad, script_of}
 use Rattle.sc_script.specs.declared.script.Script.{Script}

@@ -5,8 +5,8 @@ use Rattle.sc_model.specs.declared.message.ColorMode.TheVariants.{Off, On, Auto}
 use Rattle.sc_model.specs.declared.message.CompileFinished.{CompileFinished as Finished}
 use Rattle.sc_model.specs.declared.message.CompileResponse.{CompileResponse}
 use Rattle.sc_model.specs.declared.message.CompileResponse.TheVariants.{CompileStarted, UnhandledCompile, UnsupportedCompiler}
-use Rattle.sc_model.specs.declared.message.GetPathResult.{GetPathResult}
-use Rattle.sc_model.specs.declared.message.GetPathResult.TheVariants.{Found, Miss, Unsupported}
+use Rattle.sc_entry.specs.declared.get_path_result.GetPathResult.{GetPathResult}
+use Rattle.sc_entry.specs.declared.get_path_result.GetPathResult.TheVariants.{Found, Miss, Unsupported}
 use Rattle.sc_model.specs.declared.message.Response.{Response}
 use Rattle.sc_model.specs.declared.message.Response.TheVariants.{Compile, ZeroStats, Stats, DistStatus, ShuttingDown, CompileFinished, StorageHandshake, StorageGetPath, StorageGetRaw, StoragePutRaw, StorageGetPreprocessorEntry, StoragePutPreprocessorEntry, RecordStats, ArtifactNotification}
 use Rattle.sc_script.specs.Tokens.{printed, token_of}

@@ -3,8 +3,8 @@ ghost use Rattle.std.specs.Prelude.{◌≡◌, ◌++◌, OnOk};
 ghost use Rattle.sc_script.specs.Replies.{bytes_line, data_line, text_line, color_line, ending_words, output_words, finished_line, compile_line, path_line, raw_line, put_line, pre_line, pre_put_line, reply_line};
 
 use crate::tokens::{put, put_optional, put_printed, put_token};
-use sc_entry::{ByteText, NoMemory, Text};
-use sc_model::{ColorMode, CompileFinished, CompileResponse, GetPathResult, Response};
+use sc_entry::{ByteText, GetPathResult, NoMemory, Text};
+use sc_model::{ColorMode, CompileFinished, CompileResponse, Response};
 use std::alloc::Global;
 
 fn put_bytes(out: &mut Vec<u8>, spaces: bool, name: &[u8], bytes: &[u8]) -> Result<(), NoMemory>

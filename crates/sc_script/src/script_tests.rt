@@ -2,11 +2,8 @@ use crate::{
     Command, ScriptError, parse_words, put_counters, put_line, put_named, put_number, put_reply,
     put_token, read_script,
 };
-use sc_entry::{ByteText, Items, Text};
-use sc_model::{
-    CacheMode, ColorMode, CompileFinished, CompileResponse, GetPathResult, Response, Step,
-    StorageHandshakeInfo,
-};
+use sc_entry::{ByteText, CacheMode, GetPathResult, Items, Text};
+use sc_model::{ColorMode, CompileFinished, CompileResponse, Response, Step, StorageHandshakeInfo};
 use sc_stats::ServerStats;
 use std::alloc::Global;
 use std::test::Fail;

@@ -3,6 +3,7 @@ use Rattle.std.proofs.Common.{◌≡◌, ℕ, ◌≤◌, Bool, true, false, List
 use Rattle.sc_entry.specs.Causes.{Told}
 use Rattle.sc_entry.specs.Entries.{objects}
 use Rattle.sc_entry.specs.Keys.{IsStoreKey, is_store_key, normalize_key}
+use Rattle.sc_model.specs.Devices.{Calls, MakesOn}
 use Rattle.sc_model.specs.World.{Answers_whole, Asks, Files, Level, Spells, Wrote_at, early_cause, find_file, held as held_by, or_cause}
 use Rattle.sc_entry.specs.declared.object.Object.{Object}
 use Rattle.sc_model.specs.Plan.{reads_only}
@@ -18,7 +19,7 @@ use Rattle.sc_model.specs.declared.level.LevelFacts.{LevelFacts}
 use Rattle.sc_model.specs.declared.level.LevelKind.TheVariants.{Remote}
 use Rattle.sc_model.specs.declared.level.Policy.{Policy}
 use Rattle.sc_model.specs.declared.level.Store.TheVariants.{Remote as RemoteStore}
-use Rattle.sc_model.specs.declared.message.CacheMode.{CacheMode}
+use Rattle.sc_entry.specs.declared.cache_mode.CacheMode.{CacheMode}
 use Rattle.sc_store.specs.Asking.{hit_of, if_spells, mode_answer, raw_answer, reads_key, whole_answer, written_of}
 use Rattle.sc_store.specs.Held.{HeldLevel, held_remote, remote_facts, remote_level}
 use Rattle.sc_store.specs.Remotes.{Puts, ReadCause, Reads, WriteCause, Writes}
@@ -28,17 +29,17 @@ use Rattle.sc_store.specs.declared.remote.RemoteWrite.{RemoteWrite}
 use Rattle.sc_store.specs.declared.remote.RemoteWrite.TheVariants.{Done as WriteDone, Refused as WriteRefused}
 
 -- a read of a key's path is a lookup of the key
-pub read_asks : (read : RemoteRead) (held held2 : Option Files) (f f2 l l2 : ℕ) (mode : CacheMode) (key path : List ℕ) → IsStoreKey key → path ≡ normalize_key key → f ≤ f2 → l ≤ l2
+pub read_asks : (read : RemoteRead) (held held2 : Option Files) (f f2 l l2 : ℕ) (c c2 : Option Calls) (mode : CacheMode) (key path : List ℕ) → IsStoreKey key → path ≡ normalize_key key → f ≤ f2 → l ≤ l2 → MakesOn c c2 f f2
     → Told (Reads read l l2 path) held held2 → ReadCause read f f2 → is_some held ≡ true
-    → (r : ℕ) → Asks objects (remote_facts mode) r key Raw (raw_answer read) (remote_level held f l) (remote_level held2 f2 l2)
-read_asks (Found bytes) (Some m) (Some n) f f2 l l2 mode key path good at faults losses reads cause told r =
-    record { later = record { faults = faults; losses = losses; opened = refl }; keeps = (reads.0, refl); answers = (good, ap (λ p. find_file n p) (sym at) ∙ reads.1); opens = refl }
-read_asks NotFound (Some m) (Some n) f f2 l l2 mode key path good at faults losses reads cause told r =
-    record { later = record { faults = faults; losses = losses; opened = refl }; keeps = (reads.0, refl); answers = (good, ap (λ p. find_file n p) (sym at) ∙ reads.1); opens = refl }
-read_asks (ReadRefused fault) (Some m) (Some n) f f2 l l2 mode key path good at faults losses reads cause told r =
-    record { later = record { faults = faults; losses = losses; opened = refl }; keeps = (reads.0, refl); answers = (good, cause); opens = refl }
-read_asks read (Some m) None f f2 l l2 mode key path good at faults losses reads cause told r = absurd reads
-read_asks read None held2 f f2 l l2 mode key path good at faults losses reads cause told r = absurd (cc)
+    → (r : ℕ) → Asks objects (remote_facts mode) r key Raw (raw_answer read) (remote_level held f l c) (remote_level held2 f2 l2 c2)
+read_asks (Found bytes) (Some m) (Some n) f f2 l l2 c c2 mode key path good at faults losses calls reads cause told r =
+    record { later = record { faults = faults; losses = losses; calls = calls; opened = refl }; keeps = (reads.0, refl); answers = (good, ap (λ p. find_file n p) (sym at) ∙ reads.1); opens = refl }
+read_asks NotFound (Some m) (Some n) f f2 l l2 c c2 mode key path good at faults losses calls reads cause told r =
+    record { later = record { faults = faults; losses = losses; calls = calls; opened = refl }; keeps = (reads.0, refl); answers = (good, ap (λ p. find_file n p) (sym at) ∙ reads.1); opens = refl }
+read_asks (ReadRefused fault) (Some m) (Some n) f f2 l l2 c c2 mode key path good at faults losses calls reads cause told r =
+    record { later = record { faults = faults; losses = losses; calls = calls; opened = refl }; keeps = (reads.0, refl); answers = (good, cause); opens = refl }
+read_asks read (Some m) None f f2 l l2 c c2 mode key path good at faults losses calls reads cause told r = absurd reads
+read_asks read None held2 f f2 l l2 c c2 mode key path good at faults losses calls reads cause told r = absurd (cc)
 
 -- bytes that are found are an entry, or no entry
 hit_answers : (key bytes : List ℕ) (mark : Bool) (v w : Level) (os : Option (List Object)) → objects bytes ≡ os → IsStoreKey key → held_by Remote w key ≡ Some bytes
@@ -86,20 +87,20 @@ pub free_key : (policy : Policy) (mode : CacheMode) (key : List ℕ) → early_c
 free_key policy mode key free = is_not (is_store_key key) (free_of (is_single policy && reads_only mode) (not (is_store_key key)) (ForReading RemoteStore) BadKey free)
 
 -- a write of a key's path is a write of the key
-write_puts : (answer : RemoteWrite) (held held2 : Option Files) (f f2 l l2 : ℕ) (policy : Policy) (mode : CacheMode) (key path bytes : List ℕ) → early_cause policy (remote_facts mode) key ≡ None
+write_puts : (answer : RemoteWrite) (held held2 : Option Files) (f f2 l l2 : ℕ) (c c2 : Option Calls) (policy : Policy) (mode : CacheMode) (key path bytes : List ℕ) → early_cause policy (remote_facts mode) key ≡ None
     → path ≡ normalize_key key → Told (Writes answer l l2 path bytes) held held2 → WriteCause answer f f2 → is_some held ≡ true
-    → (r : ℕ) → Wrote_at policy (remote_facts mode) r key bytes Whole (written_of answer) (remote_level held f l) (remote_level held2 f2 l2)
-write_puts WriteDone (Some m) (Some n) f f2 l l2 policy mode key path bytes free at puts cause told r =
+    → (r : ℕ) → Wrote_at policy (remote_facts mode) r key bytes Whole (written_of answer) (remote_level held f l c) (remote_level held2 f2 l2 c2)
+write_puts WriteDone (Some m) (Some n) f f2 l l2 c c2 policy mode key path bytes free at puts cause told r =
     (free_key policy mode key free, free, refl, refl, subst (λ p. Puts l l2 p bytes m n) at puts)
-write_puts (WriteRefused fault) (Some m) (Some n) f f2 l l2 policy mode key path bytes free at puts cause told r =
+write_puts (WriteRefused fault) (Some m) (Some n) f f2 l l2 c c2 policy mode key path bytes free at puts cause told r =
     ((free, cause, (puts, refl), refl), (puts, refl))
-write_puts answer (Some m) None f f2 l l2 policy mode key path bytes free at puts cause told r = absurd puts
-write_puts answer None held2 f f2 l l2 policy mode key path bytes free at puts cause told r = absurd (cc)
+write_puts answer (Some m) None f f2 l l2 c c2 policy mode key path bytes free at puts cause told r = absurd puts
+write_puts answer None held2 f f2 l l2 c c2 policy mode key path bytes free at puts cause told r = absurd (cc)
 
-pub write_puts_at : (how : Written) (old : HeldLevel) (answer : RemoteWrite) (held held2 : Option Files) (f f2 l l2 : ℕ) (policy : Policy) (mode : CacheMode) (key path bytes : List ℕ) → how ≡ written_of answer
-    → held_remote mode held f l ≡ old → early_cause policy (remote_facts mode) key ≡ None → path ≡ normalize_key key → Told (Writes answer l l2 path bytes) held held2 → WriteCause answer f f2 → old.told ≡ true
-    → (r : ℕ) → Wrote_at policy old.facts r key bytes Whole how old.level (remote_level held2 f2 l2)
-write_puts_at how old answer held held2 f f2 l l2 policy mode key path bytes ends is free at puts cause =
-    subst (λ (o : HeldLevel). o.told ≡ true → (r : ℕ) → Wrote_at policy o.facts r key bytes Whole how o.level (remote_level held2 f2 l2)) is
-    (λ told r. subst (λ (x : Written). Wrote_at policy (remote_facts mode) r key bytes Whole x (remote_level held f l) (remote_level held2 f2 l2)) (sym ends)
-    (write_puts answer held held2 f f2 l l2 policy mode key path bytes free at puts cause told r))
+pub write_puts_at : (how : Written) (old : HeldLevel) (answer : RemoteWrite) (held held2 : Option Files) (f f2 l l2 : ℕ) (c c2 : Option Calls) (policy : Policy) (mode : CacheMode) (key path bytes : List ℕ) → how ≡ written_of answer
+    → held_remote mode held f l c ≡ old → early_cause policy (remote_facts mode) key ≡ None → path ≡ normalize_key key → Told (Writes answer l l2 path bytes) held held2 → WriteCause answer f f2 → old.told ≡ true
+    → (r : ℕ) → Wrote_at policy old.facts r key bytes Whole how old.level (remote_level held2 f2 l2 c2)
+write_puts_at how old answer held held2 f f2 l l2 c c2 policy mode key path bytes ends is free at puts cause =
+    subst (λ (o : HeldLevel). o.told ≡ true → (r : ℕ) → Wrote_at policy o.facts r key bytes Whole how o.level (remote_level held2 f2 l2 c2)) is
+    (λ told r. subst (λ (x : Written). Wrote_at policy (remote_facts mode) r key bytes Whole x (remote_level held f l c) (remote_level held2 f2 l2 c2)) (sym ends)
+    (write_puts answer held held2 f f2 l l2 c c2 policy mode key path bytes free at puts cause told r))

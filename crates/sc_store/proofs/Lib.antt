@@ -1,3 +1,4 @@
+mod Devices
 pub mod PathMaps
 pub mod Spellings
 pub mod StoreKeys

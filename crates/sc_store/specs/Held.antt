@@ -1,13 +1,15 @@
 -- What the stores of a daemon hold, level by level.
 use Rattle.std.specs.Prelude.{ℕ, Bool, true, false, ◌&&◌, List, [], ◌∷◌, map, Option, Some, None, is_some, slice_index_or, refl}
-use Rattle.std.specs.Coded.{Coded, code_by, coded×, coded_bool, coded_ℕ, coded_list}
+use Rattle.std.specs.Coded.{Coded, code_by, coded×, coded_bool, coded_ℕ, coded_list, coded_option}
+use Rattle.std.specs.FinSet as set
+use Rattle.sc_model.specs.Devices.{Calls, Numbers}
 use Rattle.sc_model.specs.World.{Files, Level, no_files, no_level_held}
 use Rattle.sc_model.specs.contracts.level.LevelFacts as facts_type
 use Rattle.sc_model.specs.contracts.level.Policy as policy_type
 use Rattle.sc_model.specs.declared.level.LevelFacts.{LevelFacts}
 use Rattle.sc_model.specs.declared.level.LevelKind.TheVariants.{Remote}
 use Rattle.sc_model.specs.declared.level.Policy.{Policy}
-use Rattle.sc_model.specs.declared.message.CacheMode.{CacheMode}
+use Rattle.sc_entry.specs.declared.cache_mode.CacheMode.{CacheMode}
 use Rattle.sc_store.specs.Paths.{files_code}
 
 -- One level: what does not change of it, whether it tells what it holds, and what it holds where it tells that.
@@ -32,11 +34,11 @@ told_files (Some files) = files
 abbrev pub remote_facts : CacheMode → LevelFacts
 remote_facts mode = record { kind = Remote; wrapped = false; configured = mode; mode = mode; capacity = 0; root = [] }
 
-abbrev pub remote_level : Option Files → ℕ → ℕ → Level
-remote_level held faults losses = record { faults = faults; losses = losses; opened = false; main = told_files held; pre = no_files }
+abbrev pub remote_level : Option Files → ℕ → ℕ → Option Calls → Level
+remote_level held faults losses calls = record { faults = faults; losses = losses; calls = calls; opened = false; main = told_files held; pre = no_files }
 
-abbrev pub held_remote : CacheMode → Option Files → ℕ → ℕ → HeldLevel
-held_remote mode held faults losses = record { facts = remote_facts mode; told = is_some held; level = remote_level held faults losses }
+abbrev pub held_remote : CacheMode → Option Files → ℕ → ℕ → Option Calls → HeldLevel
+held_remote mode held faults losses calls = record { facts = remote_facts mode; told = is_some held; level = remote_level held faults losses calls }
 
 abbrev pub all_tell : List HeldLevel → Bool
 all_tell [] = true
@@ -50,11 +52,17 @@ abbrev pub level_in : List Level → ℕ → Level
 level_in levels l = slice_index_or levels l no_level_held
 
 -- codes, by which proofs tell values apart
+abbrev pub calls_code : Coded Calls
+calls_code = code_by (Numbers × ℕ) (coded× (set.code coded_ℕ) coded_ℕ)
+    (λ c. (c.failing, c.made))
+    (λ p. record { failing = p.0; made = p.1 })
+    (λ _. refl)
+
 abbrev pub level_code : Coded Level
-level_code = code_by (ℕ × (ℕ × (Bool × (Files × Files))))
-    (coded× coded_ℕ (coded× coded_ℕ (coded× coded_bool (coded× files_code files_code))))
-    (λ v. (v.faults, (v.losses, (v.opened, (v.main, v.pre)))))
-    (λ p. record { faults = p.0; losses = p.1.0; opened = p.1.1.0; main = p.1.1.1.0; pre = p.1.1.1.1 })
+level_code = code_by (ℕ × (ℕ × (Option Calls × (Bool × (Files × Files)))))
+    (coded× coded_ℕ (coded× coded_ℕ (coded× (coded_option calls_code) (coded× coded_bool (coded× files_code files_code)))))
+    (λ v. (v.faults, (v.losses, (v.calls, (v.opened, (v.main, v.pre))))))
+    (λ p. record { faults = p.0; losses = p.1.0; calls = p.1.1.0; opened = p.1.1.1.0; main = p.1.1.1.1.0; pre = p.1.1.1.1.1 })
     (λ _. refl)
 
 abbrev pub held_level_code : Coded HeldLevel

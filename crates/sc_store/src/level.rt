@@ -7,8 +7,8 @@ ghost use Rattle.sc_store.specs.Levels.{held_level};
 
 use crate::remote::Remote;
 use crate::remote_storage::RemoteStorage;
-use sc_entry::{ByteText, NoMemory, Text};
-use sc_model::{Answer, CacheMode, LevelKind, Mode, Policy, Written};
+use sc_entry::{ByteText, CacheMode, NoMemory, Text};
+use sc_model::{Answer, LevelKind, Mode, Policy, Written};
 use std::alloc::Global;
 
 /// One level of a daemon's store.

@@ -9,8 +9,8 @@ ghost use Rattle.sc_store.specs.Levels.{held_level, held_levels};
 
 use crate::level::Level;
 use crate::remote::Remote;
-use sc_entry::{ByteText, NoMemory, Text};
-use sc_model::{Answer, CacheMode, LevelKind, Mode, Policy, Written};
+use sc_entry::{ByteText, CacheMode, NoMemory, Text};
+use sc_model::{Answer, LevelKind, Mode, Policy, Written};
 use std::alloc::Global;
 use std::marker::Model;
 

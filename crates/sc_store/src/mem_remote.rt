@@ -2,7 +2,9 @@ ghost use Rattle.std.specs.Prelude.{◌≡◌, ◌≤◌, ℕ, Some, IfOk, cond,
 ghost use Rattle.std.specs.List.{list_any};
 ghost use Rattle.std.specs.Ordering.{nat_cmp, eq_by_cmp};
 ghost use Rattle.sc_entry.specs.Failing.{fails_at, faults_after, one_more};
+ghost use Rattle.sc_model.specs.Devices.{MakesOn, calls_failing};
 ghost use Rattle.sc_model.specs.World.{no_files, find_file, put_file};
+ghost use Rattle.sc_store.specs.Devices.{calls_of};
 ghost use Rattle.sc_store.specs.Paths.{entries_of, put_all, told_size};
 ghost use Rattle.sc_store.specs.Remotes.{Reads, ReadCause, Writes, WriteCause, read_of, write_of};
 
@@ -34,6 +36,7 @@ fn map_of(alloc: Global, held: Items<(Text, ByteText)>) -> Result<PathMap, NoMem
 impl MemRemote {
     /// A store that holds these bytes at these paths (of two with one path the later), and is to refuse the calls of
     /// these numbers. Reads and writes are counted together, from 1.
+    #[tactic(auto, using(crate::proofs::Devices::new_calls))]
     pub fn new(
         alloc: Global,
         held: Items<(Text, ByteText)>,
@@ -41,6 +44,7 @@ impl MemRemote {
     ) -> Result<MemRemote, NoMemory>
         ensures held { IfOk result (λ remote. remote.files ≡ put_all no_files held) }
         ensures failing { IfOk result (λ remote. (number : ℕ) → fails_at remote.calls number ≡ list_any (eq_by_cmp nat_cmp number) failing) }
+        ensures calls { IfOk result (λ remote. calls_of remote.calls ≡ calls_failing failing) }
         ensures made { IfOk result (λ remote. remote.calls.made ≡ 0) }
         ensures faults { IfOk result (λ remote. remote.calls.faults ≡ 0) }
     {
@@ -65,12 +69,30 @@ impl MemRemote {
     }
 }
 
+impl MemRemote {
+    // Counts a call, and says whether it is to fail.
+    fn count_call(&mut self) -> bool
+        ensures answer { result ≡ fails_at self.old.calls self.new.calls.made }
+        ensures calls { MakesOn (Some (calls_of self.old.calls)) (Some (calls_of self.new.calls)) self.old.calls.faults self.new.calls.faults }
+        ensures failing { (number : ℕ) → fails_at self.new.calls number ≡ fails_at self.old.calls number }
+        ensures made { self.new.calls.made ≡ one_more self.old.calls.made }
+        ensures faults { self.new.calls.faults ≡ faults_after (fails_at self.old.calls self.new.calls.made) self.old.calls.faults }
+        ensures later { self.old.calls.faults ≤ self.new.calls.faults }
+        ensures files { self.new.files ≡ self.old.files }
+    {
+        let _made = self.calls.made();
+        self.calls.fails_next()
+    }
+}
+
 impl Remote for MemRemote {
     ghost held = { λ m. Some m.files };
 
     ghost fault_count = { λ m. m.calls.faults };
 
     ghost loss_count = { λ m. 0 };
+
+    ghost calls = { λ m. Some (calls_of m.calls) };
 
     fn faults(&self) -> u64 {
         self.calls.faults()
@@ -79,6 +101,7 @@ impl Remote for MemRemote {
     fn read(&mut self, _alloc: Global, path: &Text) -> Result<RemoteRead, NoMemory>
         ensures told { IfOk result (λ answer. Reads answer 0 0 path.now self.old.files self.new.files) }
         ensures cause { IfOk result (λ answer. ReadCause answer self.old.calls.faults self.new.calls.faults) }
+        ensures calls { MakesOn (Some (calls_of self.old.calls)) (Some (calls_of self.new.calls)) self.old.calls.faults self.new.calls.faults }
         ensures faults_stay { self.old.calls.faults ≤ self.new.calls.faults }
         ensures answer { IfOk result (λ answer. answer ≡ read_of (fails_at self.old.calls self.new.calls.made) (find_file self.old.files path.now)) }
         ensures files { self.new.files ≡ self.old.files }
@@ -86,7 +109,7 @@ impl Remote for MemRemote {
         ensures failing { (number : ℕ) → fails_at self.new.calls number ≡ fails_at self.old.calls number }
         ensures faults { self.new.calls.faults ≡ faults_after (fails_at self.old.calls self.new.calls.made) self.old.calls.faults }
     {
-        if self.calls.fails_next() {
+        if self.count_call() {
             return Ok(RemoteRead::Refused(RemoteFault::Other));
         }
         match self.files.get(path) {
@@ -103,6 +126,7 @@ impl Remote for MemRemote {
     ) -> Result<RemoteWrite, NoMemory>
         ensures told { IfOk result (λ answer. Writes answer 0 0 path.now bytes.now self.old.files self.new.files) }
         ensures cause { IfOk result (λ answer. WriteCause answer self.old.calls.faults self.new.calls.faults) }
+        ensures calls { MakesOn (Some (calls_of self.old.calls)) (Some (calls_of self.new.calls)) self.old.calls.faults self.new.calls.faults }
         ensures faults_stay { self.old.calls.faults ≤ self.new.calls.faults }
         ensures answer { IfOk result (λ answer. answer ≡ write_of (fails_at self.old.calls self.new.calls.made)) }
         ensures files { IfOk result (λ answer. self.new.files ≡ cond (fails_at self.old.calls self.new.calls.made) self.old.files (put_file self.old.files path.now bytes.now)) }
@@ -110,7 +134,7 @@ impl Remote for MemRemote {
         ensures failing { (number : ℕ) → fails_at self.new.calls number ≡ fails_at self.old.calls number }
         ensures faults { self.new.calls.faults ≡ faults_after (fails_at self.old.calls self.new.calls.made) self.old.calls.faults }
     {
-        if self.calls.fails_next() {
+        if self.count_call() {
             return Ok(RemoteWrite::Refused(RemoteFault::Other));
         }
         self.files.put(path.try_clone()?, bytes.try_clone()?)?;

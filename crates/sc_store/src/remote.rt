@@ -1,5 +1,6 @@
 ghost use Rattle.std.specs.Prelude.{◌≡◌, ◌≤◌, ℕ, Option, IfOk, is_some};
 ghost use Rattle.sc_entry.specs.Causes.{Told};
+ghost use Rattle.sc_model.specs.Devices.{Calls, MakesOn};
 ghost use Rattle.sc_model.specs.World.{Files};
 ghost use Rattle.sc_store.specs.Remotes.{Reads, ReadCause, Writes, WriteCause};
 
@@ -34,6 +35,9 @@ pub trait Remote {
     /// How often it found that something was lost.
     ghost loss_count: { Self → ℕ };
 
+    /// Which of its calls are to fail, and how many were made, where it tells that. No call changes whether it tells.
+    ghost calls: { Self → Option Calls };
+
     /// How often it refused. The count never falls, and stays at the greatest `u64`.
     fn faults(&self) -> u64
         ensures { result ≡ fault_count self.now };
@@ -43,6 +47,7 @@ pub trait Remote {
         ensures tells { is_some (held self.new) ≡ is_some (held self.old) }
         ensures told { IfOk result (λ answer. Told (Reads answer (loss_count self.old) (loss_count self.new) path.now) (held self.old) (held self.new)) }
         ensures cause { IfOk result (λ answer. ReadCause answer (fault_count self.old) (fault_count self.new)) }
+        ensures calls { MakesOn (calls self.old) (calls self.new) (fault_count self.old) (fault_count self.new) }
         ensures faults_stay { fault_count self.old ≤ fault_count self.new }
         ensures losses_stay { loss_count self.old ≤ loss_count self.new };
 
@@ -56,6 +61,7 @@ pub trait Remote {
         ensures tells { is_some (held self.new) ≡ is_some (held self.old) }
         ensures told { IfOk result (λ answer. Told (Writes answer (loss_count self.old) (loss_count self.new) path.now bytes.now) (held self.old) (held self.new)) }
         ensures cause { IfOk result (λ answer. WriteCause answer (fault_count self.old) (fault_count self.new)) }
+        ensures calls { MakesOn (calls self.old) (calls self.new) (fault_count self.old) (fault_count self.new) }
         ensures faults_stay { fault_count self.old ≤ fault_count self.new }
         ensures losses_stay { loss_count self.old ≤ loss_count self.new };
 

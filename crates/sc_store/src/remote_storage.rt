@@ -10,8 +10,8 @@ ghost use Rattle.sc_store.specs.Held.{held_remote, remote_facts, remote_level};
 
 use crate::remote::{Remote, RemoteRead, RemoteWrite};
 use crate::store_key::{is_store_key, normalize_key};
-use sc_entry::{ByteText, CacheRead, NoMemory, ReadEntryError, Text};
-use sc_model::{Answer, CacheMode, Cause, LevelKind, Mode, Policy, Store, Written};
+use sc_entry::{ByteText, CacheMode, CacheRead, NoMemory, ReadEntryError, Text};
+use sc_model::{Answer, Cause, LevelKind, Mode, Policy, Store, Written};
 use std::alloc::Global;
 use std::marker::Model;
 
@@ -29,7 +29,7 @@ impl<R: Remote> Model for RemoteStorage<R> {
 
     ghost coded = { held_level_code };
 
-    ghost view = { λ s. held_remote s.configured (R.held s.remote) (R.fault_count s.remote) (R.loss_count s.remote) };
+    ghost view = { λ s. held_remote s.configured (R.held s.remote) (R.fault_count s.remote) (R.loss_count s.remote) (R.calls s.remote) };
 }
 
 /// What a read's answer tells of a key.
@@ -151,7 +151,7 @@ fn fixed_answer(mode: Mode) -> Answer
 impl<R: Remote> RemoteStorage<R> {
     /// A store over a remote, with its configured mode.
     pub fn new(remote: R, mode: CacheMode) -> RemoteStorage<R>
-        ensures { result ≡ held_remote mode (R.held remote) (R.fault_count remote) (R.loss_count remote) }
+        ensures { result ≡ held_remote mode (R.held remote) (R.fault_count remote) (R.loss_count remote) (R.calls remote) }
     {
         RemoteStorage {
             remote,
@@ -161,7 +161,7 @@ impl<R: Remote> RemoteStorage<R> {
 
     pub fn remote(&self) -> &R
         ensures told { self.now.told ≡ is_some (R.held result.now) }
-        ensures level { self.now.level ≡ remote_level (R.held result.now) (R.fault_count result.now) (R.loss_count result.now) }
+        ensures level { self.now.level ≡ remote_level (R.held result.now) (R.fault_count result.now) (R.loss_count result.now) (R.calls result.now) }
     {
         &self.remote
     }
@@ -189,6 +189,7 @@ impl<R: Remote> RemoteStorage<R> {
     }
 
     /// What stands under a store key, as it is.
+    #[tactic(auto, using(crate::proofs::Devices::later_same))]
     fn find(&mut self, alloc: Global, key: &Text) -> Result<Answer, NoMemory>
         requires { IsStoreKey key.now }
         ensures facts { self.new.facts ≡ self.old.facts }
@@ -203,6 +204,7 @@ impl<R: Remote> RemoteStorage<R> {
     }
 
     /// Looks a key up. A bad key is found before the remote is called.
+    #[tactic(auto, using(crate::proofs::Devices::later_same))]
     pub(crate) fn ask(&mut self, alloc: Global, key: &Text, mode: Mode) -> Result<Answer, NoMemory>
         ensures facts { self.new.facts ≡ self.old.facts }
         ensures told { self.new.told ≡ self.old.told }
@@ -225,6 +227,7 @@ impl<R: Remote> RemoteStorage<R> {
     }
 
     /// Puts an entry under a key. The mode of a single store and then the key are looked at before the remote is called.
+    #[tactic(auto, using(crate::proofs::Devices::later_same))]
     pub(crate) fn put_step(
         &mut self,
         alloc: Global,

@@ -1,6 +1,6 @@
 use crate::{Level, Levels, MemRemote, Remote, RemoteRead, RemoteStorage, RemoteWrite};
-use sc_entry::{ByteText, Items, Text};
-use sc_model::{Answer, CacheMode, Cause, Mode, Policy, RemoteFault, Store, Written};
+use sc_entry::{ByteText, CacheMode, Items, Text};
+use sc_model::{Answer, Cause, Mode, Policy, RemoteFault, Store, Written};
 use std::alloc::Global;
 use std::test::Fail;
 

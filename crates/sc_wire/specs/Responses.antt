@@ -12,7 +12,7 @@ use Rattle.sc_stats.specs.declared.counters.DistInfo.{DistInfo}
 use Rattle.sc_model.specs.declared.message.CompileResponse.{CompileResponse}
 use Rattle.sc_model.specs.declared.message.CompileFinished.{CompileFinished}
 use Rattle.sc_model.specs.declared.message.StorageHandshakeInfo.{StorageHandshakeInfo}
-use Rattle.sc_model.specs.declared.message.GetPathResult.{GetPathResult}
+use Rattle.sc_entry.specs.declared.get_path_result.GetPathResult.{GetPathResult}
 use Rattle.sc_model.specs.declared.message.Response.{Response}
 use Rattle.sc_model.specs.declared.message.Response.TheVariants.{Compile as Compiles, ZeroStats, Stats, DistStatus, ShuttingDown, CompileFinished as Finished, StorageHandshake, StorageGetPath, StorageGetRaw, StoragePutRaw, StorageGetPreprocessorEntry, StoragePutPreprocessorEntry, RecordStats, ArtifactNotification}
 

@@ -5,11 +5,11 @@ use Rattle.sc_wire.specs.Codec.{Codec, nothing, ◌&◌, same_as}
 use Rattle.sc_wire.specs.Numbers.{u64, flag}
 use Rattle.sc_wire.specs.Lists.{optional, list, byte_text, text}
 use Rattle.sc_wire.specs.Variants.{variants, either, last}
-use Rattle.sc_model.specs.declared.message.CacheMode.{CacheMode}
-use Rattle.sc_model.specs.declared.message.CacheMode.TheVariants.{ReadOnly, ReadWrite}
+use Rattle.sc_entry.specs.declared.cache_mode.CacheMode.{CacheMode}
+use Rattle.sc_entry.specs.declared.cache_mode.CacheMode.TheVariants.{ReadOnly, ReadWrite}
 use Rattle.sc_model.specs.declared.message.StorageHandshakeInfo.{StorageHandshakeInfo}
-use Rattle.sc_model.specs.declared.message.GetPathResult.{GetPathResult}
-use Rattle.sc_model.specs.declared.message.GetPathResult.TheVariants.{Found, Miss, Unsupported}
+use Rattle.sc_entry.specs.declared.get_path_result.GetPathResult.{GetPathResult}
+use Rattle.sc_entry.specs.declared.get_path_result.GetPathResult.TheVariants.{Found, Miss, Unsupported}
 
 -- the fields of each variant, in the variants' order
 abbrev pub CacheModeForm : Type 0

@@ -30,9 +30,10 @@ pub use message::{
     encode_response, messages_are_read,
 };
 pub use reader::Reader;
+pub use sc_entry::{CacheMode, GetPathResult};
 pub use sc_model::{
-    CacheMode, ColorMode, Compile, CompileFinished, CompileResponse, GetPathResult, Request,
-    Response, StorageHandshakeInfo, Variable,
+    ColorMode, Compile, CompileFinished, CompileResponse, Request, Response, StorageHandshakeInfo,
+    Variable,
 };
 pub use several::{put2, put3, put4, put5};
 pub use wire::Wire;

@@ -5,8 +5,8 @@ use crate::error::DecodeError;
 use crate::reader::Reader;
 use crate::several::{put2, put3};
 use crate::wire::Wire;
-use sc_entry::{ByteText, Items, NoMemory, Text};
-use sc_model::{CacheMode, GetPathResult, StorageHandshakeInfo};
+use sc_entry::{ByteText, CacheMode, GetPathResult, Items, NoMemory, Text};
+use sc_model::StorageHandshakeInfo;
 use std::alloc::Global;
 
 impl Wire for CacheMode {

@@ -8,5 +8,5 @@ returns-clause-asked g c =
     let new = c.read.new.self in
     let e = c.in_ok-found.ensures in
     rw (← c.self.view_is, c.raw_answer.ensures)
-    (read_asks c.in_ok-found.found (r.held old) (r.held new) (r.fault_count old) (r.fault_count new) (r.loss_count old) (r.loss_count new)
-    c.self.inside.configured c.args.key.now c.in_ok-path.path c.requires c.in_ok-path.ensures e.faults_stay e.losses_stay e.told e.cause)
+    (read_asks c.in_ok-found.found (r.held old) (r.held new) (r.fault_count old) (r.fault_count new) (r.loss_count old) (r.loss_count new) (r.calls old) (r.calls new)
+    c.self.inside.configured c.args.key.now c.in_ok-path.path c.requires c.in_ok-path.ensures e.faults_stay e.losses_stay e.calls e.told e.cause)
