@@ -1,5 +1,6 @@
 pub mod Acts
 pub mod Controls
+pub mod Misses
 pub mod Ran
 pub mod Sends
 pub mod Serves

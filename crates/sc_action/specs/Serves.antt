@@ -1,42 +1,53 @@
--- The phases that a compile over remote levels without a distributed client can stand at.
-use Rattle.std.specs.Prelude.{◌≡◌, ℕ, ◌<◌, false, List, [], ◌∷◌, length, Option, Some, None}
+-- The phases that a request over remote levels without a distributed client can stand at.
+use Rattle.std.specs.Prelude.{◌≡◌, ◌<◌, false, length, Option, Some, None}
+use Rattle.sc_model.specs.There.{AreLevels}
+use Rattle.sc_wire.specs.Requests.{IsServed}
 use Rattle.sc_hold.specs.Quiet.{IsQuietVerdict}
 use Rattle.sc_job.specs.Setups.{Config}
+use Rattle.sc_model.specs.declared.message.Request.{Request}
+use Rattle.sc_model.specs.declared.message.Request.TheVariants.{Compile, StorageGetRaw, StoragePutRaw}
+use Rattle.sc_model.specs.declared.phase.Ending.{Ending}
 use Rattle.sc_model.specs.declared.phase.Job.{Job}
 use Rattle.sc_model.specs.declared.phase.Phase.{Phase}
-use Rattle.sc_model.specs.declared.phase.Phase.TheVariants.{AtAsk, AtBegin, AtEnd, AtEnded, AtFinish, AtKey, AtOver, AtPlace, AtRun, AtSend, AtStarted, AtStore, AtTake, AtWrite}
+use Rattle.sc_model.specs.declared.phase.Phase.TheVariants.{AtAsk, AtBegin, AtEnd, AtEnded, AtFinish, AtKey, AtOver, AtPlace, AtRun, AtSend, AtStarted, AtStore, AtTake, AtWrite, RawAsk}
 
-abbrev pub IsSome : {A : Type 0} → Option A → Type 0
-IsSome None = ⊥
-IsSome (Some a) = Unit {0}
+abbrev pub IsCompile : Request → Type 0
+IsCompile (Compile c) = Unit {0}
+IsCompile _ = ⊥
+
+abbrev pub IsGetRaw : Request → Type 0
+IsGetRaw (StorageGetRaw k) = Unit {0}
+IsGetRaw _ = ⊥
+
+-- a compile's write has its ending behind it, another's has none
+abbrev pub IsWriter : Request → Option Ending → Type 0
+IsWriter (Compile c) (Some ending) = Unit {0}
+IsWriter (StoragePutRaw k b) None = Unit {0}
+IsWriter r ending = ⊥
 
 -- a job that no client was given for
 abbrev pub IsLocal : Job → Type 0
 IsLocal job = job.client ≡ false
 
--- levels that are there
-abbrev pub AreLevels : ℕ → List ℕ → Type 0
-AreLevels n [] = Unit {0}
-AreLevels n (l ∷ ls) = (l < n) × AreLevels n ls
-
 -- What can be gone on with: every phase but those after the last reply.
-abbrev pub Serves : Config → Phase → Type 0
-Serves k AtBegin = Unit {0}
-Serves k (AtSend f) = Unit {0}
-Serves k (AtStarted task) = Unit {0}
-Serves k (AtKey task first) = Unit {0}
-Serves k (AtAsk job l) = IsLocal job × (l < length k.levels)
-Serves k (AtPlace job b d) = IsLocal job
-Serves k (AtTake work) = IsLocal work.job
-Serves k (AtRun work) = IsLocal work.job
-Serves k (AtEnd v task ending) = IsQuietVerdict v
-Serves k (AtStore v task b ending) = IsQuietVerdict v
-Serves k (AtWrite b ls f ending) = AreLevels (length k.levels) ls × IsSome ending
-Serves k (AtFinish ns last) = Unit {0}
-Serves k _ = ⊥
+abbrev pub Serves : Config → Phase → Request → Type 0
+Serves k AtBegin r = IsServed r
+Serves k (AtSend f) r = IsServed r
+Serves k (AtStarted task) r = IsCompile r
+Serves k (AtKey task first) r = IsCompile r
+Serves k (AtAsk job l) r = IsCompile r × IsLocal job × (l < length k.levels)
+Serves k (AtPlace job b d) r = IsCompile r × IsLocal job
+Serves k (AtTake work) r = IsCompile r × IsLocal work.job
+Serves k (AtRun work) r = IsCompile r × IsLocal work.job
+Serves k (AtEnd v task ending) r = IsCompile r × IsQuietVerdict v
+Serves k (AtStore v task b ending) r = IsCompile r × IsQuietVerdict v
+Serves k (AtWrite b ls f ending) r = AreLevels (length k.levels) ls × IsWriter r ending
+Serves k (AtFinish ns last) r = IsCompile r
+Serves k (RawAsk l key) r = IsGetRaw r × (l < length k.levels)
+Serves k _ r = ⊥
 
 -- What a connection may stand at: also where a reply was too long.
-abbrev pub Stands : Config → Phase → Type 0
-Stands k (AtEnded left) = Unit {0}
-Stands k AtOver = Unit {0}
-Stands k p = Serves k p
+abbrev pub Stands : Config → Phase → Request → Type 0
+Stands k (AtEnded left) r = Unit {0}
+Stands k AtOver r = Unit {0}
+Stands k p r = Serves k p r

@@ -1,4 +1,4 @@
-//! One action of a compile.
+//! One action of a request.
 ghost use Rattle.std.specs.Prelude.{◌≡◌, IfOk};
 ghost use Rattle.sc_action.specs.Acts.{Acts};
 ghost use Rattle.sc_action.specs.Sends.{Adds};
@@ -6,37 +6,37 @@ ghost use Rattle.sc_action.specs.Serves.{Serves};
 ghost use Rattle.sc_job.specs.Setups.{Config, setup};
 ghost use Rattle.sc_model.specs.Machine.{need_at};
 ghost use Rattle.sc_model.specs.Trace.{sent_by};
-ghost use Rattle.sc_model.specs.declared.message.Request.TheVariants.{Compile as CompileOf};
+ghost use Rattle.sc_model.specs.declared.message.Request.TheVariants.{Compile as CompileOf, StorageGetRaw, StoragePutRaw};
 
 use crate::acted::Acted;
 use crate::early::{act_begin, act_key};
 use crate::lookup::{act_ask, act_place};
+use crate::raw::{act_begin_get, act_begin_put, act_put, act_raw_ask};
 use crate::running::{act_run, act_take};
 use crate::sending::{act_finish, act_send, act_started};
 use crate::storing::{act_end, act_store, act_write};
-use sc_entry::NoMemory;
+use sc_entry::{ByteText, NoMemory, Text};
 use sc_hold::Hold;
-use sc_model::{Compile, Phase};
+use sc_model::{Compile, Phase, Request};
 use std::alloc::Global;
 
-/// Does the action that is due of a compile at this phase: its event, and the phase after it. What it sends goes behind
-/// `out`. It waits for nothing: a token is there where one is taken.
-pub fn act<H: Hold>(
+/// Does the action that is due of a compile.
+fn act_compile<H: Hold>(
     alloc: Global,
     hold: &mut H,
     request: &Compile,
     phase: Phase,
     out: &mut Vec<u8>,
 ) -> Result<Acted, NoMemory>
-    requires { Serves (H.config hold.old) phase }
-    ensures acts { IfOk result (λ a. Acts (H.config hold.old) request.now (phase) (H.moment hold.old) a) }
-    ensures moves { IfOk result (λ a. H.moves hold.old (need_at (setup (H.config hold.old)) (CompileOf request.now) (phase)) a.what hold.new) }
+    requires { Serves (H.config hold.old) phase (CompileOf request.now) }
+    ensures acts { IfOk result (λ a. Acts (H.config hold.old) (CompileOf request.now) phase (H.moment hold.old) a) }
+    ensures moves { IfOk result (λ a. H.moves hold.old (need_at (setup (H.config hold.old)) (CompileOf request.now) phase) a.what hold.new) }
     ensures same { IfOk result (λ a. H.config hold.new ≡ H.config hold.old) }
     ensures sent { IfOk result (λ a. Adds (H.config hold.old) (sent_by a.what) out.old.items out.new.items) }
 {
     match phase {
         Phase::AtBegin => act_begin(alloc, hold, request),
-        Phase::AtSend(reply) => act_send(alloc, hold, request, reply, out),
+        Phase::AtSend(reply) => act_send(alloc, hold, reply, out),
         Phase::AtStarted(task) => act_started(alloc, hold, request, task, out),
         Phase::AtKey(task, first) => act_key(alloc, hold, request, task, first),
         Phase::AtAsk(job, level) => act_ask(alloc, hold, request, job, level),
@@ -53,6 +53,76 @@ pub fn act<H: Hold>(
             act_write(alloc, hold, request, bytes, levels, refusal, ending)
         }
         Phase::AtFinish(notes, last) => act_finish(alloc, hold, request, notes, last, out),
+        _ => unreachable!(),
+    }
+}
+
+/// Does the action that is due of a request for the bytes under a key.
+fn act_get_raw<H: Hold>(
+    alloc: Global,
+    hold: &mut H,
+    key: &Text,
+    phase: Phase,
+    out: &mut Vec<u8>,
+) -> Result<Acted, NoMemory>
+    requires { Serves (H.config hold.old) phase (StorageGetRaw key.now) }
+    ensures acts { IfOk result (λ a. Acts (H.config hold.old) (StorageGetRaw key.now) phase (H.moment hold.old) a) }
+    ensures moves { IfOk result (λ a. H.moves hold.old (need_at (setup (H.config hold.old)) (StorageGetRaw key.now) phase) a.what hold.new) }
+    ensures same { IfOk result (λ a. H.config hold.new ≡ H.config hold.old) }
+    ensures sent { IfOk result (λ a. Adds (H.config hold.old) (sent_by a.what) out.old.items out.new.items) }
+{
+    match phase {
+        Phase::AtBegin => act_begin_get(alloc, hold, key),
+        Phase::RawAsk(level, wanted) => act_raw_ask(alloc, hold, key, level, wanted),
+        Phase::AtSend(reply) => act_send(alloc, hold, reply, out),
+        _ => unreachable!(),
+    }
+}
+
+/// Does the action that is due of a put of bytes as they are.
+fn act_put_raw<H: Hold>(
+    alloc: Global,
+    hold: &mut H,
+    key: &Text,
+    put: &ByteText,
+    phase: Phase,
+    out: &mut Vec<u8>,
+) -> Result<Acted, NoMemory>
+    requires { Serves (H.config hold.old) phase (StoragePutRaw key.now put.now) }
+    ensures acts { IfOk result (λ a. Acts (H.config hold.old) (StoragePutRaw key.now put.now) phase (H.moment hold.old) a) }
+    ensures moves { IfOk result (λ a. H.moves hold.old (need_at (setup (H.config hold.old)) (StoragePutRaw key.now put.now) phase) a.what hold.new) }
+    ensures same { IfOk result (λ a. H.config hold.new ≡ H.config hold.old) }
+    ensures sent { IfOk result (λ a. Adds (H.config hold.old) (sent_by a.what) out.old.items out.new.items) }
+{
+    match phase {
+        Phase::AtBegin => act_begin_put(alloc, hold, key, put),
+        Phase::AtWrite(bytes, levels, refusal, ending) => {
+            act_put(alloc, hold, key, put, bytes, levels, refusal, ending)
+        }
+        Phase::AtSend(reply) => act_send(alloc, hold, reply, out),
+        _ => unreachable!(),
+    }
+}
+
+/// Does the action that is due of a request at this phase: its event, and the phase after it. What it sends goes behind
+/// `out`. It waits for nothing: a token is there where one is taken.
+pub fn act<H: Hold>(
+    alloc: Global,
+    hold: &mut H,
+    request: &Request,
+    phase: Phase,
+    out: &mut Vec<u8>,
+) -> Result<Acted, NoMemory>
+    requires { Serves (H.config hold.old) phase request.now }
+    ensures acts { IfOk result (λ a. Acts (H.config hold.old) request.now phase (H.moment hold.old) a) }
+    ensures moves { IfOk result (λ a. H.moves hold.old (need_at (setup (H.config hold.old)) request.now phase) a.what hold.new) }
+    ensures same { IfOk result (λ a. H.config hold.new ≡ H.config hold.old) }
+    ensures sent { IfOk result (λ a. Adds (H.config hold.old) (sent_by a.what) out.old.items out.new.items) }
+{
+    match request {
+        Request::Compile(compile) => act_compile(alloc, hold, compile, phase, out),
+        Request::StorageGetRaw(key) => act_get_raw(alloc, hold, key, phase, out),
+        Request::StoragePutRaw(key, put) => act_put_raw(alloc, hold, key, put, phase, out),
         _ => unreachable!(),
     }
 }

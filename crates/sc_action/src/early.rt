@@ -6,6 +6,7 @@ ghost use Rattle.sc_job.specs.Setups.{Config, setup};
 ghost use Rattle.sc_model.specs.Machine.{begin_compile_phase, need_at};
 ghost use Rattle.sc_model.specs.Trace.{sent_by};
 ghost use Rattle.sc_model.specs.declared.message.Request.TheVariants.{Compile as CompileOf};
+ghost use Rattle.sc_model.specs.declared.message.Compile.{Compile as CompileRequest};
 
 use crate::acted::Acted;
 use crate::control::control_of;
@@ -20,7 +21,7 @@ use std::alloc::Global;
 /// Where a compile stands once its words are read.
 fn begun(alloc: Global, parsed: &Parsed) -> Result<Phase, NoMemory>
     ensures phase { IfOk result (λ p. p ≡ begin_compile_phase parsed.now) }
-    ensures stands { IfOk result (λ p. (k : Config) → Stands k p) }
+    ensures stands { IfOk result (λ p. (k : Config) (c : CompileRequest) → Stands k p (CompileOf c)) }
 {
     match parsed {
         Parsed::Started(task) => return Ok(Phase::AtStarted(*task)),
@@ -39,7 +40,7 @@ fn begun(alloc: Global, parsed: &Parsed) -> Result<Phase, NoMemory>
 
 /// Begins a compile.
 pub fn act_begin<H: Hold>(alloc: Global, hold: &mut H, request: &Compile) -> Result<Acted, NoMemory>
-    ensures acts { IfOk result (λ a. Acts (H.config hold.old) request.now Phase.AtBegin (H.moment hold.old) a) }
+    ensures acts { IfOk result (λ a. Acts (H.config hold.old) (CompileOf request.now) Phase.AtBegin (H.moment hold.old) a) }
     ensures moves { IfOk result (λ a. H.moves hold.old (need_at (setup (H.config hold.old)) (CompileOf request.now) Phase.AtBegin) a.what hold.new) }
     ensures same { IfOk result (λ a. H.config hold.new ≡ H.config hold.old) }
     ensures unsent { IfOk result (λ a. sent_by a.what ≡ []) }
@@ -61,7 +62,7 @@ pub fn act_key<H: Hold>(
     task: Task,
     first: bool,
 ) -> Result<Acted, NoMemory>
-    ensures acts { IfOk result (λ a. Acts (H.config hold.old) request.now (Phase.AtKey task first) (H.moment hold.old) a) }
+    ensures acts { IfOk result (λ a. Acts (H.config hold.old) (CompileOf request.now) (Phase.AtKey task first) (H.moment hold.old) a) }
     ensures moves { IfOk result (λ a. H.moves hold.old (need_at (setup (H.config hold.old)) (CompileOf request.now) (Phase.AtKey task first)) a.what hold.new) }
     ensures same { IfOk result (λ a. H.config hold.new ≡ H.config hold.old) }
     ensures unsent { IfOk result (λ a. sent_by a.what ≡ []) }

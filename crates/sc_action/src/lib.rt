@@ -1,5 +1,5 @@
-//! What a daemon does for a compile, one action at a time, over any hold: begin, find the key, ask the levels, place a hit,
-//! wait for a token, run, store, and send each reply.
+//! What a daemon does for a request, one action at a time, over any hold: of a compile begin, find the key, ask the levels,
+//! place a hit, wait for a token, run, store, and send each reply; of others ask, put and send.
 #![tactic(auto)]
 
 mod acted;
@@ -7,9 +7,11 @@ mod control;
 mod dispatch;
 mod early;
 mod lookup;
+mod raw;
 mod running;
 mod sending;
 mod storing;
+mod texts;
 mod turn;
 
 pub use acted::Acted;

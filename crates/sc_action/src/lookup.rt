@@ -29,16 +29,17 @@ pub fn act_ask<H: Hold>(
 ) -> Result<Acted, NoMemory>
     requires local { IsLocal job }
     requires level { level < length (H.config hold.old).levels }
-    ensures acts { IfOk result (λ a. Acts (H.config hold.old) request.now (Phase.AtAsk job level) (H.moment hold.old) a) }
+    ensures acts { IfOk result (λ a. Acts (H.config hold.old) (CompileOf request.now) (Phase.AtAsk job level) (H.moment hold.old) a) }
     ensures moves { IfOk result (λ a. H.moves hold.old (need_at (setup (H.config hold.old)) (CompileOf request.now) (Phase.AtAsk job level)) a.what hold.new) }
     ensures same { IfOk result (λ a. H.config hold.new ≡ H.config hold.old) }
     ensures unsent { IfOk result (λ a. sent_by a.what ≡ []) }
 {
     let now = hold.now();
     let levels = hold.level_count();
+    let single = hold.is_single();
     let lookup = hold.ask(alloc, level, &job.found.key, Mode::Whole)?;
     let key = job.found.key.try_clone()?;
-    let phase = asked(job, level, levels, &lookup.answer, now)?;
+    let phase = asked(job, level, levels, single, &lookup.answer, now)?;
     Ok(Acted {
         what: What::Asked(level, key, Mode::Whole, lookup.answer, lookup.handed),
         phase,
@@ -79,7 +80,7 @@ fn placed(
 ) -> Result<Phase, NoMemory>
     requires { IsLocal job }
     ensures phase { IfOk result (λ p. (k : Config) (c : CompileRequest) → p ≡ placed_phase (setup k) (CompileOf c) job entry duration now placing.now) }
-    ensures stands { IfOk result (λ p. (k : Config) → Stands k p) }
+    ensures stands { IfOk result (λ p. (k : Config) (c : CompileRequest) → Stands k p (CompileOf c)) }
 {
     match placing {
         Placing::Done => {
@@ -108,7 +109,7 @@ pub fn act_place<H: Hold>(
     duration: u64,
 ) -> Result<Acted, NoMemory>
     requires local { IsLocal job }
-    ensures acts { IfOk result (λ a. Acts (H.config hold.old) request.now (Phase.AtPlace job entry duration) (H.moment hold.old) a) }
+    ensures acts { IfOk result (λ a. Acts (H.config hold.old) (CompileOf request.now) (Phase.AtPlace job entry duration) (H.moment hold.old) a) }
     ensures moves { IfOk result (λ a. H.moves hold.old (need_at (setup (H.config hold.old)) (CompileOf request.now) (Phase.AtPlace job entry duration)) a.what hold.new) }
     ensures same { IfOk result (λ a. H.config hold.new ≡ H.config hold.old) }
     ensures unsent { IfOk result (λ a. sent_by a.what ≡ []) }

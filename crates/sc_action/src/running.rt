@@ -25,7 +25,7 @@ use std::alloc::Global;
 /// Takes a token for a job's run.
 pub fn act_take<H: Hold>(hold: &mut H, request: &Compile, work: Work) -> Result<Acted, NoMemory>
     requires local { IsLocal work.job }
-    ensures acts { IfOk result (λ a. Acts (H.config hold.old) request.now (Phase.AtTake work) (H.moment hold.old) a) }
+    ensures acts { IfOk result (λ a. Acts (H.config hold.old) (CompileOf request.now) (Phase.AtTake work) (H.moment hold.old) a) }
     ensures moves { IfOk result (λ a. H.moves hold.old (need_at (setup (H.config hold.old)) (CompileOf request.now) (Phase.AtTake work)) a.what hold.new) }
     ensures same { IfOk result (λ a. H.config hold.new ≡ H.config hold.old) }
     ensures unsent { IfOk result (λ a. sent_by a.what ≡ []) }
@@ -49,7 +49,7 @@ fn told_ending(alloc: Global, job: &Job, out: &Output) -> Result<Ending, NoMemor
 fn unstored(alloc: Global, job: &Job, verdict: Verdict, out: &Output) -> Result<Phase, NoMemory>
     requires { IsQuietVerdict verdict }
     ensures phase { IfOk result (λ p. (k : Config) (c : CompileRequest) → p ≡ Phase.AtEnd verdict job.now.task (ending_of (jobs.notes_in (setup k) (CompileOf c) job.now.task.kind out.now.stderr) (jobs.finish_output (setup k) (CompileOf c) out.now))) }
-    ensures stands { IfOk result (λ p. (k : Config) → Stands k p) }
+    ensures stands { IfOk result (λ p. (k : Config) (c : CompileRequest) → Stands k p (CompileOf c)) }
 {
     let ending = told_ending(alloc, job, out)?;
     Ok(Phase::AtEnd(verdict, job.task, ending))
@@ -83,7 +83,7 @@ fn stored(work: Work, entry: ByteText, ending: Ending, duration: u64) -> Phase
 fn cacheable(alloc: Global, work: Work, out: &RunOutput, duration: u64) -> Result<Phase, NoMemory>
     requires { GoodObjects out.now.objects }
     ensures phase { IfOk result (λ p. (k : Config) (c : CompileRequest) → p ≡ ran_by k c work duration out.now (jobs.judge_objects out.now.objects)) }
-    ensures stands { IfOk result (λ p. (k : Config) → Stands k p) }
+    ensures stands { IfOk result (λ p. (k : Config) (c : CompileRequest) → Stands k p (CompileOf c)) }
 {
     match &out.objects {
         Objects::Collected(objects) => {
@@ -110,7 +110,7 @@ fn cacheable(alloc: Global, work: Work, out: &RunOutput, duration: u64) -> Resul
 fn ran_output(alloc: Global, work: Work, out: &RunOutput, duration: u64) -> Result<Phase, NoMemory>
     requires { GoodObjects out.now.objects }
     ensures phase { IfOk result (λ p. (k : Config) (c : CompileRequest) → p ≡ ran_by k c work duration out.now (jobs.judge work.job work.miss out.now)) }
-    ensures stands { IfOk result (λ p. (k : Config) → Stands k p) }
+    ensures stands { IfOk result (λ p. (k : Config) (c : CompileRequest) → Stands k p (CompileOf c)) }
 {
     match judge(&work.job, work.miss, out) {
         Judgement::Failed => {
@@ -133,7 +133,7 @@ fn ran_output(alloc: Global, work: Work, out: &RunOutput, duration: u64) -> Resu
 fn ran(alloc: Global, work: Work, answer: &RunAnswer, now: u64) -> Result<Phase, NoMemory>
     requires { GoodAnswer answer.now }
     ensures phase { IfOk result (λ p. (k : Config) (c : CompileRequest) → p ≡ ran_phase (setup k) (CompileOf c) work now answer.now) }
-    ensures stands { IfOk result (λ p. (k : Config) → Stands k p) }
+    ensures stands { IfOk result (λ p. (k : Config) (c : CompileRequest) → Stands k p (CompileOf c)) }
 {
     match answer {
         RunAnswer::Output(out) => {
@@ -158,7 +158,7 @@ pub fn act_run<H: Hold>(
     work: Work,
 ) -> Result<Acted, NoMemory>
     requires local { IsLocal work.job }
-    ensures acts { IfOk result (λ a. Acts (H.config hold.old) request.now (Phase.AtRun work) (H.moment hold.old) a) }
+    ensures acts { IfOk result (λ a. Acts (H.config hold.old) (CompileOf request.now) (Phase.AtRun work) (H.moment hold.old) a) }
     ensures moves { IfOk result (λ a. H.moves hold.old (need_at (setup (H.config hold.old)) (CompileOf request.now) (Phase.AtRun work)) a.what hold.new) }
     ensures same { IfOk result (λ a. H.config hold.new ≡ H.config hold.old) }
     ensures unsent { IfOk result (λ a. sent_by a.what ≡ []) }

@@ -5,6 +5,7 @@ ghost use Rattle.sc_action.specs.Sends.{Adds, Sends};
 ghost use Rattle.sc_job.specs.Setups.{Config, setup};
 ghost use Rattle.sc_model.specs.Machine.{need_at};
 ghost use Rattle.sc_model.specs.Trace.{sent_by};
+ghost use Rattle.sc_model.specs.declared.message.Request.{Request as Asks};
 ghost use Rattle.sc_model.specs.declared.message.Request.TheVariants.{Compile as CompileOf};
 ghost use Rattle.sc_model.specs.Follows.{notes_then};
 ghost use Rattle.sc_model.specs.declared.message.Response.TheVariants.{ArtifactNotification as Note};
@@ -45,12 +46,11 @@ fn alone(alloc: Global, reply: Response) -> Result<Items<Response>, NoMemory>
 pub fn act_send<H: Hold>(
     alloc: Global,
     hold: &mut H,
-    request: &Compile,
     reply: Response,
     out: &mut Vec<u8>,
 ) -> Result<Acted, NoMemory>
-    ensures acts { IfOk result (λ a. Acts (H.config hold.old) request.now (Phase.AtSend reply) (H.moment hold.old) a) }
-    ensures moves { IfOk result (λ a. H.moves hold.old (need_at (setup (H.config hold.old)) (CompileOf request.now) (Phase.AtSend reply)) a.what hold.new) }
+    ensures acts { IfOk result (λ a. (r : Asks) → Acts (H.config hold.old) r (Phase.AtSend reply) (H.moment hold.old) a) }
+    ensures moves { IfOk result (λ a. (r : Asks) → H.moves hold.old (need_at (setup (H.config hold.old)) r (Phase.AtSend reply)) a.what hold.new) }
     ensures same { IfOk result (λ a. H.config hold.new ≡ H.config hold.old) }
     ensures sent { IfOk result (λ a. Adds (H.config hold.old) (sent_by a.what) out.old.items out.new.items) }
 {
@@ -79,7 +79,7 @@ pub fn act_started<H: Hold>(
     task: Task,
     out: &mut Vec<u8>,
 ) -> Result<Acted, NoMemory>
-    ensures acts { IfOk result (λ a. Acts (H.config hold.old) request.now (Phase.AtStarted task) (H.moment hold.old) a) }
+    ensures acts { IfOk result (λ a. Acts (H.config hold.old) (CompileOf request.now) (Phase.AtStarted task) (H.moment hold.old) a) }
     ensures moves { IfOk result (λ a. H.moves hold.old (need_at (setup (H.config hold.old)) (CompileOf request.now) (Phase.AtStarted task)) a.what hold.new) }
     ensures same { IfOk result (λ a. H.config hold.new ≡ H.config hold.old) }
     ensures sent { IfOk result (λ a. Adds (H.config hold.old) (sent_by a.what) out.old.items out.new.items) }
@@ -127,7 +127,7 @@ fn send_note<H: Hold>(
     last: CompileFinished,
     out: &mut Vec<u8>,
 ) -> Result<Acted, NoMemory>
-    ensures acts { IfOk result (λ a. Acts (H.config hold.old) request.now (Phase.AtFinish (note ∷ rest) last) (H.moment hold.old) a) }
+    ensures acts { IfOk result (λ a. Acts (H.config hold.old) (CompileOf request.now) (Phase.AtFinish (note ∷ rest) last) (H.moment hold.old) a) }
     ensures moves { IfOk result (λ a. H.moves hold.old (need_at (setup (H.config hold.old)) (CompileOf request.now) (Phase.AtFinish (note ∷ rest) last)) a.what hold.new) }
     ensures same { IfOk result (λ a. H.config hold.new ≡ H.config hold.old) }
     ensures sent { IfOk result (λ a. Adds (H.config hold.old) (sent_by a.what) out.old.items out.new.items) }
@@ -159,7 +159,7 @@ fn send_last<H: Hold>(
     last: CompileFinished,
     out: &mut Vec<u8>,
 ) -> Result<Acted, NoMemory>
-    ensures acts { IfOk result (λ a. Acts (H.config hold.old) request.now (Phase.AtFinish [] last) (H.moment hold.old) a) }
+    ensures acts { IfOk result (λ a. Acts (H.config hold.old) (CompileOf request.now) (Phase.AtFinish [] last) (H.moment hold.old) a) }
     ensures moves { IfOk result (λ a. H.moves hold.old (need_at (setup (H.config hold.old)) (CompileOf request.now) (Phase.AtFinish [] last)) a.what hold.new) }
     ensures same { IfOk result (λ a. H.config hold.new ≡ H.config hold.old) }
     ensures sent { IfOk result (λ a. Adds (H.config hold.old) (sent_by a.what) out.old.items out.new.items) }
@@ -191,7 +191,7 @@ pub fn act_finish<H: Hold>(
     last: CompileFinished,
     out: &mut Vec<u8>,
 ) -> Result<Acted, NoMemory>
-    ensures acts { IfOk result (λ a. Acts (H.config hold.old) request.now (Phase.AtFinish notes last) (H.moment hold.old) a) }
+    ensures acts { IfOk result (λ a. Acts (H.config hold.old) (CompileOf request.now) (Phase.AtFinish notes last) (H.moment hold.old) a) }
     ensures moves { IfOk result (λ a. H.moves hold.old (need_at (setup (H.config hold.old)) (CompileOf request.now) (Phase.AtFinish notes last)) a.what hold.new) }
     ensures same { IfOk result (λ a. H.config hold.new ≡ H.config hold.old) }
     ensures sent { IfOk result (λ a. Adds (H.config hold.old) (sent_by a.what) out.old.items out.new.items) }

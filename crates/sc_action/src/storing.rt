@@ -1,11 +1,13 @@
 //! The actions from a job's outcome to the end of its write.
 ghost use Rattle.std.specs.Prelude.{◌≡◌, ◌<◌, ◌∷◌, [], length, Some, IfOk};
 ghost use Rattle.sc_action.specs.Acts.{Acts};
-ghost use Rattle.sc_action.specs.Serves.{AreLevels, IsSome};
+ghost use Rattle.sc_action.specs.Serves.{IsWriter};
+ghost use Rattle.sc_model.specs.There.{AreLevels};
 ghost use Rattle.sc_hold.specs.Quiet.{IsQuietVerdict};
 ghost use Rattle.sc_job.specs.Setups.{Config, setup};
 ghost use Rattle.sc_model.specs.Machine.{need_at};
 ghost use Rattle.sc_model.specs.Trace.{sent_by};
+ghost use Rattle.sc_model.specs.declared.message.Request.{Request as Asks};
 ghost use Rattle.sc_model.specs.declared.message.Request.TheVariants.{Compile as CompileOf};
 ghost use Rattle.sc_model.specs.Machine as machine;
 ghost use Rattle.sc_model.specs.Plan as plans;
@@ -26,7 +28,7 @@ pub fn act_end<H: Hold>(
     ending: Ending,
 ) -> Result<Acted, NoMemory>
     requires { IsQuietVerdict verdict }
-    ensures acts { IfOk result (λ a. Acts (H.config hold.old) request.now (Phase.AtEnd verdict task ending) (H.moment hold.old) a) }
+    ensures acts { IfOk result (λ a. Acts (H.config hold.old) (CompileOf request.now) (Phase.AtEnd verdict task ending) (H.moment hold.old) a) }
     ensures moves { IfOk result (λ a. H.moves hold.old (need_at (setup (H.config hold.old)) (CompileOf request.now) (Phase.AtEnd verdict task ending)) a.what hold.new) }
     ensures same { IfOk result (λ a. H.config hold.new ≡ H.config hold.old) }
     ensures unsent { IfOk result (λ a. sent_by a.what ≡ []) }
@@ -48,7 +50,7 @@ pub fn act_store<H: Hold>(
     ending: Ending,
 ) -> Result<Acted, NoMemory>
     requires { IsQuietVerdict verdict }
-    ensures acts { IfOk result (λ a. Acts (H.config hold.old) request.now (Phase.AtStore verdict task bytes ending) (H.moment hold.old) a) }
+    ensures acts { IfOk result (λ a. Acts (H.config hold.old) (CompileOf request.now) (Phase.AtStore verdict task bytes ending) (H.moment hold.old) a) }
     ensures moves { IfOk result (λ a. H.moves hold.old (need_at (setup (H.config hold.old)) (CompileOf request.now) (Phase.AtStore verdict task bytes ending)) a.what hold.new) }
     ensures same { IfOk result (λ a. H.config hold.new ≡ H.config hold.old) }
     ensures unsent { IfOk result (λ a. sent_by a.what ≡ []) }
@@ -82,11 +84,10 @@ fn goes_on(alloc: Global, refusal: Refusal, levels: Queue<u64>) -> Queue<u64>
     }
 }
 
-/// Writes at the next level.
-fn write_level<H: Hold>(
+/// Writes at the next level, for a compile that ends so behind its write, or for another put.
+pub(crate) fn write_level<H: Hold>(
     alloc: Global,
     hold: &mut H,
-    request: &Compile,
     bytes: Bytes,
     level: u64,
     rest: Queue<u64>,
@@ -95,9 +96,8 @@ fn write_level<H: Hold>(
 ) -> Result<Acted, NoMemory>
     requires level { level < length (H.config hold.old).levels }
     requires rest { AreLevels (length (H.config hold.old).levels) rest }
-    requires ending { IsSome ending }
-    ensures acts { IfOk result (λ a. Acts (H.config hold.old) request.now (Phase.AtWrite bytes (level ∷ rest) refusal ending) (H.moment hold.old) a) }
-    ensures moves { IfOk result (λ a. H.moves hold.old (need_at (setup (H.config hold.old)) (CompileOf request.now) (Phase.AtWrite bytes (level ∷ rest) refusal ending)) a.what hold.new) }
+    ensures acts { IfOk result (λ a. (r : Asks) → IsWriter r ending → Acts (H.config hold.old) r (Phase.AtWrite bytes (level ∷ rest) refusal ending) (H.moment hold.old) a) }
+    ensures moves { IfOk result (λ a. (r : Asks) → H.moves hold.old (need_at (setup (H.config hold.old)) r (Phase.AtWrite bytes (level ∷ rest) refusal ending)) a.what hold.new) }
     ensures same { IfOk result (λ a. H.config hold.new ≡ H.config hold.old) }
     ensures unsent { IfOk result (λ a. sent_by a.what ≡ []) }
 {
@@ -122,7 +122,7 @@ fn end_write<H: Hold>(
     refusal: Refusal,
     ending: Ending,
 ) -> Result<Acted, NoMemory>
-    ensures acts { IfOk result (λ a. Acts (H.config hold.old) request.now (Phase.AtWrite bytes [] refusal (Some ending)) (H.moment hold.old) a) }
+    ensures acts { IfOk result (λ a. Acts (H.config hold.old) (CompileOf request.now) (Phase.AtWrite bytes [] refusal (Some ending)) (H.moment hold.old) a) }
     ensures moves { IfOk result (λ a. H.moves hold.old (need_at (setup (H.config hold.old)) (CompileOf request.now) (Phase.AtWrite bytes [] refusal (Some ending))) a.what hold.new) }
     ensures same { IfOk result (λ a. H.config hold.new ≡ H.config hold.old) }
     ensures unsent { IfOk result (λ a. sent_by a.what ≡ []) }
@@ -145,15 +145,16 @@ pub fn act_write<H: Hold>(
     ending: Option<Ending>,
 ) -> Result<Acted, NoMemory>
     requires levels { AreLevels (length (H.config hold.old).levels) levels }
-    requires ending { IsSome ending }
-    ensures acts { IfOk result (λ a. Acts (H.config hold.old) request.now (Phase.AtWrite bytes levels refusal ending) (H.moment hold.old) a) }
+    requires ending { IsWriter (CompileOf request.now) ending }
+    ensures acts { IfOk result (λ a. Acts (H.config hold.old) (CompileOf request.now) (Phase.AtWrite bytes levels refusal ending) (H.moment hold.old) a) }
     ensures moves { IfOk result (λ a. H.moves hold.old (need_at (setup (H.config hold.old)) (CompileOf request.now) (Phase.AtWrite bytes levels refusal ending)) a.what hold.new) }
     ensures same { IfOk result (λ a. H.config hold.new ≡ H.config hold.old) }
     ensures unsent { IfOk result (λ a. sent_by a.what ≡ []) }
 {
     let mut rest = levels;
     if let Some(level) = rest.pop_front() {
-        return write_level(alloc, hold, request, bytes, level, rest, refusal, ending);
+        let acted = write_level(alloc, hold, bytes, level, rest, refusal, ending)?;
+        return Ok(acted);
     }
     match ending {
         Some(ending) => end_write(alloc, hold, request, bytes, refusal, ending),

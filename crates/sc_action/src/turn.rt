@@ -5,7 +5,10 @@ ghost use Rattle.sc_action.specs.Serves.{IsLocal, Stands};
 ghost use Rattle.sc_job.specs.Setups.{Config, setup};
 ghost use Rattle.sc_model.specs.Job as jobs;
 ghost use Rattle.sc_model.specs.Machine.{control_phase, missed_phase, phase_next, whole_phase, work_of as work_record, work_phase};
-ghost use Rattle.sc_model.specs.declared.level.Policy.TheVariants.{Single};
+ghost use Rattle.sc_action.specs.Misses.{refused_miss};
+ghost use Rattle.sc_model.specs.Script.{is_single};
+ghost use Rattle.sc_model.specs.declared.message.Compile.{Compile as CompileRequest};
+ghost use Rattle.sc_model.specs.declared.message.Request.TheVariants.{Compile as CompileOf};
 
 use crate::control::Control;
 use sc_entry::{ByteText, NoMemory};
@@ -29,7 +32,7 @@ fn work_of(job: Job, miss: MissType, from: u64) -> Work
 fn to_work(job: Job, miss: MissType, now: u64) -> Phase
     requires { IsLocal job }
     ensures phase { result ≡ work_phase job miss now }
-    ensures stands { (k : Config) → Stands k result }
+    ensures stands { (k : Config) (c : CompileRequest) → Stands k result (CompileOf c) }
 {
     Phase::AtTake(work_of(job, miss, now))
 }
@@ -38,7 +41,7 @@ fn to_work(job: Job, miss: MissType, now: u64) -> Phase
 pub fn to_miss(job: Job, miss: MissType, now: u64) -> Phase
     requires { IsLocal job }
     ensures phase { result ≡ missed_phase job miss now }
-    ensures stands { (k : Config) → Stands k result }
+    ensures stands { (k : Config) (c : CompileRequest) → Stands k result (CompileOf c) }
 {
     Phase::AtTake(work_of(job, miss, now))
 }
@@ -47,7 +50,7 @@ pub fn to_miss(job: Job, miss: MissType, now: u64) -> Phase
 fn next_level(job: Job, level: u64, levels: u64, miss: MissType, now: u64) -> Phase
     requires { IsLocal job }
     ensures phase { (k : Config) → length k.levels ≡ levels → result ≡ phase_next (setup k) level (Phase.AtAsk job level) (missed_phase job miss now) }
-    ensures stands { (k : Config) → length k.levels ≡ levels → Stands k result }
+    ensures stands { (k : Config) (c : CompileRequest) → length k.levels ≡ levels → Stands k result (CompileOf c) }
 {
     if level < levels {
         Phase::AtAsk(job, level)
@@ -60,7 +63,7 @@ fn next_level(job: Job, level: u64, levels: u64, miss: MissType, now: u64) -> Ph
 pub fn keyed(job: Job, control: Control, levels: u64, now: u64) -> Phase
     requires { IsLocal job }
     ensures phase { (k : Config) → length k.levels ≡ levels → result ≡ control_phase (setup k) (control_in control) job now }
-    ensures stands { (k : Config) → length k.levels ≡ levels → Stands k result }
+    ensures stands { (k : Config) (c : CompileRequest) → length k.levels ≡ levels → Stands k result (CompileOf c) }
 {
     match control {
         Control::Default => next_level(job, 0, levels, MissType::Normal, now),
@@ -86,7 +89,7 @@ fn if_late(late: bool, miss: MissType) -> MissType
 fn hit(job: Job, level: u64, bytes: &ByteText, mark: bool, now: u64) -> Result<Phase, NoMemory>
     requires { IsLocal job }
     ensures phase { IfOk result (λ p. (k : Config) → p ≡ whole_phase (setup k) job now level (Answer.Hit bytes.now mark)) }
-    ensures stands { IfOk result (λ p. (k : Config) → Stands k p) }
+    ensures stands { IfOk result (λ p. (k : Config) (c : CompileRequest) → Stands k p (CompileOf c)) }
 {
     if is_late(&job, now) {
         return Ok(to_miss(job, MissType::TimedOut, now));
@@ -100,28 +103,41 @@ fn missed(job: Job, level: u64, levels: u64, miss: MissType, now: u64) -> Phase
     requires local { IsLocal job }
     requires level { level < levels }
     ensures phase { (k : Config) → length k.levels ≡ levels → result ≡ phase_next (setup k) (level + 1) (Phase.AtAsk job (level + 1)) (missed_phase job (jobs.if_late (jobs.is_late job now) miss) now) }
-    ensures stands { (k : Config) → length k.levels ≡ levels → Stands k result }
+    ensures stands { (k : Config) (c : CompileRequest) → length k.levels ≡ levels → Stands k result (CompileOf c) }
 {
     let miss = if_late(is_late(&job, now), miss);
     next_level(job, level + 1, levels, miss, now)
 }
 
-/// Where a job stands after a level's answer to its lookup. A refusal of a store that stands alone is an error of reading.
+/// What kind of miss a refusal is: of a store that stands alone it is an error of reading.
+fn refused(single: bool) -> MissType
+    ensures { result ≡ refused_miss single }
+{
+    if single {
+        MissType::CacheReadError
+    } else {
+        MissType::Normal
+    }
+}
+
+/// Where a job stands after a level's answer to its lookup.
+#[tactic(auto, using(crate::proofs::Misses::by_refusal, crate::proofs::Misses::by_miss, crate::proofs::Misses::by_path, crate::proofs::Misses::by_size))]
 pub fn asked(
     job: Job,
     level: u64,
     levels: u64,
+    single: bool,
     answer: &Answer,
     now: u64,
 ) -> Result<Phase, NoMemory>
     requires local { IsLocal job }
     requires level { level < levels }
-    ensures phase { IfOk result (λ p. (k : Config) → length k.levels ≡ levels → k.policy ≡ Single → p ≡ whole_phase (setup k) job now level answer.now) }
-    ensures stands { IfOk result (λ p. (k : Config) → length k.levels ≡ levels → Stands k p) }
+    ensures phase { IfOk result (λ p. (k : Config) → length k.levels ≡ levels → is_single k.policy ≡ single → p ≡ whole_phase (setup k) job now level answer.now) }
+    ensures stands { IfOk result (λ p. (k : Config) (c : CompileRequest) → length k.levels ≡ levels → Stands k p (CompileOf c)) }
 {
     match answer {
         Answer::Hit(bytes, mark) => hit(job, level, bytes, *mark, now),
-        Answer::Refused(_) => Ok(missed(job, level, levels, MissType::CacheReadError, now)),
+        Answer::Refused(_) => Ok(missed(job, level, levels, refused(single), now)),
         Answer::Miss => Ok(missed(job, level, levels, MissType::Normal, now)),
         Answer::Found(_) => Ok(missed(job, level, levels, MissType::Normal, now)),
         Answer::Size(_, _) => Ok(missed(job, level, levels, MissType::Normal, now)),

@@ -1,14 +1,14 @@
 //! The reading side of a connection.
-ghost use Rattle.std.specs.Prelude.{◌≡◌, ◌+◌, ◌≤◌, ◌<◌, ◌^◌, ◌⊎◌, ◌++◌, [], true, false, length, map, IfOk, OnOk, OnErr};
+ghost use Rattle.std.specs.Prelude.{◌≡◌, ◌+◌, ◌≤◌, ◌<◌, ◌^◌, ◌⊎◌, ◌++◌, [], true, false, length, IfOk, OnOk, OnErr};
 ghost use Rattle.sc_conn.specs.Ends.{end_of};
 ghost use Rattle.sc_conn.specs.Incoming.{StandsAt};
 ghost use Rattle.sc_model.specs.Script.{BadFrame};
-ghost use Rattle.sc_model.specs.declared.message.Request.TheVariants.{Compile as CompileOf};
+ghost use Rattle.sc_wire.specs.Requests.{AreServed};
 ghost use Rattle.sc_wire.specs.Streams.{served_front, served_reader};
 
 use crate::end::End;
 use sc_entry::{NoMemory, Queue};
-use sc_model::Compile;
+use sc_model::Request;
 use sc_wire::{DecodeError, Framer};
 use std::alloc::Global;
 use std::marker::Model;
@@ -40,17 +40,18 @@ impl Model for Inbox {
 fn take_whole(
     alloc: Global,
     framer: &mut Framer,
-    waiting: &mut Queue<Compile>,
+    waiting: &mut Queue<Request>,
 ) -> Result<bool, NoMemory>
-    ensures requests { OnOk result (map CompileOf waiting.new ≡ map CompileOf waiting.old ++ (served_reader framer.old.limit).requests framer.old.rest) }
+    ensures requests { OnOk result (waiting.new ≡ waiting.old ++ (served_reader framer.old.limit).requests framer.old.rest) }
     ensures rest { OnOk result (framer.new.rest ≡ (served_reader framer.old.limit).rest framer.old.rest) }
     ensures front { IfOk result (λ bad. StandsAt bad (served_front framer.old.limit framer.new.rest)) }
     ensures room { OnOk result (length waiting.new + length framer.new.rest ≤ length waiting.old + length framer.old.rest) }
+    ensures served { OnOk result (AreServed waiting.old → AreServed waiting.new) }
     ensures limit { OnOk result (framer.new.limit ≡ framer.old.limit) }
 {
     'frames: loop {
         match framer.next_served(alloc) {
-            Ok(Some(compiled)) => waiting.push_back(compiled)?,
+            Ok(Some(request)) => waiting.push_back(request)?,
             Ok(None) => return Ok(false),
             Err(DecodeError::BadFrame) => return Ok(true),
             Err(DecodeError::NoMemory) => return Err(NoMemory),
@@ -63,12 +64,13 @@ fn take_piece(
     alloc: Global,
     framer: &mut Framer,
     piece: &[u8],
-    waiting: &mut Queue<Compile>,
+    waiting: &mut Queue<Request>,
 ) -> Result<bool, NoMemory>
-    ensures requests { OnOk result (map CompileOf waiting.new ≡ map CompileOf waiting.old ++ (served_reader framer.old.limit).requests (framer.old.rest ++ piece.now)) }
+    ensures requests { OnOk result (waiting.new ≡ waiting.old ++ (served_reader framer.old.limit).requests (framer.old.rest ++ piece.now)) }
     ensures rest { OnOk result (framer.new.rest ≡ (served_reader framer.old.limit).rest (framer.old.rest ++ piece.now)) }
     ensures front { IfOk result (λ bad. StandsAt bad (served_front framer.old.limit framer.new.rest)) }
     ensures room { OnOk result (length waiting.new + length framer.new.rest ≤ length waiting.old + length framer.old.rest + length piece.now) }
+    ensures served { OnOk result (AreServed waiting.old → AreServed waiting.new) }
     ensures limit { OnOk result (framer.new.limit ≡ framer.old.limit) }
 {
     framer.feed(alloc, piece)?;
@@ -97,13 +99,14 @@ impl Inbox {
         &mut self,
         alloc: Global,
         piece: &[u8],
-        waiting: &mut Queue<Compile>,
+        waiting: &mut Queue<Request>,
     ) -> Result<(), NoMemory>
         requires { self.old.got + length piece.now < 2 ^ 64 }
-        ensures requests { OnOk result (map CompileOf waiting.new ≡ map CompileOf waiting.old ++ (served_reader self.old.limit).requests (self.old.rest ++ piece.now)) }
+        ensures requests { OnOk result (waiting.new ≡ waiting.old ++ (served_reader self.old.limit).requests (self.old.rest ++ piece.now)) }
         ensures rest { OnOk result (self.new.rest ≡ (served_reader self.old.limit).rest (self.old.rest ++ piece.now)) }
         ensures got { OnOk result (self.new.got ≡ self.old.got + length piece.now) }
         ensures room { OnOk result (length waiting.new + length self.new.rest ≤ length waiting.old + length self.old.rest + length piece.now) }
+        ensures served { OnOk result (AreServed waiting.old → AreServed waiting.new) }
         ensures err { OnErr result (self.new ≡ record self.old { rest = [] }) }
         ensures closed { self.new.closed ≡ self.old.closed }
         ensures limit { self.new.limit ≡ self.old.limit }

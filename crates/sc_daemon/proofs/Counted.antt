@@ -1,21 +1,19 @@
 -- A served event that was counted.
-use Rattle.std.proofs.Common.{◌≡◌, ℕ, ◌+◌, ◌<◌, ◌≤◌, List, [], ◌∷◌, true, false, length, Result, Ok, Err, refl, sym, ap, ◌∙◌, subst, arith}
+use Rattle.std.proofs.Common.{◌≡◌, ℕ, ◌+◌, ◌≤◌, ◌++◌, true, false, length, Result, Ok, Err, refl, sym, ap, ◌∙◌, subst, arith}
 use Rattle.std.specs.Prelude.{IfOk, IsOk}
-use Rattle.sc_daemon.specs.Daemons.{Kept, ServesEvent}
+use Rattle.sc_daemon.specs.Daemons.{Kept, ServesEvent, kept_after}
 use Rattle.sc_daemon.specs.Lines.{Line, conn_of}
 use Rattle.sc_daemon.specs.Turns.{Serves_one}
-use Rattle.sc_daemon.proofs.Firsts.{current_is}
 use Rattle.sc_job.specs.Setups.{Config, setup}
-use Rattle.sc_model.specs.Machine.{current, free_after, need_at}
-use Rattle.sc_model.specs.Rows.{count, row, zeroes}
+use Rattle.sc_model.specs.Machine.{counted_level, current, free_after, need_at, pend}
+use Rattle.sc_model.specs.Rows.{Direct, count, level_row, row, zeroes}
+use Rattle.sc_model.specs.Trace.{hands}
 use Rattle.sc_model.specs.declared.event.Owner.TheVariants.{Request as OfRequest}
 use Rattle.sc_model.specs.declared.event.What.{What}
 use Rattle.sc_model.specs.declared.event.What.TheVariants.{Asked, Began, Closed, Committed, Dist, Filled, Idle, Keyed, Outcome, Passed, Placed, Ran, Reserved, Sent, Taken, TokenTaken, TooLong, WriteEnded, Wrote}
-use Rattle.sc_model.specs.declared.message.Compile.{Compile}
-use Rattle.sc_model.specs.declared.message.Request.{Request}
-use Rattle.sc_model.specs.declared.message.Request.TheVariants.{Compile as CompileOf}
 use Rattle.sc_owned.specs.Moving.{OwnedMoves}
 use Rattle.sc_owned.specs.State.{State}
+use Rattle.sc_stats.specs.declared.counters.ServerStats.{ServerStats}
 
 err_ok : false ≡ true → ⊥
 err_ok e = absurd (cc)
@@ -29,10 +27,6 @@ if_both (Err e) q p both h f = tt
 pub if_any : {A E : Type 0} {Q : Type 0} (r : Result A E) → Q → IfOk r (λ x. Q)
 if_any (Ok a) q = q
 if_any (Err e) q = tt
-
-some_first : (w : List Compile) → 0 < length w → (r : Compile) × ((rest : List Compile) × (w ≡ r ∷ rest))
-some_first [] lt = absurd (omega arith)
-some_first (r ∷ rest) lt = (r, (rest, refl))
 
 -- at most one token comes back
 pub free_most : (n : ℕ) (x : What) → free_after n x ≤ n + 1
@@ -56,16 +50,14 @@ free_most n (WriteEnded a b) = omega arith
 free_most n (Sent a) = omega arith
 free_most n (TooLong a) = omega arith
 
-pub serves_event : (c j moment since : ℕ) (x : What) (d d2 : Kept) (state2 : State) (old new : Line) → j ≡ old.at → moment ≡ d.state.world.moment → since ≡ old.outcome
+pub serves_event : (c j moment last : ℕ) (x : What) (d d2 : Kept) (state2 : State) (stats2 : ServerStats) (old new : Line) → j ≡ old.at → moment ≡ d.state.world.moment → last ≡ old.last
     → Serves_one d.state.config d.state.world.moment d.free x old new
     → OwnedMoves d.state (need_at (setup d.state.config) (current (conn_of old)) old.phase) x state2 → state2.config ≡ d.state.config
-    → ((k : Config) (r : Compile) → d2 ≡ record { state = state2; stats = count (zeroes x) d.stats (row (setup k) (CompileOf r) since moment x); free = free_after d.free x })
+    → stats2 ≡ count (zeroes x) d.stats (row (setup d.state.config) (current (conn_of old)) old.outcome d.state.world.moment x)
+    → d2 ≡ kept_after (record d { state = state2; stats = stats2 }) last moment x
     → ServesEvent c (record { moment = moment; owner = OfRequest c j; what = x }) d d2 old new
-serves_event c j moment since x d d2 state2 old new number now at one moves same counted =
+serves_event c j moment last x d d2 state2 stats2 old new number now at one moves same counted is_d2 =
     let k = d.state.config in
-    let first = some_first old.waiting one.some in
-    let here : current (conn_of old) ≡ CompileOf (first.0) = current_is old (first.0) (first.1.0) (first.1.1) in
-    let is_d2 = counted k (first.0) in
     record {
       moment = now;
       serves = (
@@ -76,10 +68,13 @@ serves_event c j moment since x d d2 state2 old new number now at one moves same
           moves = subst (λ (e : Kept). OwnedMoves d.state (need_at (setup k) (current (conn_of old)) old.phase) x e.state) (sym is_d2) moves;
           config = ap (λ (e : Kept). e.state.config) is_d2 ∙ same;
           free = ap (λ (e : Kept). e.free) is_d2;
-          stats = ap (λ (e : Kept). e.stats) is_d2
-              ∙ ap (λ (r : Request). count (zeroes x) d.stats (row (setup k) r since moment x)) (sym here)
-              ∙ ap (λ (n : ℕ). count (zeroes x) d.stats (row (setup k) (current (conn_of old)) n moment x)) at
-              ∙ ap (λ (n : ℕ). count (zeroes x) d.stats (row (setup k) (current (conn_of old)) old.outcome n x)) now;
+          levels = ap (λ (e : Kept). e.levels) is_d2
+              ∙ ap (λ (f : Config). counted_level f.policy (level_row Direct last 0 moment x) x d.levels) same
+              ∙ ap (λ (n : ℕ). counted_level k.policy (level_row Direct n 0 moment x) x d.levels) at
+              ∙ ap (λ (n : ℕ). counted_level k.policy (level_row Direct old.last 0 n x) x d.levels) now;
+          background = ap (λ (e : Kept). e.background) is_d2 ∙ ap (λ (n : ℕ). d.background ++ pend (hands d.handed n x)) now;
+          handed = ap (λ (e : Kept). e.handed) is_d2 ∙ ap (λ (n : ℕ). d.handed + length (hands d.handed n x)) now;
+          stats = ap (λ (e : Kept). e.stats) is_d2 ∙ counted;
         },
       );
     }

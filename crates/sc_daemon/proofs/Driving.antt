@@ -5,7 +5,8 @@ use Rattle.std.proofs.Math.Seq.{drop-cons}
 use Rattle.std.proofs.lemmas.Bool.{ltb-true}
 use Rattle.std.proofs.lemmas.List.{append-nil, length-map, reverse-append}
 use Rattle.sc_conn.specs.Ends.{end_of}
-use Rattle.sc_daemon.specs.Daemons.{Kept, machine_of, script_of}
+use Rattle.sc_daemon.specs.Backlogs.{ArePending}
+use Rattle.sc_daemon.specs.Daemons.{IsIdleDaemon, Kept, anew, machine_of, script_of}
 use Rattle.sc_daemon.specs.Drives.{AreAt, IsScriptOf, Progress, StepsOn, line_end, lines_of, result_of}
 use Rattle.sc_daemon.specs.Lines.{Line, conn_of}
 use Rattle.sc_daemon.specs.declared.driven.Driven.{Driven}
@@ -17,11 +18,8 @@ use Rattle.sc_model.specs.Script.{End, Script}
 use Rattle.sc_model.specs.Trace.{if_too_long, open_runs}
 use Rattle.sc_model.specs.declared.event.Event.{Event}
 use Rattle.sc_model.specs.declared.event.Step.{Step}
-use Rattle.sc_model.specs.declared.level.Policy.{Policy}
-use Rattle.sc_model.specs.declared.level.Policy.TheVariants.{Single}
-use Rattle.sc_owned.specs.Laws.{lone_level, single_store, within_limits}
+use Rattle.sc_owned.specs.Laws.{one_level, within_limits}
 use Rattle.sc_owned.specs.State.{State}
-use Rattle.sc_stats.specs.declared.counters.LevelStats.{LevelStats}
 use Rattle.sc_wire.specs.Requests.{read_served}
 use Rattle.sc_wire.specs.Streams.{served_reader}
 
@@ -35,28 +33,31 @@ count_of limit zero = refl
 count_of limit (suc n) = ap suc (count_of limit n)
 
 at_first : (k : Config) (n : ℕ) → AreAt k (lines_of k.limit n)
-at_first k zero c = (refl, tt)
-at_first k (suc n) zero = (refl, tt)
+at_first k zero c = (refl, (refl, tt))
+at_first k (suc n) zero = (refl, (refl, tt))
 at_first k (suc n) (suc c) = at_first k n c
 
 -- a drive begins with an idle machine
-pub is_idle : (d : Kept) (inputs : List (List ℕ)) → d.free ≡ d.state.config.tokens → IsIdle (script_of d inputs) (machine_of d (lines_of d.state.config.limit (length inputs)))
-is_idle d inputs free = record {
+pub is_idle : (d : Kept) (inputs : List (List ℕ)) → IsIdleDaemon d → d.handed ≡ 0 → IsIdle (script_of d inputs) (machine_of d (lines_of d.state.config.limit (length inputs)))
+is_idle d inputs idle first = record {
   reads_on = reads_on d.state.config.limit read_served;
   conns = λ c. new_conns d.state.config.limit (length inputs) c;
   same_count = length-map (lines_of d.state.config.limit (length inputs)) conn_of ∙ count_of d.state.config.limit (length inputs);
-  free = free;
+  free = idle.free;
   stats = refl;
   level_stats = refl;
-  level_count = length-map d.state.config.levels _;
-  one_level = λ single. lone_level d.state;
-  background = refl;
-  handed = refl;
+  level_count = idle.levels;
+  one_level = λ single. one_level d.state single;
+  background = idle.background;
+  handed = first;
   reserved = refl;
 }
 
-pub begins : (d : Kept) (inputs : List (List ℕ)) (steps : List Step) (events : List Event) (lines : List Line) → d.state.told ≡ true → events ≡ [] → lines ≡ lines_of d.state.config.limit (length inputs) → Progress d d inputs steps steps events lines
-begins d inputs steps events lines told no_events first =
+pub idle_anew : (d : Kept) → IsIdleDaemon d → IsIdleDaemon (anew d)
+idle_anew d idle = record { free = idle.free; levels = idle.levels; background = idle.background }
+
+pub begins : (d : Kept) (inputs : List (List ℕ)) (steps : List Step) (events : List Event) (lines : List Line) → d.state.told ≡ true → d.background ≡ [] → events ≡ [] → lines ≡ lines_of d.state.config.limit (length inputs) → Progress d d inputs steps steps events lines
+begins d inputs steps events lines told none no_events first =
     subst (λ (ls : List Line). Progress d d inputs steps steps events ls) (sym first)
     (subst (λ (es : List Event). Progress d d inputs steps steps es (lines_of d.state.config.limit (length inputs))) (sym no_events)
     record {
@@ -67,6 +68,7 @@ begins d inputs steps events lines told no_events first =
       told = told;
       count = count_of d.state.config.limit (length inputs);
       at = at_first d.state.config (length inputs);
+      pending = subst (ArePending (length d.state.config.levels)) (sym none) tt;
     })
 
 -- one step more
@@ -88,6 +90,7 @@ goes_on d0 d d2 inputs steps rest p events events2 lines lines2 before on =
       told = step.told ∙ before.told;
       count = step.count ∙ before.count;
       at = subst (λ (k : Config). AreAt k lines2) (sym step.config) step.at;
+      pending = subst (λ (k : Config). ArePending (length k.levels) d2.background) (sym step.config) step.pending;
     }
 
 sent_lines : (lines : List Line) → map (λ (k : Conn). k.out) (map conn_of lines) ≡ map (λ (l : Line). l.out) lines
@@ -103,16 +106,13 @@ end_lines s k [] reads at = refl
 end_lines s k (l ∷ lines) reads at =
     ap (λ (e : End). e ∷ map (end_at s) (map conn_of lines)) (end_line s k.limit l reads ((at 0).0)) ∙ ap (λ (es : List End). line_end l ∷ es) (end_lines s k lines reads (λ c. at (suc c)))
 
-shows_none : (p : Policy) (ls : List LevelStats) → p ≡ Single → shown_levels p ls ≡ []
-shows_none p ls e = rw e refl
-
 -- the headline holds of what a drive came to
 pub headline : ((s : Script) (m0 : Machine) (steps : List Step) (t : List Event) (m : Machine) → IsIdle s m0 → Runs s m0 steps t m → Headline s m0.world steps t m.world (result_of_run s m))
     → (d0 d : Kept) (inputs : List (List ℕ)) (steps left : List Step) (events : List Event) (lines : List Line) (driven : Driven)
-    → d0.free ≡ d0.state.config.tokens → Progress d0 d inputs steps left events lines → left ≡ [] → driven.trace ≡ events
-    → map (λ c. end_of c.end) driven.conns ≡ map line_end lines → map (λ c. c.sent) driven.conns ≡ map (λ (l : Line). l.out) lines → driven.background ≡ []
+    → IsIdleDaemon d0 → d0.handed ≡ 0 → Progress d0 d inputs steps left events lines → left ≡ [] → driven.trace ≡ events
+    → map (λ c. end_of c.end) driven.conns ≡ map line_end lines → map (λ c. c.sent) driven.conns ≡ map (λ (l : Line). l.out) lines → driven.background ≡ map (λ p. p.handed) d.background
     → Headline (script_of d0 inputs) d0.state.world (reverse steps) (reverse driven.trace) d.state.world (result_of d driven)
-headline every d0 d inputs steps left events lines driven free progress none trace ends sent back =
+headline every d0 d inputs steps left events lines driven idle first progress none trace ends sent back =
     let s = script_of d0 inputs in
     let m = machine_of d lines in
     let all : progress.done ≡ steps = sym (append-nil progress.done) ∙ ap (λ (l : List Step). progress.done ++ l) (sym none) ∙ progress.split in
@@ -120,7 +120,7 @@ headline every d0 d inputs steps left events lines driven free progress none tra
     let same : result_of_run s m ≡ result_of d driven =
     (λ i. record {
       stats = d.stats;
-      level_stats = shows_none d0.state.config.policy m.level_stats (single_store d0.state) i;
+      level_stats = ap (λ (k : Config). shown_levels k.policy d.levels) (sym progress.config) i;
       background = sym back i;
       free = d.free;
       ends = (end_lines s d.state.config lines reads progress.at ∙ sym ends) i;
@@ -129,7 +129,7 @@ headline every d0 d inputs steps left events lines driven free progress none tra
     subst (λ (r : Result_of_run). Headline s d0.state.world (reverse steps) (reverse driven.trace) d.state.world r) same
     (subst (λ (ps : List Step). Headline s d0.state.world (reverse ps) (reverse driven.trace) d.state.world (result_of_run s m)) all
     (subst (λ (es : List Event). Headline s d0.state.world (reverse progress.done) (reverse es) d.state.world (result_of_run s m)) (sym trace)
-    (every s (machine_of d0 (lines_of d0.state.config.limit (length inputs))) (reverse progress.done) (reverse events) m (is_idle d0 inputs free) progress.runs)))
+    (every s (machine_of d0 (lines_of d0.state.config.limit (length inputs))) (reverse progress.done) (reverse events) m (is_idle d0 inputs idle first) progress.runs)))
 
 right_of : (a b : Bool) → (a && b) ≡ true → b ≡ true
 right_of true b e = e
@@ -148,9 +148,9 @@ tokens_few o =
 -- no more tokens are free than there are
 pub free_few : ((s : Script) (m0 : Machine) (steps : List Step) (t : List Event) (m : Machine) → IsIdle s m0 → Runs s m0 steps t m → Headline s m0.world steps t m.world (result_of_run s m))
     → (d0 d : Kept) (inputs : List (List ℕ)) (steps left : List Step) (events : List Event) (lines : List Line)
-    → d0.free ≡ d0.state.config.tokens → Progress d0 d inputs steps left events lines → d.free + 1 < 2 ^ 64
-free_few every d0 d inputs steps left events lines free progress =
-    let h = every (script_of d0 inputs) (machine_of d0 (lines_of d0.state.config.limit (length inputs))) (reverse progress.done) (reverse events) (machine_of d lines) (is_idle d0 inputs free) progress.runs in
+    → IsIdleDaemon d0 → d0.handed ≡ 0 → Progress d0 d inputs steps left events lines → d.free + 1 < 2 ^ 64
+free_few every d0 d inputs steps left events lines idle first progress =
+    let h = every (script_of d0 inputs) (machine_of d0 (lines_of d0.state.config.limit (length inputs))) (reverse progress.done) (reverse events) (machine_of d lines) (is_idle d0 inputs idle first) progress.runs in
     let few = tokens_few d0.state in
     let all : d.free + length (open_runs (reverse events)) ≡ d0.state.config.tokens = h.tokens in
     omega (arith, few, all)

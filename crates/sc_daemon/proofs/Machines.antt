@@ -1,33 +1,38 @@
 -- What a step of a drive is to the machine.
-use Rattle.std.proofs.Common.{◌≡◌, ℕ, ◌+◌, ◌<◌, ◌≤◌, ◌⊎◌, inl, inr, true, false, List, [], ◌++◌, length, take, drop, map, set, get_or, sym, ap, ◌∙◌, subst}
+use Rattle.std.proofs.Common.{◌≡◌, ℕ, zero, suc, ◌+◌, ◌<◌, ◌≤◌, ◌⊎◌, inl, inr, true, false, Some, refl, List, [], ◌∷◌, ◌++◌, length, take, drop, map, set, get_or, sym, ap, ◌∙◌, subst}
 use Rattle.std.proofs.lemmas.List.{get_or-map, length-map, map-set, set-get_or}
 use Rattle.sc_conn.proofs.Inboxes.{ends_are, more_is}
-use Rattle.sc_daemon.specs.Daemons.{Kept, ReadsWhat, ServesAt, ServesWhat, machine_of}
+use Rattle.sc_daemon.specs.Backlogs.{ArePending, IsPending, without}
+use Rattle.sc_daemon.specs.Daemons.{BacksEvent, DoesPending, Kept, ReadsWhat, ServesAt, ServesWhat, idle_event, machine_of}
 use Rattle.sc_daemon.specs.Lines.{IsDone, Line, conn_of}
 use Rattle.sc_daemon.specs.Turns.{IsIdleLine, TakesMore}
-use Rattle.sc_daemon.proofs.Plain.{counts_nothing, due_ended, due_takes, ended_due, hands_nothing, reserves_nothing, says_nothing, takes_due, ticked_plain}
+use Rattle.sc_daemon.proofs.Plain.{due_ended, due_takes, ended_due, reserves_nothing, says_nothing, takes_due, ticked_plain}
 use Rattle.sc_job.specs.Setups.{Config, setup}
-use Rattle.sc_model.specs.Follows.{Fits, ToTake}
-use Rattle.sc_model.specs.Machine.{Conn, DoesRead, DoesServe, Machine, Says, advanced, conn, counted_level, current, due_at, free_after, more, need_at, new_conn, pend}
+use Rattle.sc_model.specs.Follows.{Due, Fits, ToTake, ToWrite, bytes_in, kind_at}
+use Rattle.sc_model.specs.Machine.{Conn, DoesBack, DoesRead, DoesServe, Machine, Says, advanced, backed, conn, counted_level, current, due_at, due_pending, due_stage, free_after, more, need_at, new_conn, pend, pending_after, pending_at}
 use Rattle.sc_model.specs.Next.{Ended, at_moment, ticked}
 use Rattle.sc_model.specs.Rows.{Direct, count, level_row, row, zeroes}
 use Rattle.sc_model.specs.Script.{BadFrame, Script, Setup, input}
-use Rattle.sc_model.specs.Trace.{Given, hands, reserved_at, reserved_by}
-use Rattle.sc_model.specs.World.{Moves, World}
+use Rattle.sc_model.specs.Trace.{ends_write, hands, no_request, reserved_at, reserved_by}
+use Rattle.sc_model.specs.World.{Moves, World, need_of}
+use Rattle.sc_model.specs.declared.event.Event.{Event}
+use Rattle.sc_model.specs.declared.event.Mode.TheVariants.{Whole}
 use Rattle.sc_model.specs.declared.event.Owner.{Owner}
 use Rattle.sc_model.specs.declared.event.Owner.TheVariants.{Nobody, Request as OfRequest, Write as OfWrite}
 use Rattle.sc_model.specs.declared.event.What.{What}
-use Rattle.sc_model.specs.declared.event.What.TheVariants.{Closed, Idle, Taken}
-use Rattle.sc_owned.specs.Laws.{single_store}
-use Rattle.sc_stats.specs.Sums.{no_level_stats}
+use Rattle.sc_model.specs.declared.event.What.TheVariants.{Closed, Idle, Taken, Wrote}
+use Rattle.sc_model.specs.declared.level.LevelKind.{LevelKind}
+use Rattle.sc_model.specs.declared.level.LevelKind.TheVariants.{Remote}
+use Rattle.sc_model.specs.declared.phase.Bytes.{Bytes}
+use Rattle.sc_model.specs.declared.phase.Pending.{Pending}
+use Rattle.sc_model.specs.declared.phase.Stage.{Stage}
+use Rattle.sc_model.specs.declared.phase.Stage.TheVariants.{Fresh}
+use Rattle.sc_owned.specs.Laws.{remote_levels}
 use Rattle.sc_wire.specs.Streams.{served_reader}
 
 -- the connection of that number
 conn_at : (d : Kept) (lines : List Line) (c : ℕ) (l : Line) → c < length lines → conn (machine_of d lines) c ≡ conn_of (get_or lines c l)
 conn_at d lines c l lt = get_or-map conn_of lines c l new_conn lt
-
-some_queue : (l : Line) → 0 < length l.waiting → 0 < length (conn_of l).queue
-some_queue l some = subst (λ (n : ℕ). 0 < n) (sym (length-map l.waiting _)) some
 
 -- an event of the connection K, as the machine does it
 abbrev served_by : Setup → Machine → ℕ → Conn → ℕ → What → World → Machine
@@ -55,19 +60,14 @@ left_is c j x d d2 lines old new at =
     let s = setup d.state.config in
     let z = d.state.world.moment in
     let conns = map-set conn_of lines c new ∙ ap (λ (k : Conn). set (map conn_of lines) c k) at.one.then in
-    let none : (hands 0 z x) ≡ [] = hands_nothing 0 z x at.one.plain in
-    let levels : map (λ f. no_level_stats) d2.state.config.levels ≡ counted_level s.policy (level_row Direct old.last 0 z x) x (map (λ f. no_level_stats) d.state.config.levels) =
-    ap (λ (k : Config). map (λ f. no_level_stats) k.levels) at.config ∙ sym (counts_nothing s.policy (level_row Direct old.last 0 z x) x (map (λ f. no_level_stats) d.state.config.levels) (single_store d.state)) in
-    let background : [] ≡ pend (hands 0 z x) = ap (λ (gs : List Given). pend gs) (sym none) in
-    let handed : 0 ≡ 0 + length (hands 0 z x) = ap (λ (gs : List Given). 0 + length gs) (sym none) in
     let reserved : [] ≡ reserved_by (OfRequest c old.at) x [] = sym (reserves_nothing (OfRequest c old.at) x at.one.plain) in
     λ i. record {
       conns = conns i;
       free = at.free i;
       stats = at.stats i;
-      level_stats = levels i;
-      background = background i;
-      handed = handed i;
+      level_stats = at.levels i;
+      background = at.background i;
+      handed = at.handed i;
       reserved = reserved i;
       world = d2.state.world;
     }
@@ -84,7 +84,7 @@ served_does c e j x d d2 lines l new lt told same at =
       same,
       subst (λ (n : ℕ). c < n) (sym (length-map lines conn_of)) lt,
       at.number,
-      some_queue old at.one.some,
+      at.one.some,
       at.one.fits,
       (λ due. at.one.token (due_takes s (current (conn_of old)) old.phase due)),
       says_nothing s m x at.one.plain,
@@ -100,9 +100,9 @@ abbrev IdleBy : Setup → ℕ → Conn → Type 0
 IdleBy s free k = ((length k.queue ≡ 0) ⊎ ((0 < length k.queue) × Ended (due_at s (current k) k.phase))) ⊎ ((0 < length k.queue) × (due_at s (current k) k.phase ≡ ToTake) × (free ≡ 0))
 
 idle_by : (s : Setup) (free : ℕ) (l : Line) → IsIdleLine free l → IdleBy s free (conn_of l)
-idle_by s free l (inl (inl none)) = inl (inl (length-map l.waiting _ ∙ none))
-idle_by s free l (inl (inr (some, ended))) = inl (inr (some_queue l some, ended_due s (current (conn_of l)) l.phase ended))
-idle_by s free l (inr (some, takes, none)) = inr (some_queue l some, takes_due s (current (conn_of l)) l.phase takes, none)
+idle_by s free l (inl (inl none)) = inl (inl none)
+idle_by s free l (inl (inr (some, ended))) = inl (inr (some, ended_due s (current (conn_of l)) l.phase ended))
+idle_by s free l (inr (some, takes, none)) = inr (some, takes_due s (current (conn_of l)) l.phase takes, none)
 
 pub serve_does : (c z : ℕ) (o : Owner) (x : What) (d d2 : Kept) (lines : List Line) (l new : Line) → c < length lines → d.state.told ≡ true → z ≡ d.state.world.moment
     → ServesWhat c o x d d2 (get_or lines c l) new
@@ -124,12 +124,12 @@ NoMoreBy s k = ((k.closed ≡ true) ⊎ (s.reader.ends k.rest false ≡ BadFrame
 no_more : (s : Script) (l : Line) → s.reader ≡ served_reader l.limit → IsDone l → NoMoreBy s (conn_of l)
 no_more s l reads (inl (inl closed)) = inl (inl closed)
 no_more s l reads (inl (inr bad)) = inl (inr (ends_are s l.limit reads l.rest false ∙ bad))
-no_more s l reads (inr (some, ended)) = inr (some_queue l some, ended_due s.setup (current (conn_of l)) l.phase ended)
+no_more s l reads (inr (some, ended)) = inr (some, ended_due s.setup (current (conn_of l)) l.phase ended)
 
 is_done : (s : Script) (l : Line) → s.reader ≡ served_reader l.limit → NoMoreBy s (conn_of l) → IsDone l
 is_done s l reads (inl (inl closed)) = inl (inl closed)
 is_done s l reads (inl (inr bad)) = inl (inr (sym (ends_are s l.limit reads l.rest false) ∙ bad))
-is_done s l reads (inr (some, ended)) = inr (subst (λ (n : ℕ). 0 < n) (length-map l.waiting _) some, due_ended s.setup (current (conn_of l)) l.phase ended)
+is_done s l reads (inr (some, ended)) = inr (some, due_ended s.setup (current (conn_of l)) l.phase ended)
 
 more_comes : (s : Script) (l new : Line) (bytes : List ℕ) → s.reader ≡ served_reader l.limit → TakesMore bytes l new → conn_of new ≡ more s (conn_of l) bytes
 more_comes s l new bytes reads takes =
@@ -180,3 +180,68 @@ read_does s c n o x d lines l new lt reads nobody what =
         subst (ReadsBy s m c n (input s c) 0 Nobody (Closed e) (machine_of d (set lines c new))) (sym at)
         (same, there, (λ h. open_still (is_done s old reads h)), some, all, conns_are d lines c new (record (conn_of old) { closed = true }) (ap conn_of closed))
     by_nobody _ h = absurd h
+
+-- a handed write that was taken out
+taken_out : (i m : ℕ) (x : What) (ps : List Pending) → pending_after true i m x ps ≡ without i ps
+taken_out i m x [] = refl
+taken_out zero m x (p ∷ ps) = refl
+taken_out (suc i) m x (p ∷ ps) = ap (λ (qs : List Pending). p ∷ qs) (taken_out i m x ps)
+
+fresh_write : (stage : Stage) (kind : LevelKind) (l : ℕ) (b : Bytes) → stage ≡ Fresh → kind ≡ Remote → due_stage stage kind l b ≡ ToWrite Whole l b
+fresh_write stage kind l b fresh remote = rw (fresh, remote) refl
+
+backed_by : (d d2 : Kept) (lines : List Line) (i : ℕ) (p : Pending) (e : Event) → DoesPending p e (record d { background = without i d.background }) d2
+    → machine_of d2 lines ≡ backed (setup d.state.config) (machine_of d lines) i p e.moment e.what d2.state.world
+backed_by d d2 lines i p e does =
+    let bytes : d2.background ≡ pending_after (ends_write e.what) i e.moment e.what d.background =
+    ap (λ (k : Kept). k.background) does.same
+    ∙ sym (taken_out i e.moment e.what d.background)
+    ∙ ap (λ (x : What). pending_after (ends_write x) i e.moment e.what d.background) (sym does.what) in
+    let reserved : [] ≡ reserved_by (OfWrite p.number) e.what [] = ap (λ (x : What). reserved_by (OfWrite p.number) x []) (sym does.what) in
+    λ j. record {
+      conns = map conn_of lines;
+      free = ap (λ (k : Kept). k.free) does.same j;
+      stats = ap (λ (k : Kept). k.stats) does.same j;
+      level_stats = ap (λ (k : Kept). k.levels) does.same j;
+      background = bytes j;
+      handed = ap (λ (k : Kept). k.handed) does.same j;
+      reserved = reserved j;
+      world = d2.state.world;
+    }
+
+pending_is : (n i : ℕ) (ps : List Pending) (p : Pending) → pending_at i ps ≡ Some p → ArePending n ps → IsPending n p
+pending_is n i [] p e are = absurd (cc)
+pending_is n zero (q ∷ ps) p e are = let same : q ≡ p = cc in subst (IsPending n) same are.0
+pending_is n (suc i) (q ∷ ps) p e are = pending_is n i ps p e are.1
+
+written_does : (d d2 : Kept) (lines : List Line) (i : ℕ) (p : Pending) (e : Event) → d.state.told ≡ true → pending_at i d.background ≡ Some p → IsPending (length d.state.config.levels) p
+    → DoesPending p e (record d { background = without i d.background }) d2
+    → DoesBack (setup d.state.config) (machine_of d lines) i e.moment (OfWrite p.number) e.what (machine_of d2 lines)
+written_does d d2 lines i p e told at is does =
+    let s = setup d.state.config in
+    let h = p.handed in
+    let n = need_of s no_request [] in
+    let due : due_stage p.stage (kind_at s.levels h.level) h.level (bytes_in h) ≡ ToWrite Whole h.level (bytes_in h) = fresh_write p.stage (kind_at s.levels h.level) h.level (bytes_in h) is.0 (remote_levels d.state h.level) in (
+      p,
+      at,
+      refl,
+      subst (λ (x : What). Fits s no_request (due_pending s.levels p) x) (sym does.what)
+          (subst (λ (u : Due). Fits s no_request u (Wrote h.level h.key h.bytes Whole h.marked does.how)) (sym due) (refl, refl, refl, refl, refl)),
+      (
+        d2.state.world,
+        subst (λ (z : ℕ). Moves s n (λ l. 0) e.what (at_moment d.state.world z) d2.state.world) (sym (ap (λ (x : What). ticked d.state.world.moment x) does.what)) ((does.moves n).1 told),
+        backed_by d d2 lines i p e does,
+      ),
+    )
+
+idle_back : (d d2 : Kept) (lines : List Line) (i : ℕ) (e : Event) → length d.background ≤ i → e ≡ idle_event d → d2 ≡ d → DoesBack (setup d.state.config) (machine_of d lines) i e.moment e.owner e.what (machine_of d2 lines)
+idle_back d d2 lines i e past is_idle same =
+    subst (λ (x : Event). DoesBack (setup d.state.config) (machine_of d lines) i x.moment x.owner x.what (machine_of d2 lines)) (sym is_idle)
+    (past, ap (λ (k : Kept). machine_of k lines) same)
+
+pub back_does : (d d2 : Kept) (lines : List Line) (i : ℕ) (e : Event) → d.state.told ≡ true → ArePending (length d.state.config.levels) d.background → BacksEvent i e d d2
+    → DoesBack (setup d.state.config) (machine_of d lines) i e.moment e.owner e.what (machine_of d2 lines)
+back_does d d2 lines i e told are (inl (past, is_idle, same)) = idle_back d d2 lines i e past is_idle same
+back_does d d2 lines i e told are (inr (p, at, does)) =
+    subst (λ (o : Owner). DoesBack (setup d.state.config) (machine_of d lines) i e.moment o e.what (machine_of d2 lines)) (sym does.owner)
+    (written_does d d2 lines i p e told at (pending_is (length d.state.config.levels) i d.background p at are) does)

@@ -1,14 +1,14 @@
 -- What a served event is, and what is due at a phase.
-use Rattle.std.proofs.Common.{◌≡◌, ℕ, List, [], ◌∷◌, refl, ap}
-use Rattle.sc_action.specs.Acts.{IsPlain, IsPlainAsk, IsPlainTold}
+use Rattle.std.proofs.Common.{◌≡◌, ℕ, List, [], ◌∷◌, refl}
+use Rattle.sc_action.specs.Acts.{IsPlain, IsPlainMode, IsPlainTold}
 use Rattle.sc_daemon.specs.Standings.{standing_of}
 use Rattle.sc_daemon.specs.declared.standing.Standing.TheVariants.{Ended as HasEnded, Takes}
 use Rattle.sc_model.specs.Follows.{Due, ToReserve, ToTake, ToWrite, start_write}
-use Rattle.sc_model.specs.Machine.{Machine, Says, counted_level, due_at}
+use Rattle.sc_model.specs.Machine.{Machine, Says, due_at}
 use Rattle.sc_model.specs.Next.{Ended, ticked}
 use Rattle.sc_model.specs.Plan.{level_facts}
 use Rattle.sc_model.specs.Script.{Setup}
-use Rattle.sc_model.specs.Trace.{hands, reserved_by}
+use Rattle.sc_model.specs.Trace.{reserved_by}
 use Rattle.sc_model.specs.declared.event.Answer.{Answer}
 use Rattle.sc_model.specs.declared.event.Mode.{Mode}
 use Rattle.sc_model.specs.declared.event.Mode.TheVariants.{Path, Pre, Raw, Size as Sizes, Whole}
@@ -20,13 +20,10 @@ use Rattle.sc_model.specs.declared.event.What.TheVariants.{Asked, Began, Closed,
 use Rattle.sc_model.specs.declared.level.Handed.{Handed}
 use Rattle.sc_model.specs.declared.level.LevelKind.{LevelKind}
 use Rattle.sc_model.specs.declared.level.LevelKind.TheVariants.{Disk, Remote}
-use Rattle.sc_model.specs.declared.level.Policy.{Policy}
-use Rattle.sc_model.specs.declared.level.Policy.TheVariants.{Single}
 use Rattle.sc_model.specs.declared.message.Request.{Request}
 use Rattle.sc_model.specs.declared.phase.Bytes.{Bytes}
 use Rattle.sc_model.specs.declared.phase.Phase.{Phase}
 use Rattle.sc_model.specs.declared.phase.Phase.TheVariants.{AtAsk, AtBegin, AtCommit, AtDist, AtEnd, AtEnded, AtFill, AtFinish, AtKey, AtOver, AtPlace, AtRun, AtSend, AtStarted, AtStore, AtTake, AtWrite, PathAsk, PreAsk, PrePut, RawAsk, SizeAsk}
-use Rattle.sc_stats.specs.declared.counters.LevelStats.{LevelStats}
 
 -- time stands still
 pub ticked_plain : (n : ℕ) (x : What) → IsPlain x → ticked n x ≡ n
@@ -49,35 +46,6 @@ ticked_plain n (Wrote a b d f g h) plain = refl
 ticked_plain n (WriteEnded a b) plain = refl
 ticked_plain n (Sent a) plain = refl
 ticked_plain n (TooLong a) plain = refl
-
-asks_nothing : (n z l : ℕ) (k : List ℕ) (mode : Mode) (a : Answer) (hs : List Handed) → IsPlainAsk mode hs → hands n z (Asked l k mode a hs) ≡ []
-asks_nothing n z l k Whole a hs none = ap (λ (gs : List Handed). hands n z (Asked l k Whole a gs)) none
-asks_nothing n z l k Raw a hs none = absurd none
-asks_nothing n z l k Path a hs none = absurd none
-asks_nothing n z l k Pre a hs none = absurd none
-asks_nothing n z l k Sizes a hs none = absurd none
-
--- nothing is handed on
-pub hands_nothing : (n z : ℕ) (x : What) → IsPlain x → hands n z x ≡ []
-hands_nothing n z Idle plain = refl
-hands_nothing n z (Passed a) plain = absurd plain
-hands_nothing n z (Taken a b) plain = refl
-hands_nothing n z (Closed a) plain = refl
-hands_nothing n z (Began a b) plain = refl
-hands_nothing n z (Keyed a b d) plain = refl
-hands_nothing n z (Asked l k mode a hs) plain = asks_nothing n z l k mode a hs plain
-hands_nothing n z (Placed a) plain = refl
-hands_nothing n z TokenTaken plain = refl
-hands_nothing n z (Ran a) plain = refl
-hands_nothing n z (Dist a) plain = absurd plain
-hands_nothing n z (Outcome a b) plain = refl
-hands_nothing n z (Reserved a b d f) plain = absurd plain
-hands_nothing n z (Filled a b d f g) plain = absurd plain
-hands_nothing n z (Committed a b d f) plain = absurd plain
-hands_nothing n z (Wrote a b d f g h) plain = refl
-hands_nothing n z (WriteEnded put hs) plain = ap (λ (gs : List Handed). hands n z (WriteEnded put gs)) plain
-hands_nothing n z (Sent a) plain = refl
-hands_nothing n z (TooLong a) plain = refl
 
 -- nothing is reserved
 pub reserves_nothing : (o : Owner) (x : What) → IsPlain x → reserved_by o x [] ≡ []
@@ -104,17 +72,17 @@ reserves_nothing o (TooLong a) plain = refl
 says_told : (s : Setup) (m : Machine) (q : Request) (told : Told) → IsPlainTold told → Says s m (Began q told)
 says_told s m q (TellsCompile p) plain = tt
 says_told s m q (TellsStats stats) plain = absurd plain
-says_told s m q (TellsDist info) plain = absurd plain
-says_told s m q (TellsHandshake info) plain = absurd plain
-says_told s m q (TellsValid v) plain = absurd plain
-says_told s m q TellsNothing plain = absurd plain
+says_told s m q (TellsDist info) plain = tt
+says_told s m q (TellsHandshake info) plain = tt
+says_told s m q (TellsValid v) plain = tt
+says_told s m q TellsNothing plain = tt
 
-says_asked : (s : Setup) (m : Machine) (l : ℕ) (k : List ℕ) (mode : Mode) (a : Answer) (hs : List Handed) → IsPlainAsk mode hs → Says s m (Asked l k mode a hs)
-says_asked s m l k Whole a hs none = tt
-says_asked s m l k Raw a hs none = absurd none
-says_asked s m l k Path a hs none = absurd none
-says_asked s m l k Pre a hs none = absurd none
-says_asked s m l k Sizes a hs none = absurd none
+says_asked : (s : Setup) (m : Machine) (l : ℕ) (k : List ℕ) (mode : Mode) (a : Answer) (hs : List Handed) → IsPlainMode mode → Says s m (Asked l k mode a hs)
+says_asked s m l k Whole a hs plain = tt
+says_asked s m l k Raw a hs plain = tt
+says_asked s m l k Path a hs plain = tt
+says_asked s m l k Pre a hs plain = tt
+says_asked s m l k Sizes a hs plain = absurd plain
 
 -- nothing is told of other requests
 pub says_nothing : (s : Setup) (m : Machine) (x : What) → IsPlain x → Says s m x
@@ -137,10 +105,6 @@ says_nothing s m (Wrote a b d f g h) plain = tt
 says_nothing s m (WriteEnded a b) plain = tt
 says_nothing s m (Sent a) plain = tt
 says_nothing s m (TooLong a) plain = tt
-
--- a store that stands alone counts at no level
-pub counts_nothing : (p : Policy) (row : LevelStats) (x : What) (ls : List LevelStats) → p ≡ Single → counted_level p row x ls ≡ ls
-counts_nothing p row x ls e = rw e refl
 
 -- what is due where a write part goes on
 starts_write : (d : Due → Type 0) (kind : LevelKind) (l : ℕ) (b : Bytes) → d (ToReserve l b) → d (ToWrite Whole l b) → d (start_write kind l b)

@@ -1,37 +1,81 @@
 -- A daemon: its state, what it counted, and its free tokens.
-use Rattle.std.specs.Prelude.{◌≡◌, ℕ, List, [], map, refl}
-use Rattle.std.specs.Coded.{Coded, code_by, coded×, coded_ℕ}
+use Rattle.std.specs.Prelude.{◌≡◌, ◌⊎◌, ℕ, zero, suc, ◌+◌, ◌≤◌, List, [], ◌∷◌, ◌++◌, length, map, Some, refl}
+use Rattle.std.specs.Coded.{Coded, code_by, coded×, coded_list, coded_ℕ}
+use Rattle.sc_daemon.specs.Backlogs.{without}
 use Rattle.sc_daemon.specs.Lines.{Line, conn_of}
 use Rattle.sc_daemon.specs.Turns.{IsIdleLine, Reads, Serves_one}
 use Rattle.sc_daemon.specs.declared.reading.Reading.TheVariants as readings
 use Rattle.sc_job.specs.Setups.{setup}
-use Rattle.sc_model.specs.Machine.{Machine, current, free_after, need_at}
+use Rattle.sc_model.specs.Machine.{Machine, counted_level, current, free_after, need_at, pend, pending_at}
 use Rattle.sc_model.specs.Next.{at_moment}
-use Rattle.sc_model.specs.Rows.{count, row, zeroes}
+use Rattle.sc_model.specs.Rows.{Direct, by_backfill, count, level_row, row, zeroes}
 use Rattle.sc_model.specs.Script.{Script}
+use Rattle.sc_model.specs.Trace.{hands}
+use Rattle.sc_model.specs.World.{Need}
+use Rattle.sc_model.specs.contracts.phase.Pending as pending_type
+use Rattle.sc_model.specs.declared.event.Mode.TheVariants.{Whole}
+use Rattle.sc_model.specs.declared.event.Written.{Written}
+use Rattle.sc_model.specs.declared.level.Handed.{Handed}
+use Rattle.sc_model.specs.declared.phase.Pending.{Pending}
 use Rattle.sc_model.specs.declared.event.Event.{Event}
 use Rattle.sc_model.specs.declared.event.Owner.{Owner}
-use Rattle.sc_model.specs.declared.event.Owner.TheVariants.{Nobody, Request as OfRequest}
+use Rattle.sc_model.specs.declared.event.Owner.TheVariants.{Nobody, Request as OfRequest, Write as OfWrite}
 use Rattle.sc_model.specs.declared.event.What.{What}
-use Rattle.sc_model.specs.declared.event.What.TheVariants.{Closed, Idle, Taken}
+use Rattle.sc_model.specs.declared.event.What.TheVariants.{Closed, Idle, Taken, Wrote}
 use Rattle.sc_owned.specs.Codes.{state_code}
 use Rattle.sc_owned.specs.Moving.{OwnedMoves}
 use Rattle.sc_owned.specs.State.{State}
+use Rattle.sc_stats.specs.contracts.counters.LevelStats as level_type
 use Rattle.sc_stats.specs.contracts.counters.ServerStats as stats_type
+use Rattle.sc_stats.specs.declared.counters.LevelStats.{LevelStats}
 use Rattle.sc_stats.specs.declared.counters.ServerStats.{ServerStats}
-use Rattle.sc_stats.specs.Sums.{no_level_stats, sat}
+use Rattle.sc_stats.specs.Sums.{no_level_stats, no_stats, sat}
 use Rattle.sc_wire.specs.Streams.{served_reader}
 
 pub record Kept : Type 0 where
   pub state : State
   pub stats : ServerStats
   pub free : ℕ
+  -- what was counted of each level
+  pub levels : List LevelStats
+  -- the writes that were handed on and are not done, and how many ever were
+  pub background : List Pending
+  pub handed : ℕ
 
 abbrev pub kept_code : Coded Kept
-kept_code = code_by (State × (ServerStats × ℕ)) (coded× state_code (coded× stats_type.the_row.coded coded_ℕ))
-    (λ d. (d.state, (d.stats, d.free)))
-    (λ p. record { state = p.0; stats = p.1.0; free = p.1.1 })
+kept_code = code_by (State × (ServerStats × (ℕ × (List LevelStats × (List Pending × ℕ)))))
+    (coded× state_code (coded× stats_type.the_row.coded (coded× coded_ℕ (coded× (coded_list level_type.the_row.coded) (coded× (coded_list pending_type.the_row.coded) coded_ℕ)))))
+    (λ d. (d.state, (d.stats, (d.free, (d.levels, (d.background, d.handed))))))
+    (λ p. record { state = p.0; stats = p.1.0; free = p.1.1.0; levels = p.1.1.1.0; background = p.1.1.1.1.0; handed = p.1.1.1.1.1 })
     (λ _. refl)
+
+-- levels of which nothing is counted
+abbrev pub no_levels : ℕ → List LevelStats
+no_levels zero = []
+no_levels (suc n) = no_level_stats ∷ no_levels n
+
+-- a daemon as it is made
+abbrev pub new_daemon : State → Kept
+new_daemon o = record { state = o; stats = no_stats; free = o.config.tokens; levels = no_levels (length o.config.levels); background = []; handed = 0 }
+
+-- every token is free, each level has its counters, and no handed write is left
+pub record IsIdleDaemon (d : Kept) : Type 0 where
+  pub free : d.free ≡ d.state.config.tokens
+  pub levels : length d.levels ≡ length d.state.config.levels
+  pub background : d.background ≡ []
+
+-- writes that are handed on from now are numbered from 0
+abbrev pub anew : Kept → Kept
+anew d = record d { handed = 0 }
+
+-- what an event of a request leaves, beside what it counts of the daemon; last: the request's event before
+abbrev pub kept_after : Kept → ℕ → ℕ → What → Kept
+kept_after d last m x = record d {
+  free = free_after d.free x;
+  levels = counted_level d.state.config.policy (level_row Direct last 0 m x) x d.levels;
+  background = d.background ++ pend (hands d.handed m x);
+  handed = d.handed + length (hands d.handed m x);
+}
 
 -- time passed
 abbrev pub passed : Kept → ℕ → Kept
@@ -49,13 +93,16 @@ pub record ReadsEvent (d : Kept) (c : ℕ) (input : List ℕ) (n : ℕ) (e : Eve
   pub owner : e.owner ≡ Nobody
   pub reads : ReadsWhat c input n e.what old new
 
--- an event of the compile that is served
+-- an event of the request that is served
 pub record ServesAt (c j : ℕ) (x : What) (d d2 : Kept) (old new : Line) : Type 0 where
   pub number : j ≡ old.at
   pub one : Serves_one d.state.config d.state.world.moment d.free x old new
   pub moves : OwnedMoves d.state (need_at (setup d.state.config) (current (conn_of old)) old.phase) x d2.state
   pub config : d2.state.config ≡ d.state.config
   pub free : d2.free ≡ free_after d.free x
+  pub levels : d2.levels ≡ counted_level d.state.config.policy (level_row Direct old.last 0 d.state.world.moment x) x d.levels
+  pub background : d2.background ≡ d.background ++ pend (hands d.handed d.state.world.moment x)
+  pub handed : d2.handed ≡ d.handed + length (hands d.handed d.state.world.moment x)
   pub stats : d2.stats ≡ count (zeroes x) d.stats (row (setup d.state.config) (current (conn_of old)) old.outcome d.state.world.moment x)
 
 abbrev pub ServesWhat : ℕ → Owner → What → Kept → Kept → Line → Line → Type 0
@@ -67,15 +114,43 @@ pub record ServesEvent (c : ℕ) (e : Event) (d d2 : Kept) (old new : Line) : Ty
   pub moment : e.moment ≡ d.state.world.moment
   pub serves : ServesWhat c e.owner e.what d d2 old new
 
+-- a remote level was written as a handed write says
+pub record WritesHanded (h : Handed) (x : What) (old new : Kept) : Type 0 where
+  pub how : Written
+  pub what : x ≡ Wrote h.level h.key h.bytes Whole h.marked how
+  pub moves : (n : Need) → OwnedMoves old.state n x new.state
+  pub config : new.state.config ≡ old.state.config
+  pub same : new ≡ record old { state = new.state }
+
+-- a handed write was done, and counted
+pub record DoesPending (p : Pending) (e : Event) (old new : Kept) : Type 0 where
+  pub moment : e.moment ≡ old.state.world.moment
+  pub owner : e.owner ≡ OfWrite p.number
+  pub how : Written
+  pub what : e.what ≡ Wrote p.handed.level p.handed.key p.handed.bytes Whole p.handed.marked how
+  pub moves : (n : Need) → OwnedMoves old.state n e.what new.state
+  pub config : new.state.config ≡ old.state.config
+  pub same : new ≡ record old { state = new.state; levels = counted_level old.state.config.policy (level_row (by_backfill p.backfill p.at) 0 p.since e.moment e.what) e.what old.levels }
+
+-- nothing happened
+abbrev pub idle_event : Kept → Event
+idle_event d = record { moment = d.state.world.moment; owner = Nobody; what = Idle }
+
+-- the handed write at this place was done, where there is one
+abbrev pub BacksEvent : ℕ → Event → Kept → Kept → Type 0
+BacksEvent i e old new =
+    ((length old.background ≤ i) × (e ≡ idle_event old) × (new ≡ old))
+    ⊎ ((p : Pending) × (pending_at i old.background ≡ Some p) × DoesPending p e (record old { background = without i old.background }) new)
+
 -- the machine that a daemon and its connections are
 abbrev pub machine_of : Kept → List Line → Machine
 machine_of d lines = record {
   conns = map conn_of lines;
   free = d.free;
   stats = d.stats;
-  level_stats = map (λ f. no_level_stats) d.state.config.levels;
-  background = [];
-  handed = 0;
+  level_stats = d.levels;
+  background = d.background;
+  handed = d.handed;
   reserved = [];
   world = d.state.world;
 }
@@ -87,5 +162,5 @@ script_of d inputs = record {
   inputs = inputs;
   reader = served_reader d.state.config.limit;
   first = d.stats;
-  first_levels = map (λ f. no_level_stats) d.state.config.levels;
+  first_levels = d.levels;
 }

@@ -1,13 +1,14 @@
 -- Steps of a drive.
 use Rattle.std.specs.Prelude.{◌≡◌, ℕ, zero, suc, ◌+◌, ◌≤◌, true, List, [], ◌∷◌, ◌++◌, length, map, reverse, slice_index_or}
 use Rattle.sc_conn.specs.Ends.{end_of}
+use Rattle.sc_daemon.specs.Backlogs.{ArePending}
 use Rattle.sc_daemon.specs.Daemons.{Kept, machine_of, script_of}
 use Rattle.sc_daemon.specs.Lines.{Line, new_line}
 use Rattle.sc_daemon.specs.Standings.{Rests}
 use Rattle.sc_daemon.specs.declared.driven.Driven.{Driven}
 use Rattle.sc_job.specs.Setups.{Config, setup}
 use Rattle.sc_model.specs.Headline.{Result_of_run}
-use Rattle.sc_model.specs.Machine.{Does, Runs}
+use Rattle.sc_model.specs.Machine.{Does, Runs, shown_levels}
 use Rattle.sc_model.specs.Script.{End, Script}
 use Rattle.sc_model.specs.Trace.{if_too_long}
 use Rattle.sc_model.specs.declared.event.Event.{Event}
@@ -19,9 +20,9 @@ abbrev pub lines_of : ℕ → ℕ → List Line
 lines_of limit zero = []
 lines_of limit (suc n) = new_line limit ∷ lines_of limit n
 
--- each connection reads by the daemon's limit, and its first compile can be gone on with or was stopped
+-- each connection reads by the daemon's limit, and its first request can be gone on with or was stopped
 abbrev pub IsAt : Config → Line → Type 0
-IsAt k l = (l.limit ≡ k.limit) × Rests k l.phase
+IsAt k l = (l.limit ≡ k.limit) × Rests k l.phase l.waiting
 
 abbrev pub AreAt : Config → List Line → Type 0
 AreAt k lines = (c : ℕ) → IsAt k (slice_index_or lines c (new_line k.limit))
@@ -40,6 +41,7 @@ pub record Steps (s : Script) (p : Step) (e : Event) (d d2 : Kept) (lines lines2
   pub count : length lines2 ≡ length lines
   pub at : AreAt d.state.config lines2
   pub free : d2.free ≤ d.free + 1
+  pub pending : ArePending (length d.state.config.levels) d2.background
 
 -- one step of a drive: its event is the last
 pub record StepsOn (k : Config) (inputs : List (List ℕ)) (p : Step) (events events2 : List Event) (d d2 : Kept) (lines lines2 : List Line) : Type 0 where
@@ -60,12 +62,13 @@ pub record Progress (d0 d : Kept) (inputs : List (List ℕ)) (steps left : List 
   pub told : d.state.told ≡ true
   pub count : length lines ≡ length inputs
   pub at : AreAt d.state.config lines
+  pub pending : ArePending (length d.state.config.levels) d.background
 
 -- what a drive came to, as the headline speaks of it
 abbrev pub result_of : Kept → Driven → Result_of_run
 result_of d driven = record {
   stats = d.stats;
-  level_stats = [];
+  level_stats = shown_levels d.state.config.policy d.levels;
   background = driven.background;
   free = d.free;
   ends = map (λ c. end_of c.end) driven.conns;

@@ -1,3 +1,4 @@
+pub mod Backlogs
 pub mod Daemons
 pub mod Drives
 pub mod Lines

@@ -1,14 +1,13 @@
 -- A connection as the daemon keeps it.
-use Rattle.std.specs.Prelude.{◌≡◌, ℕ, ◌<◌, Bool, true, false, List, [], ◌∷◌, length, map, Option, Some, None, ◌⊎◌, refl}
+use Rattle.std.specs.Prelude.{◌≡◌, ℕ, ◌<◌, Bool, true, false, List, [], ◌∷◌, length, Option, Some, None, ◌⊎◌, refl}
 use Rattle.std.specs.Coded.{Coded, code_by, coded×, coded_bool, coded_list, coded_option, coded_ℕ}
 use Rattle.sc_daemon.specs.Standings.{standing_of}
 use Rattle.sc_daemon.specs.declared.standing.Standing.TheVariants.{Ended}
 use Rattle.sc_model.specs.Machine.{Conn}
 use Rattle.sc_model.specs.Script.{BadFrame}
-use Rattle.sc_model.specs.contracts.message.Compile as compile_type
+use Rattle.sc_model.specs.contracts.message.Request as request_type
 use Rattle.sc_model.specs.contracts.phase.Phase as phase_type
-use Rattle.sc_model.specs.declared.message.Compile.{Compile}
-use Rattle.sc_model.specs.declared.message.Request.TheVariants.{Compile as CompileOf}
+use Rattle.sc_model.specs.declared.message.Request.{Request}
 use Rattle.sc_model.specs.declared.phase.Phase.{Phase}
 use Rattle.sc_model.specs.declared.phase.Phase.TheVariants.{AtBegin}
 use Rattle.sc_wire.specs.Streams.{served_reader}
@@ -28,13 +27,13 @@ IsFirst (Some a) rest = Unit {0}
 
 pub record Line : Type 0 where
   pub limit : ℕ
-  -- the compiles that are not over, the one that is served first
-  pub waiting : List Compile
+  -- the requests that are not over, the one that is served first
+  pub waiting : List Request
   -- the bytes that spell no request yet, and how many came
   pub rest : List ℕ
   pub got : ℕ
   pub closed : Bool
-  -- the number of the first compile, where it stands, and the moments of its last event and of its outcome
+  -- the number of the first request, where it stands, and the moments of its last event and of its outcome
   pub at : ℕ
   pub phase : Phase
   pub last : ℕ
@@ -44,8 +43,8 @@ pub record Line : Type 0 where
   pub long : Option ℕ
 
 abbrev pub line_code : Coded Line
-line_code = code_by (ℕ × (List Compile × (List ℕ × (ℕ × (Bool × (ℕ × (Phase × (ℕ × (ℕ × (List ℕ × Option ℕ))))))))))
-    (coded× coded_ℕ (coded× (coded_list compile_type.the_row.coded) (coded× (coded_list coded_ℕ) (coded× coded_ℕ (coded× coded_bool
+line_code = code_by (ℕ × (List Request × (List ℕ × (ℕ × (Bool × (ℕ × (Phase × (ℕ × (ℕ × (List ℕ × Option ℕ))))))))))
+    (coded× coded_ℕ (coded× (coded_list request_type.the_row.coded) (coded× (coded_list coded_ℕ) (coded× coded_ℕ (coded× coded_bool
     (coded× coded_ℕ (coded× phase_type.the_row.coded (coded× coded_ℕ (coded× coded_ℕ (coded× (coded_list coded_ℕ) (coded_option coded_ℕ)))))))))))
     (λ l. (l.limit, (l.waiting, (l.rest, (l.got, (l.closed, (l.at, (l.phase, (l.last, (l.outcome, (l.out, l.long)))))))))))
     (λ p. record { limit = p.0; waiting = p.1.0; rest = p.1.1.0; got = p.1.1.1.0; closed = p.1.1.1.1.0; at = p.1.1.1.1.1.0; phase = p.1.1.1.1.1.1.0; last = p.1.1.1.1.1.1.1.0; outcome = p.1.1.1.1.1.1.1.1.0; out = p.1.1.1.1.1.1.1.1.1.0; long = p.1.1.1.1.1.1.1.1.1.1 })
@@ -56,7 +55,7 @@ new_line limit = record { limit = limit; waiting = []; rest = []; got = 0; close
 
 -- the connection as the machine keeps it
 abbrev pub conn_of : Line → Conn
-conn_of l = record { queue = map CompileOf l.waiting; rest = l.rest; got = l.got; closed = l.closed; at = l.at; phase = l.phase; last = l.last; outcome = l.outcome; reserved = 0; out = l.out; long = l.long }
+conn_of l = record { queue = l.waiting; rest = l.rest; got = l.got; closed = l.closed; at = l.at; phase = l.phase; last = l.last; outcome = l.outcome; reserved = 0; out = l.out; long = l.long }
 
 -- nothing more is read: it is closed, its bytes spell no request, or a reply was too long
 abbrev pub IsDone : Line → Type 0

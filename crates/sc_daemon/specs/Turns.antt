@@ -1,5 +1,5 @@
 -- What a step does to one connection.
-use Rattle.std.specs.Prelude.{◌≡◌, ℕ, ◌+◌, ◌<◌, ◌≤◌, true, List, [], ◌∷◌, ◌++◌, length, take, drop, map, Option, Some, None, ◌⊎◌}
+use Rattle.std.specs.Prelude.{◌≡◌, ℕ, ◌+◌, ◌<◌, ◌≤◌, true, List, [], ◌∷◌, ◌++◌, length, take, drop, Option, Some, None, ◌⊎◌}
 use Rattle.sc_action.specs.Acts.{Acts, IsPlain}
 use Rattle.sc_action.specs.Sends.{Adds}
 use Rattle.sc_action.specs.declared.acted.Acted.{Acted}
@@ -14,15 +14,19 @@ use Rattle.sc_model.specs.Machine.{advanced, current, due_at}
 use Rattle.sc_model.specs.Trace.{sent_by}
 use Rattle.sc_model.specs.World.{Need}
 use Rattle.sc_model.specs.declared.event.What.{What}
-use Rattle.sc_model.specs.declared.message.Compile.{Compile}
+use Rattle.sc_model.specs.declared.message.Request.{Request}
 use Rattle.sc_model.specs.declared.phase.Phase.TheVariants.{AtOver}
-use Rattle.sc_model.specs.declared.message.Request.TheVariants.{Compile as CompileOf}
+use Rattle.sc_model.specs.Rows.{count, row, zeroes}
+use Rattle.sc_model.specs.There.{AreHanded, handed_in}
+use Rattle.sc_stats.specs.declared.counters.ServerStats.{ServerStats}
+use Rattle.sc_wire.specs.Requests.{AreServed}
 use Rattle.sc_wire.specs.Streams.{served_reader}
 
 -- more bytes came
 pub record TakesMore (bytes : List ℕ) (old new : Line) : Type 0 where
   pub same : new ≡ record old { waiting = new.waiting; rest = new.rest; got = new.got }
-  pub requests : map CompileOf new.waiting ≡ map CompileOf old.waiting ++ (served_reader old.limit).requests (old.rest ++ bytes)
+  pub requests : new.waiting ≡ old.waiting ++ (served_reader old.limit).requests (old.rest ++ bytes)
+  pub served : AreServed old.waiting → AreServed new.waiting
   pub rest : new.rest ≡ (served_reader old.limit).rest (old.rest ++ bytes)
   pub got : new.got ≡ old.got + length bytes
 
@@ -32,10 +36,10 @@ Reads input n Nothing old new = ((n ≡ 0) ⊎ IsDone old) × (new ≡ old)
 Reads input n (Taken bytes) old new = (IsDone old → ⊥) × (bytes ≡ take n (drop old.got input)) × (0 < length bytes) × TakesMore bytes old new
 Reads input n Closed old new = (IsDone old → ⊥) × (0 < n) × (length input ≤ old.got) × (new ≡ record old { closed = true })
 
--- One action of the first compile, before the connection goes on to the next phase.
+-- One action of the first request, before the connection goes on to the next phase.
 pub record ActsFirst (k : Config) (moment : ℕ) (acted : Acted) (old new : Line) : Type 0 where
-  pub request : Compile
-  pub rest : List Compile
+  pub request : Request
+  pub rest : List Request
   pub first : old.waiting ≡ request ∷ rest
   pub acts : Acts k request old.phase moment acted
   pub same : new ≡ record old { phase = AtOver; out = new.out }
@@ -45,13 +49,14 @@ pub record ActsFirst (k : Config) (moment : ℕ) (acted : Acted) (old new : Line
 abbrev pub IsIdleLine : ℕ → Line → Type 0
 IsIdleLine free l = ((length l.waiting ≡ 0) ⊎ ((0 < length l.waiting) × (standing_of l.phase ≡ Ended))) ⊎ ((0 < length l.waiting) × (standing_of l.phase ≡ Takes) × (free ≡ 0))
 
--- an event of the compile that is served
+-- an event of the request that is served
 pub record Serves_one (k : Config) (moment free : ℕ) (x : What) (old new : Line) : Type 0 where
   pub some : 0 < length old.waiting
   pub fits : Fits (setup k) (current (conn_of old)) (due_at (setup k) (current (conn_of old)) old.phase) x
   pub token : standing_of old.phase ≡ Takes → 0 < free
   pub then : conn_of new ≡ advanced (setup k) (conn_of old) moment x
   pub plain : IsPlain x
+  pub there : AreHanded (length k.levels) (handed_in x)
   pub limit : new.limit ≡ old.limit
 
 abbrev pub ServesLine : Config → ℕ → ℕ → Option What → Line → Line → Type 0
@@ -70,3 +75,12 @@ ActsFirst_or_none k moment (Some a) old new = ActsFirst k moment a old new
 abbrev pub MovesHold : {H : Type 0} → (H → Need → What → H → Type 0) → Need → Option What → H → H → Type 0
 MovesHold moves n None old new = new ≡ old
 MovesHold moves n (Some x) old new = moves old n x new
+
+-- what the event of the first request counts, where there is one
+abbrev pub CountsFirst : Config → ℕ → Option Acted → Line → ServerStats → ServerStats → Type 0
+CountsFirst k moment None l old new = new ≡ old
+CountsFirst k moment (Some a) l old new = new ≡ count (zeroes a.what) old (row (setup k) (current (conn_of l)) l.outcome moment a.what)
+
+abbrev pub CountsLine : Config → ℕ → Option What → Line → ServerStats → ServerStats → Type 0
+CountsLine k moment None l old new = new ≡ old
+CountsLine k moment (Some x) l old new = new ≡ count (zeroes x) old (row (setup k) (current (conn_of l)) l.outcome moment x)

@@ -1,10 +1,10 @@
-//! A connection: what comes over it, the compile that is served, and what was sent.
-ghost use Rattle.std.specs.Prelude.{◌≡◌, ◌+◌, ◌<◌, ◌≤◌, ◌^◌, false, true, length, take, drop, IfOk, IfSome, OnOk};
-ghost use Rattle.sc_action.specs.Serves.{Serves, Stands};
+//! A connection: what comes over it, the request that is served, and what was sent.
+ghost use Rattle.std.specs.Prelude.{◌≡◌, ◌+◌, ◌<◌, ◌≤◌, ◌^◌, false, true, Some, length, take, drop, IfOk, IfSome, IsOk, OnOk};
+ghost use Rattle.sc_action.specs.Serves.{Serves};
 ghost use Rattle.sc_conn.specs.Ends.{end_of};
 ghost use Rattle.sc_daemon.specs.Lines.{IsDone, conn_of, new_line};
-ghost use Rattle.sc_daemon.specs.Standings.{Rests, settled, standing_of};
-ghost use Rattle.sc_daemon.specs.Turns.{ActsFirst_or_none, IsIdleLine, MovesFirst, MovesHold, Reads, ServesLine, TakesMore};
+ghost use Rattle.sc_daemon.specs.Standings.{Rests, standing_of};
+ghost use Rattle.sc_daemon.specs.Turns.{ActsFirst_or_none, CountsFirst, CountsLine, IsIdleLine, MovesFirst, MovesHold, Reads, ServesLine, TakesMore};
 ghost use Rattle.sc_daemon.specs.declared.standing.Standing.TheVariants.{Ended, Takes};
 ghost use Rattle.sc_job.specs.Setups.{setup};
 ghost use Rattle.sc_model.specs.Machine.{current, long_after, need_at, outcome_after, settle};
@@ -18,7 +18,9 @@ use sc_action::{Acted, act};
 use sc_conn::{End, Inbox};
 use sc_entry::{ByteText, NoMemory};
 use sc_hold::Hold;
+use sc_job::count_event;
 use sc_model::{Phase, What};
+use sc_stats::ServerStats;
 use std::alloc::Global;
 use std::marker::Model;
 
@@ -75,6 +77,25 @@ fn next_piece(input: &[u8], got: usize, count: u64) -> &[u8]
     }
 }
 
+/// Drops an action in a call of its own: dropped at the end of a branch it takes the check minutes.
+fn discard(acted: Acted) {
+    drop(acted);
+}
+
+/// The action, once its event is counted.
+fn if_counted(counted: Result<(), NoMemory>, acted: Acted) -> Result<Option<Acted>, NoMemory>
+    ensures acted { IfOk result (λ a. a ≡ Some acted) }
+    ensures counted { IsOk result → IsOk counted }
+{
+    match counted {
+        Ok(()) => Ok(Some(acted)),
+        Err(refused) => {
+            discard(acted);
+            Err(refused)
+        }
+    }
+}
+
 impl Conn {
     /// Nothing came yet.
     pub fn new(alloc: Global, limit: u32) -> Conn
@@ -92,18 +113,18 @@ impl Conn {
         }
     }
 
-    /// The number of the first compile among all of the connection.
+    /// The number of the first request among all of the connection.
     pub fn at(&self) -> u64
         ensures { result ≡ self.now.at }
     {
         self.at
     }
 
-    /// The moment of its outcome.
-    pub fn outcome(&self) -> u64
-        ensures { result ≡ self.now.outcome }
+    /// The moment of its last event.
+    pub fn last(&self) -> u64
+        ensures { result ≡ self.now.last }
     {
-        self.outcome
+        self.last
     }
 
     /// Whether a reply was too long.
@@ -157,7 +178,7 @@ impl Conn {
         Ok(Reading::Taken(bytes))
     }
 
-    /// Whether there is nothing to serve: no compile waits, a reply was too long, or a token is waited for.
+    /// Whether there is nothing to serve: no request waits, a reply was too long, or a token is waited for.
     fn is_idle(&self, free: u64) -> bool
         ensures yes { result ≡ true → IsIdleLine free self.now }
         ensures some { result ≡ false → 0 < length self.now.waiting }
@@ -175,7 +196,7 @@ impl Conn {
         }
     }
 
-    /// Keeps what an event of the served compile tells.
+    /// Keeps what an event of the served request tells.
     fn note_event(&mut self, moment: u64, what: &What)
         ensures { self.new ≡ record self.old { last = moment; outcome = outcome_after self.old.outcome moment what.now; long = long_after self.old.long what.now } }
     {
@@ -187,12 +208,11 @@ impl Conn {
         }
     }
 
-    /// The served compile stands at the next phase; one that is over makes way for the next.
+    /// The served request stands at the next phase; one that is over makes way for the next.
     fn move_to(&mut self, phase: Phase)
         requires { 0 < length self.old.waiting }
         ensures conn { conn_of self.new ≡ settle (conn_of self.old) phase }
         ensures limit { self.new.limit ≡ self.old.limit }
-        ensures phase { self.new.phase ≡ settled phase }
     {
         match standing_at(&phase) {
             Standing::Over => {
@@ -207,39 +227,49 @@ impl Conn {
         }
     }
 
-    /// Does the action that is due of the first compile.
-    fn act_first<H: Hold>(&mut self, alloc: Global, hold: &mut H) -> Result<Option<Acted>, NoMemory>
-        requires { Serves (H.config hold.old) self.old.phase }
+    /// Does the action that is due of the first request, and counts it.
+    fn act_first<H: Hold>(
+        &mut self,
+        alloc: Global,
+        hold: &mut H,
+        stats: &mut ServerStats,
+    ) -> Result<Option<Acted>, NoMemory>
+        requires { Serves (H.config hold.old) self.old.phase (current (conn_of self.old)) }
         ensures acts { IfOk result (λ acted. ActsFirst_or_none (H.config hold.old) (H.moment hold.old) acted self.old self.new) }
         ensures moves { IfOk result (λ acted. MovesFirst H.moves (need_at (setup (H.config hold.old)) (current (conn_of self.old)) self.old.phase) acted hold.old hold.new) }
         ensures same { IfOk result (λ _. H.config hold.new ≡ H.config hold.old) }
+        ensures counts { IfOk result (λ acted. CountsFirst (H.config hold.old) (H.moment hold.old) acted self.old stats.old stats.new) }
     {
         let Some(request) = self.waiting.first() else {
             return Ok(None);
         };
+        let now = hold.now();
         let phase = std::mem::replace(&mut self.phase, Phase::AtOver);
         let acted = act(alloc, hold, request, phase, &mut self.out)?;
-        Ok(Some(acted))
+        let counted = count_event(alloc, stats, request, self.outcome, now, &acted.what);
+        if_counted(counted, acted)
     }
 
-    /// Does the action that is due of the served compile, where one is: its event.
+    /// Does the action that is due of the served request, where one is, and counts it: its event.
     pub fn serve<H: Hold>(
         &mut self,
         alloc: Global,
         hold: &mut H,
+        stats: &mut ServerStats,
         free: u64,
     ) -> Result<Option<What>, NoMemory>
-        requires { Rests (H.config hold.old) self.old.phase }
+        requires { Rests (H.config hold.old) self.old.phase self.old.waiting }
         ensures serves { IfOk result (λ what. ServesLine (H.config hold.old) (H.moment hold.old) free what self.old self.new) }
         ensures moves { IfOk result (λ what. MovesHold H.moves (need_at (setup (H.config hold.old)) (current (conn_of self.old)) self.old.phase) what hold.old hold.new) }
         ensures same { IfOk result (λ _. H.config hold.new ≡ H.config hold.old) }
-        ensures rests { IfOk result (λ _. Rests (H.config hold.old) self.new.phase) }
+        ensures counts { IfOk result (λ what. CountsLine (H.config hold.old) (H.moment hold.old) what self.old stats.old stats.new) }
+        ensures rests { IfOk result (λ _. Rests (H.config hold.old) self.new.phase self.new.waiting) }
     {
         if self.is_idle(free) {
             return Ok(None);
         }
         let now = hold.now();
-        let Some(acted) = self.act_first(alloc, hold)? else {
+        let Some(acted) = self.act_first(alloc, hold, stats)? else {
             return Ok(None);
         };
         let Acted { what, phase } = acted;

@@ -1,32 +1,33 @@
 //! A daemon: its state, what it counted, and its tokens.
-ghost use Rattle.std.specs.Prelude.{◌≡◌, ◌↔◌, ◌+◌, ◌<◌, ◌≤◌, ◌^◌, IsTrue, IfOk, IsOk, length};
-ghost use Rattle.sc_daemon.specs.Daemons.{ReadsEvent, ServesEvent, passed};
+ghost use Rattle.std.specs.Prelude.{◌≡◌, ◌↔◌, ◌+◌, ◌<◌, ◌≤◌, ◌^◌, ◌++◌, IsTrue, IfOk, IsOk, OnOk, length};
+ghost use Rattle.sc_daemon.specs.Backlogs.{ArePending, IsPending};
+ghost use Rattle.sc_daemon.specs.Daemons.{BacksEvent, DoesPending, IsIdleDaemon, ReadsEvent, ServesEvent, WritesHanded, anew, kept_after, new_daemon, no_levels, passed};
 ghost use Rattle.sc_daemon.specs.Standings.{Rests};
-ghost use Rattle.sc_job.specs.Setups.{Config, setup};
 ghost use Rattle.sc_model.specs.Machine as machine;
-ghost use Rattle.sc_model.specs.Rows as rows;
-ghost use Rattle.sc_model.specs.declared.message.Compile.{Compile as CompileRequest};
-ghost use Rattle.sc_model.specs.declared.message.Request.TheVariants.{Compile as CompileOf};
-ghost use Rattle.sc_stats.specs.Sums.{no_stats};
+ghost use Rattle.sc_model.specs.Trace.{hands};
 
+use crate::backlog::{Backlog, handed_count};
 use crate::conn::Conn;
 use crate::reading::Reading;
 use sc_entry::NoMemory;
 use sc_hold::Hold;
-use sc_job::count_event;
-use sc_model::{Event, Owner, What};
+use sc_job::{Origin, count_level};
+use sc_model::{Bytes, Event, Handed, Mode, Owner, Pending, What};
 use sc_owned::{Owned, Parts};
-use sc_stats::ServerStats;
-use sc_store::Levels;
+use sc_stats::{LevelStats, ServerStats};
 use std::alloc::Global;
 use std::marker::Model;
 
-/// A daemon. Contracts see what it is made of and what its parts hold, what it counted, and how many tokens are free.
+/// A daemon. Contracts see what it is made of and what its parts hold, what it counted, how many tokens are free, and the
+/// writes that were handed on and are not done.
 #[derive(Drop)]
 pub struct Daemon<P: Parts> {
     owned: Owned<P>,
     stats: ServerStats,
     free: u64,
+    levels: Vec<LevelStats>,
+    background: Backlog,
+    handed: u64,
 }
 
 impl<P: Parts> Model for Daemon<P> {
@@ -36,7 +37,7 @@ impl<P: Parts> Model for Daemon<P> {
 
     ghost coded = { kept_code };
 
-    ghost view = { λ d. record { state = d.owned; stats = d.stats; free = d.free } };
+    ghost view = { λ d. record { state = d.owned; stats = d.stats; free = d.free; levels = d.levels.items; background = d.background; handed = d.handed } };
 }
 
 /// The free tokens after an event.
@@ -56,12 +57,12 @@ fn discard(event: Event) {
     drop(event);
 }
 
-/// The event, once it is counted.
-fn if_counted(counted: Result<(), NoMemory>, event: Event) -> Result<Event, NoMemory>
+/// The event, once what it leaves is kept.
+fn if_kept(kept: Result<(), NoMemory>, event: Event) -> Result<Event, NoMemory>
     ensures event { IfOk result (λ e. e ≡ event) }
-    ensures counted { IsOk result → IsOk counted }
+    ensures kept { IsOk result → IsOk kept }
 {
-    match counted {
+    match kept {
         Ok(()) => Ok(event),
         Err(refused) => {
             discard(event);
@@ -70,26 +71,64 @@ fn if_counted(counted: Result<(), NoMemory>, event: Event) -> Result<Event, NoMe
     }
 }
 
+/// So many levels of which nothing is counted.
+#[tactic(auto, using(crate::proofs::Beginning::levels_more))]
+fn new_levels(alloc: Global, count: usize) -> Result<Vec<LevelStats>, NoMemory>
+    ensures { IfOk result (λ levels. levels.items ≡ no_levels count) }
+{
+    let mut levels = Vec::new(alloc);
+    for _ in 0..count {
+        levels.push(LevelStats::new(alloc))?;
+    }
+    Ok(levels)
+}
+
 impl<P: Parts> Daemon<P> {
-    /// A daemon that has counted nothing yet, and whose tokens are all free.
-    pub fn new(alloc: Global, owned: Owned<P>) -> Daemon<P>
-        ensures state { result.state ≡ owned }
-        ensures stats { result.stats ≡ no_stats }
-        ensures free { result.free ≡ owned.config.tokens }
+    /// A daemon that has counted nothing yet, whose tokens are all free, and which handed no write on.
+    pub fn new(alloc: Global, owned: Owned<P>) -> Result<Daemon<P>, NoMemory>
+        ensures { IfOk result (λ daemon. daemon ≡ new_daemon owned) }
     {
         let free = owned.tokens();
-        Daemon {
+        let levels = new_levels(alloc, owned.levels().len())?;
+        Ok(Daemon {
             owned,
             stats: ServerStats::new(alloc),
             free,
-        }
+            levels,
+            background: Backlog::new(alloc),
+            handed: 0,
+        })
     }
 
-    /// Whether every token is free. So far nothing is reserved and no write is handed on.
+    /// Whether every token is free, each level has its counters, and no write that was handed on is left. So far nothing is
+    /// reserved.
     pub fn is_idle(&self) -> bool
-        ensures { IsTrue result ↔ (self.now.free ≡ self.now.state.config.tokens) }
+        ensures { IsTrue result ↔ IsIdleDaemon self.now }
     {
         self.free == self.owned.tokens()
+            && self.levels.len() == self.owned.levels().len()
+            && self.background.is_empty()
+    }
+
+    /// What it counted of each level: nothing that is told, where a store stands alone.
+    pub fn level_stats(&self) -> &[LevelStats]
+        ensures { result.now ≡ self.now.levels }
+    {
+        self.levels.as_slice()
+    }
+
+    /// The writes that were handed on and are not done.
+    pub fn background(&self) -> &Backlog
+        ensures { result.now ≡ self.now.background }
+    {
+        &self.background
+    }
+
+    /// The writes that are handed on from now are numbered from 0.
+    pub(crate) fn number_anew(&mut self)
+        ensures { self.new ≡ anew self.old }
+    {
+        self.handed = 0;
     }
 
     /// What it is made of and what its parts hold.
@@ -172,14 +211,38 @@ impl<P: Parts> Daemon<P> {
         }
     }
 
-    /// Keeps what an event counts, and which tokens it takes or gives back.
-    fn count(&mut self, alloc: Global, since: u64, moment: u64, what: &What) -> Result<(), NoMemory>
-        requires { self.old.free + 1 < 2 ^ 64 }
-        ensures { IfOk result (λ _. (k : Config) (c : CompileRequest) → self.new ≡ record self.old { stats = rows.count (rows.zeroes what.now) self.old.stats (rows.row (setup k) (CompileOf c) since moment what.now); free = machine.free_after self.old.free what.now }) }
+    /// Keeps the writes that an event hands on.
+    fn keep_handed(&mut self, moment: u64, what: &What) -> Result<(), NoMemory>
+        ensures { OnOk result (self.new ≡ record self.old { background = self.old.background ++ machine.pend (hands self.old.handed moment what.now); handed = self.old.handed + length (hands self.old.handed moment what.now) }) }
     {
-        count_event(alloc, &mut self.stats, since, moment, what)?;
-        self.free = free_after(self.free, what);
+        let count = handed_count(what);
+        let Some(handed) = self.handed.checked_add(count) else {
+            return Err(NoMemory);
+        };
+        self.background.append_event(self.handed, moment, what)?;
+        self.handed = handed;
         Ok(())
+    }
+
+    /// Keeps what an event of a request counts at a level, which tokens it takes or gives back, and the writes that it hands
+    /// on. `last` is the moment of the request's event before.
+    fn keep(&mut self, alloc: Global, last: u64, moment: u64, what: &What) -> Result<(), NoMemory>
+        requires { self.old.free + 1 < 2 ^ 64 }
+        ensures { OnOk result (self.new ≡ kept_after self.old last moment what.now) }
+    {
+        let single = self.owned.is_single();
+        count_level(
+            alloc,
+            &mut self.levels,
+            single,
+            Origin::Direct,
+            last,
+            0,
+            moment,
+            what,
+        );
+        self.free = free_after(self.free, what);
+        self.keep_handed(moment, what)
     }
 
     /// Does the action that is due at a connection, where one is.
@@ -189,27 +252,100 @@ impl<P: Parts> Daemon<P> {
         number: u64,
         conn: &mut Conn,
     ) -> Result<Event, NoMemory>
-        requires rests { Rests self.old.state.config conn.old.phase }
+        requires rests { Rests self.old.state.config conn.old.phase conn.old.waiting }
         requires free { self.old.free + 1 < 2 ^ 64 }
         ensures serves { IfOk result (λ event. ServesEvent number event self.old self.new conn.old conn.new) }
-        ensures rests { IfOk result (λ _. Rests self.old.state.config conn.new.phase) }
+        ensures rests { IfOk result (λ _. Rests self.old.state.config conn.new.phase conn.new.waiting) }
         ensures free { IfOk result (λ _. self.new.free ≤ self.old.free + 1) }
     {
         let moment = self.now();
         let at = conn.at();
-        let since = conn.outcome();
-        match conn.serve(alloc, &mut self.owned, self.free)? {
+        let last = conn.last();
+        match conn.serve(alloc, &mut self.owned, &mut self.stats, self.free)? {
             None => Ok(self.event(What::Idle)),
             Some(what) => {
-                let counted = self.count(alloc, since, moment, &what);
+                let kept = self.keep(alloc, last, moment, &what);
                 let owner = Owner::Request(number, at);
                 let event = Event {
                     moment,
                     owner,
                     what,
                 };
-                if_counted(counted, event)
+                if_kept(kept, event)
             }
         }
+    }
+
+    /// Writes at a remote level what a handed write says.
+    fn write(&mut self, alloc: Global, handed: Handed) -> Result<What, NoMemory>
+        requires { handed.level < length self.old.state.config.levels }
+        ensures writes { IfOk result (λ what. WritesHanded handed what self.old self.new) }
+    {
+        let Handed {
+            level,
+            key,
+            bytes,
+            marked,
+        } = handed;
+        let put = Bytes {
+            key,
+            bytes,
+            run: marked,
+        };
+        let written = self.owned.write(alloc, level, &put)?;
+        let Bytes { key, bytes, run } = put;
+        Ok(What::Wrote(level, key, bytes, Mode::Whole, run, written))
+    }
+
+    /// Does the next event of the handed write at this place among those that are left, where there is one.
+    pub(crate) fn back(&mut self, alloc: Global, place: u64) -> Result<Event, NoMemory>
+        requires pending { ArePending (length self.old.state.config.levels) self.old.background }
+        ensures backs { IfOk result (λ event. BacksEvent place event self.old self.new) }
+    {
+        if place >= self.background.len() as u64 {
+            return Ok(self.event(What::Idle));
+        }
+        let Some(pending) = self.background.take(place as usize) else {
+            return Ok(self.event(What::Idle));
+        };
+        self.done(alloc, pending)
+    }
+
+    /// Does a handed write that was taken out, and counts it.
+    fn done(&mut self, alloc: Global, pending: Pending) -> Result<Event, NoMemory>
+        requires { IsPending (length self.old.state.config.levels) pending }
+        ensures { IfOk result (λ event. DoesPending pending event self.old self.new) }
+    {
+        let moment = self.now();
+        let single = self.owned.is_single();
+        let Pending {
+            number,
+            handed,
+            at,
+            backfill,
+            since,
+            ..
+        } = pending;
+        let origin = if backfill {
+            Origin::Backfill
+        } else {
+            Origin::FromPut(at)
+        };
+        let what = self.write(alloc, handed)?;
+        count_level(
+            alloc,
+            &mut self.levels,
+            single,
+            origin,
+            0,
+            since,
+            moment,
+            &what,
+        );
+        Ok(Event {
+            moment,
+            owner: Owner::Write(number),
+            what,
+        })
     }
 }

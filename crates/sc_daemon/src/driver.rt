@@ -1,5 +1,6 @@
 //! A drive, one step at a time.
 ghost use Rattle.std.specs.Prelude.{◌≡◌, ◌+◌, ◌<◌, ◌^◌, [], true, IfOk, length};
+ghost use Rattle.sc_daemon.specs.Backlogs.{ArePending};
 ghost use Rattle.sc_daemon.specs.Drives.{AreAt, IsScriptOf, Steps, StepsOn, lines_of};
 ghost use Rattle.sc_job.specs.Setups.{setup};
 ghost use Rattle.sc_model.specs.Script.{Script as GivenScript};
@@ -53,6 +54,7 @@ impl Driver {
     ) -> Result<Event, NoMemory>
         requires at { AreAt daemon.now.state.config self.old.conns.items }
         requires inputs { length self.old.conns.items ≡ length inputs.now }
+        requires pending { ArePending (length daemon.now.state.config.levels) daemon.now.background }
         ensures steps { IfOk result (λ event. (s : GivenScript) → IsScriptOf s daemon.now.state.config inputs.now → Steps s (Step.Read number count) event daemon.now daemon.now self.old.conns.items self.new.conns.items) }
         ensures events { self.new.events ≡ self.old.events }
     {
@@ -78,6 +80,7 @@ impl Driver {
         number: u64,
     ) -> Result<Event, NoMemory>
         requires at { AreAt daemon.old.state.config self.old.conns.items }
+        requires pending { ArePending (length daemon.old.state.config.levels) daemon.old.background }
         requires told { daemon.old.state.told ≡ true }
         requires free { daemon.old.free + 1 < 2 ^ 64 }
         ensures steps { IfOk result (λ event. (s : GivenScript) → s.setup ≡ setup daemon.old.state.config → Steps s (Step.Serve number) event daemon.old daemon.new self.old.conns.items self.new.conns.items) }
@@ -99,6 +102,7 @@ impl Driver {
     ) -> Result<Event, NoMemory>
         requires at { AreAt daemon.old.state.config self.old.conns.items }
         requires inputs { length self.old.conns.items ≡ length inputs.now }
+        requires pending { ArePending (length daemon.old.state.config.levels) daemon.old.background }
         requires told { daemon.old.state.told ≡ true }
         requires free { daemon.old.free + 1 < 2 ^ 64 }
         ensures steps { IfOk result (λ event. (s : GivenScript) → IsScriptOf s daemon.old.state.config inputs.now → Steps s step.now event daemon.old daemon.new self.old.conns.items self.new.conns.items) }
@@ -107,7 +111,7 @@ impl Driver {
         match step {
             Step::Read(number, count) => self.read(alloc, daemon, inputs, *number, *count),
             Step::Serve(number) => self.serve(alloc, daemon, *number),
-            Step::Back(_) => Ok(daemon.idle()),
+            Step::Back(place) => daemon.back(alloc, *place),
             Step::Pass(nanoseconds) => Ok(daemon.pass(*nanoseconds)),
         }
     }
@@ -122,6 +126,7 @@ impl Driver {
     ) -> Result<(), NoMemory>
         requires at { AreAt daemon.old.state.config self.old.conns.items }
         requires inputs { length self.old.conns.items ≡ length inputs.now }
+        requires pending { ArePending (length daemon.old.state.config.levels) daemon.old.background }
         requires told { daemon.old.state.told ≡ true }
         requires free { daemon.old.free + 1 < 2 ^ 64 }
         ensures steps { IfOk result (λ _. StepsOn daemon.old.state.config inputs.now step.now self.old.events.items self.new.events.items daemon.old daemon.new self.old.conns.items self.new.conns.items) }

@@ -1,16 +1,17 @@
 //! Drives of any steps over any bytes on any connections.
 ghost use Rattle.std.specs.Prelude.{◌≡◌, [], true, Ok, IfOk, map, reverse};
 ghost use Rattle.sc_conn.specs.Ends.{end_of};
-ghost use Rattle.sc_daemon.specs.Daemons.{script_of};
+ghost use Rattle.sc_daemon.specs.Daemons.{IsIdleDaemon, anew, script_of};
 ghost use Rattle.sc_daemon.specs.Drives.{Progress, line_end, result_of};
 ghost use Rattle.sc_model.specs.Headline.{Headline};
 
+use crate::backlog::Backlog;
 use crate::conn::Conn;
 use crate::daemon::Daemon;
 use crate::driven::{Driven, DrivenConn};
 use crate::driver::Driver;
 use sc_entry::{ByteText, Items, NoMemory};
-use sc_model::{Event, Step, every_run};
+use sc_model::{Event, Handed, Step, every_run};
 use sc_owned::Parts;
 use std::alloc::Global;
 
@@ -37,17 +38,30 @@ fn driven_conns(alloc: Global, conns: Vec<Conn>) -> Result<Items<DrivenConn>, No
     Ok(driven)
 }
 
-/// What a drive came to. So far no write is handed on.
-fn finish(alloc: Global, driver: Driver) -> Result<Driven, NoMemory>
+/// The writes that are left, in order.
+fn writes_left(alloc: Global, background: &Backlog) -> Result<Items<Handed>, NoMemory>
+    ensures { IfOk result (λ left. left ≡ map (λ p. p.handed) background.now) }
+{
+    let mut left = Items::new(alloc);
+    for place in 0..background.len() {
+        if let Some(pending) = background.get(place) {
+            left.push(pending.handed.clone()?)?;
+        }
+    }
+    Ok(left)
+}
+
+/// What a drive came to, beside the writes that are left.
+fn finish(alloc: Global, driver: Driver, background: Items<Handed>) -> Result<Driven, NoMemory>
     ensures trace { IfOk result (λ driven. driven.trace ≡ driver.events.items) }
     ensures ends { IfOk result (λ driven. map (λ c. end_of c.end) driven.conns ≡ map line_end driver.conns.items) }
     ensures sent { IfOk result (λ driven. map (λ c. c.sent) driven.conns ≡ map (λ l. l.out) driver.conns.items) }
-    ensures background { IfOk result (λ driven. driven.background ≡ []) }
+    ensures background { IfOk result (λ driven. driven.background ≡ background) }
 {
     let Driver { conns, events } = driver;
     let trace = Items::from_vec(events);
     let conns = driven_conns(alloc, conns);
-    if_driven(alloc, trace, conns)
+    if_driven(trace, conns, background)
 }
 
 /// Drops a trace in a call of its own: dropped at the end of a branch it takes the check minutes.
@@ -56,22 +70,47 @@ fn discard(trace: Items<Event>) {
 }
 
 fn if_driven(
-    alloc: Global,
     trace: Items<Event>,
     conns: Result<Items<DrivenConn>, NoMemory>,
+    background: Items<Handed>,
 ) -> Result<Driven, NoMemory>
     ensures trace { IfOk result (λ driven. driven.trace ≡ trace) }
     ensures conns { IfOk result (λ driven. conns ≡ Ok driven.conns) }
-    ensures background { IfOk result (λ driven. driven.background ≡ []) }
+    ensures background { IfOk result (λ driven. driven.background ≡ background) }
 {
     match conns {
         Ok(conns) => Ok(Driven {
             trace,
             conns,
-            background: Items::new(alloc),
+            background,
         }),
         Err(refused) => {
             discard(trace);
+            Err(refused)
+        }
+    }
+}
+
+/// Drops a drive in a call of its own: dropped at the end of a branch it takes the check minutes.
+fn discard_driver(driver: Driver) {
+    drop(driver);
+}
+
+/// What a drive came to, once the writes that are left are listed.
+fn if_left(
+    alloc: Global,
+    driver: Driver,
+    background: Result<Items<Handed>, NoMemory>,
+) -> Result<Driven, NoMemory>
+    ensures trace { IfOk result (λ driven. driven.trace ≡ driver.events.items) }
+    ensures ends { IfOk result (λ driven. map (λ c. end_of c.end) driven.conns ≡ map line_end driver.conns.items) }
+    ensures sent { IfOk result (λ driven. map (λ c. c.sent) driven.conns ≡ map (λ l. l.out) driver.conns.items) }
+    ensures background { IfOk result (λ driven. background ≡ Ok driven.background) }
+{
+    match background {
+        Ok(background) => finish(alloc, driver, background),
+        Err(refused) => {
+            discard_driver(driver);
             Err(refused)
         }
     }
@@ -84,11 +123,12 @@ fn all_steps<P: Parts>(
     inputs: &[ByteText],
     steps: &[Step],
 ) -> Result<Driver, NoMemory>
-    requires idle { daemon.old.free ≡ daemon.old.state.config.tokens }
+    requires idle { IsIdleDaemon daemon.old }
     requires told { daemon.old.state.told ≡ true }
-    ensures { IfOk result (λ driver. Progress daemon.old daemon.new inputs.now steps.now [] driver.events.items driver.conns.items) }
+    ensures { IfOk result (λ driver. Progress (anew daemon.old) daemon.new inputs.now steps.now [] driver.events.items driver.conns.items) }
 {
     every_run();
+    daemon.number_anew();
     let mut driver = Driver::new(alloc, inputs.len(), daemon.limit())?;
     for step in steps {
         driver.step(alloc, daemon, inputs, step)?;
@@ -104,11 +144,12 @@ pub fn drive<P: Parts>(
     inputs: &[ByteText],
     steps: &[Step],
 ) -> Result<Driven, NoMemory>
-    requires idle { daemon.old.free ≡ daemon.old.state.config.tokens }
+    requires idle { IsIdleDaemon daemon.old }
     requires told { daemon.old.state.told ≡ true }
     ensures headline { IfOk result (λ driven. Headline (script_of daemon.old inputs.now) daemon.old.state.world (reverse steps.now) (reverse driven.trace) daemon.new.state.world (result_of daemon.new driven)) }
 {
     every_run();
     let driver = all_steps(alloc, daemon, inputs, steps)?;
-    finish(alloc, driver)
+    let background = writes_left(alloc, daemon.background());
+    if_left(alloc, driver, background)
 }

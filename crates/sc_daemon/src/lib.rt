@@ -1,6 +1,7 @@
 //! A daemon over levels, a workshop and a probe, and drives of any steps over any bytes on any connections.
 #![tactic(auto)]
 
+mod backlog;
 mod conn;
 mod daemon;
 mod driven;

@@ -1,28 +1,28 @@
 //! The requests of a connection that are whole and not yet over.
-ghost use Rattle.std.specs.Prelude.{◌≡◌, ◌↔◌, ◌+◌, ◌<◌, ◌≤◌, ◌^◌, ◌++◌, [], length, map, drop, option_map, IsTrue, OnOk, OnErr};
+ghost use Rattle.std.specs.Prelude.{◌≡◌, ◌↔◌, ◌+◌, ◌<◌, ◌≤◌, ◌^◌, ◌++◌, [], length, drop, option_map, IsTrue, OnOk, OnErr};
 ghost use Rattle.sc_daemon.specs.Lines.{IsFirst, first_of, listed};
-ghost use Rattle.sc_model.specs.declared.message.Request.TheVariants.{Compile as CompileOf};
+ghost use Rattle.sc_wire.specs.Requests.{AreServed};
 ghost use Rattle.sc_wire.specs.Streams.{served_reader};
 
 use sc_conn::Inbox;
 use sc_entry::{NoMemory, Queue};
-use sc_model::Compile;
+use sc_model::Request;
 use std::alloc::Global;
 use std::marker::Model;
 
-/// The compiles that wait, the one that is served first. Contracts see them as a list.
+/// The requests that wait, the one that is served first. Contracts see them as a list.
 #[derive(Drop)]
 pub struct Waiting {
-    served: Option<Compile>,
-    rest: Queue<Compile>,
+    served: Option<Request>,
+    rest: Queue<Request>,
 }
 
 impl Model for Waiting {
     ghost use Rattle.std.specs.Prelude.{List, ◌++◌};
-    ghost use Rattle.sc_model.specs.declared.message.Compile.{Compile};
+    ghost use Rattle.sc_model.specs.declared.message.Request.{Request};
     ghost use Rattle.sc_daemon.specs.Lines.{IsFirst, listed};
 
-    ghost Value = { List Compile };
+    ghost Value = { List Request };
 
     ghost view = { λ w. listed w.served ++ w.rest };
 
@@ -30,7 +30,7 @@ impl Model for Waiting {
 }
 
 /// Takes the first of those that wait, where none is served.
-fn go_on(served: &mut Option<Compile>, rest: &mut Queue<Compile>)
+fn go_on(served: &mut Option<Request>, rest: &mut Queue<Request>)
     ensures same { listed served.new ++ rest.new ≡ listed served.old ++ rest.old }
     ensures first { IsFirst served.new rest.new }
 {
@@ -55,27 +55,29 @@ impl Waiting {
         self.served.is_none()
     }
 
-    /// The compile that is served.
-    pub fn first(&self) -> Option<&Compile>
+    /// The request that is served.
+    pub fn first(&self) -> Option<&Request>
         ensures { option_map (λ c. c.now) result ≡ first_of self.now }
     {
         self.served.as_ref()
     }
 
-    /// The compile that is served makes way for the next.
+    /// The request that is served makes way for the next.
     pub fn pop(&mut self)
         ensures { self.new ≡ drop 1 self.old }
     {
         self.served = self.rest.pop_front();
     }
 
-    /// Takes a piece of the connection's stream, and the compiles that are whole by then.
+    /// Takes a piece of the connection's stream, and the requests that are whole by then.
+    #[tactic(auto, using(crate::proofs::Firsts::take_served))]
     pub fn take(&mut self, alloc: Global, inbox: &mut Inbox, piece: &[u8]) -> Result<(), NoMemory>
         requires { inbox.old.got + length piece.now < 2 ^ 64 }
-        ensures requests { OnOk result (map CompileOf self.new ≡ map CompileOf self.old ++ (served_reader inbox.old.limit).requests (inbox.old.rest ++ piece.now)) }
+        ensures requests { OnOk result (self.new ≡ self.old ++ (served_reader inbox.old.limit).requests (inbox.old.rest ++ piece.now)) }
         ensures rest { OnOk result (inbox.new.rest ≡ (served_reader inbox.old.limit).rest (inbox.old.rest ++ piece.now)) }
         ensures got { OnOk result (inbox.new.got ≡ inbox.old.got + length piece.now) }
         ensures room { OnOk result (length self.new + length inbox.new.rest ≤ length self.old + length inbox.old.rest + length piece.now) }
+        ensures served { OnOk result (AreServed self.old → AreServed self.new) }
         ensures closed { OnOk result (inbox.new.closed ≡ inbox.old.closed) }
         ensures limit { OnOk result (inbox.new.limit ≡ inbox.old.limit) }
         ensures err { OnErr result (inbox.new ≡ record inbox.old { rest = [] }) }

@@ -1,14 +1,14 @@
 -- Events that move nothing but the request itself.
 use Rattle.sc_model.specs.declared.event.Told.{Told}
-use Rattle.sc_model.specs.declared.event.Told.TheVariants.{Compile as TellsCompile}
+use Rattle.sc_model.specs.declared.event.Told.TheVariants.{Dist as TellsDist}
 use Rattle.sc_model.specs.declared.event.Verdict.{Verdict}
 use Rattle.sc_model.specs.declared.event.Verdict.TheVariants.{Http}
 use Rattle.sc_model.specs.declared.event.What.{What}
 use Rattle.sc_model.specs.declared.event.What.TheVariants.{Began, Outcome, Sent, TokenTaken, TooLong, WriteEnded}
 
 abbrev pub IsQuietTold : Told → Type 0
-IsQuietTold (TellsCompile p) = Unit {0}
-IsQuietTold _ = ⊥
+IsQuietTold (TellsDist info) = ⊥
+IsQuietTold _ = Unit {0}
 
 abbrev pub IsQuietVerdict : Verdict → Type 0
 IsQuietVerdict Http = ⊥

@@ -1,18 +1,19 @@
 ghost use Rattle.std.specs.Prelude.{◌≡◌, ◌≢◌, ◌<◌, ℕ, Bool, false, length, IfOk, List};
 ghost use Rattle.sc_compile.specs.Tools.{reading};
+ghost use Rattle.sc_model.specs.There.{AreLevels};
 ghost use Rattle.sc_hold.specs.Quiet.{IsQuiet};
 ghost use Rattle.sc_entry.specs.Causes.{IfTold};
 ghost use Rattle.sc_job.specs.Setups.{Config, setup};
 ghost use Rattle.sc_model.specs.Collected.{GoodAnswer};
 ghost use Rattle.sc_model.specs.Follows.{kind_at};
 ghost use Rattle.sc_model.specs.Plan.{backfills, handed_by, plan, put_answer};
+ghost use Rattle.sc_model.specs.Script.{is_single};
 ghost use Rattle.sc_model.specs.World.{Need, keys_of};
 ghost use Rattle.sc_model.specs.declared.event.KeyStep.TheVariants.{Key};
 ghost use Rattle.sc_model.specs.declared.event.What.{What};
 ghost use Rattle.sc_model.specs.declared.event.What.TheVariants.{Asked as AskedEvent, Keyed, Placed, Ran, Wrote};
 ghost use Rattle.sc_model.specs.declared.event.Mode.TheVariants.{Path, Whole};
 ghost use Rattle.sc_model.specs.declared.level.LevelKind.TheVariants.{Remote};
-ghost use Rattle.sc_model.specs.declared.level.Policy.TheVariants.{Single};
 ghost use Rattle.sc_model.specs.declared.message.Request.TheVariants.{Compile as CompileOf};
 
 use sc_entry::{ByteText, FileObjectSource, Items, NoMemory, Queue, Text};
@@ -56,6 +57,10 @@ pub trait Hold {
 
     fn level_count(&self) -> u64
         ensures { result ≡ length (config self.now).levels };
+
+    /// Whether one store stands alone, and is written by itself.
+    fn is_single(&self) -> bool
+        ensures { result ≡ is_single (config self.now).policy };
 
     /// The levels that are written before an answer.
     fn plan(&self, alloc: Global) -> Result<Queue<u64>, NoMemory>
@@ -115,11 +120,8 @@ pub trait Hold {
     /// So far every level is a remote store.
     ghost remote: { (hold : Self) (level : ℕ) → kind_at (config hold).levels level ≡ Remote };
 
-    /// So far there is one store alone.
-    ghost single: { (hold : Self) → (config hold).policy ≡ Single };
-
-    /// Some level is there.
-    ghost some_level: { (hold : Self) → 0 < length (config hold).levels };
+    /// The levels that a write goes to are there.
+    ghost planned: { (hold : Self) → AreLevels (length (config hold).levels) (plan (config hold).policy (config hold).levels) };
 
     ghost quiet: { (hold : Self) (n : Need) (what : What) → IsQuiet what → moves hold n what hold };
 }

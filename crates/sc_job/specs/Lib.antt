@@ -1,3 +1,4 @@
 pub mod Judgements
 pub mod Languages
+pub mod LevelRows
 pub mod Setups

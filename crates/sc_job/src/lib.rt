@@ -3,6 +3,7 @@
 #![tactic(auto)]
 
 mod finish;
+mod level_rows;
 mod notes;
 mod rows;
 mod stored;
@@ -11,6 +12,7 @@ mod tests;
 mod verdict;
 
 pub use finish::{fatal_text, finish_fatal, finish_hit, finish_output};
+pub use level_rows::{Origin, count_level, level_row};
 pub use notes::run_notes;
 pub use rows::{count_event, row_of};
 pub use stored::entry_of;

@@ -1,4 +1,4 @@
-//! What an event of a compile counts.
+//! What an event of a request counts.
 ghost use Rattle.std.specs.Prelude.{◌≡◌, ◌&&◌, ◌++◌, not, codes, bytes_eq, IfOk};
 ghost use Rattle.sc_model.specs.Rows.{began_row, count, missed_row, parsed_row, reason, row, verdict_row, with_dist, written_row, zeroes};
 ghost use Rattle.sc_model.specs.declared.event.Task.{Task};
@@ -107,7 +107,7 @@ fn row_of_parsed(alloc: Global, parsed: &Parsed) -> Result<ServerStats, NoMemory
 }
 
 /// What the beginning of a compile counts.
-fn row_of_began(alloc: Global, told: &Told) -> Result<ServerStats, NoMemory>
+fn row_of_compile(alloc: Global, told: &Told) -> Result<ServerStats, NoMemory>
     ensures { IfOk result (λ r. (c : CompileRequest) → r ≡ began_row (OfCompile c) told.now) }
 {
     match told {
@@ -117,6 +117,32 @@ fn row_of_began(alloc: Global, told: &Told) -> Result<ServerStats, NoMemory>
         Told::Handshake(_) => Ok(ServerStats::new(alloc)),
         Told::Valid(_) => Ok(ServerStats::new(alloc)),
         Told::Nothing => Ok(ServerStats::new(alloc)),
+    }
+}
+
+/// What the beginning of a request counts.
+fn row_of_began(alloc: Global, request: &Request, told: &Told) -> Result<ServerStats, NoMemory>
+    ensures { IfOk result (λ r. r ≡ began_row request.now told.now) }
+{
+    match request {
+        Request::Compile(_) => {
+            let row = row_of_compile(alloc, told)?;
+            Ok(row)
+        }
+        Request::RecordStats(stats) => {
+            let row = stats.clone()?;
+            Ok(row)
+        }
+        Request::ZeroStats => Ok(ServerStats::new(alloc)),
+        Request::GetStats => Ok(ServerStats::new(alloc)),
+        Request::DistStatus => Ok(ServerStats::new(alloc)),
+        Request::Shutdown => Ok(ServerStats::new(alloc)),
+        Request::StorageHandshake => Ok(ServerStats::new(alloc)),
+        Request::StorageGetPath(_) => Ok(ServerStats::new(alloc)),
+        Request::StorageGetRaw(_) => Ok(ServerStats::new(alloc)),
+        Request::StoragePutRaw(_, _) => Ok(ServerStats::new(alloc)),
+        Request::StorageGetPreprocessorEntry(_) => Ok(ServerStats::new(alloc)),
+        Request::StoragePutPreprocessorEntry(_, _) => Ok(ServerStats::new(alloc)),
     }
 }
 
@@ -270,7 +296,7 @@ fn row_of_write_error(alloc: Global) -> ServerStats
 }
 
 /// What the end of a compile's write counts.
-fn row_of_write(alloc: Global, duration: u64, put: &Put) -> ServerStats
+fn row_of_compile_write(alloc: Global, duration: u64, put: &Put) -> ServerStats
     ensures { (c : CompileRequest) → result ≡ written_row (OfCompile c) duration put.now }
 {
     match put {
@@ -281,16 +307,45 @@ fn row_of_write(alloc: Global, duration: u64, put: &Put) -> ServerStats
     }
 }
 
-/// What an event of a compile by a plain compiler counts. `moment` is the event's, and `since` that of the request's
-/// outcome, in nanoseconds.
-pub fn row_of(alloc: Global, since: u64, moment: u64, what: &What) -> Result<ServerStats, NoMemory>
-    ensures { IfOk result (λ r. (k : Config) (c : CompileRequest) → r ≡ row (setup k) (OfCompile c) since moment what.now) }
+/// What the end of a write counts: one that no compile made counts nothing.
+fn row_of_write(alloc: Global, request: &Request, duration: u64, put: &Put) -> ServerStats
+    ensures { result ≡ written_row request.now duration put.now }
+{
+    match request {
+        Request::Compile(_) => row_of_compile_write(alloc, duration, put),
+        Request::ZeroStats => ServerStats::new(alloc),
+        Request::GetStats => ServerStats::new(alloc),
+        Request::DistStatus => ServerStats::new(alloc),
+        Request::Shutdown => ServerStats::new(alloc),
+        Request::StorageHandshake => ServerStats::new(alloc),
+        Request::StorageGetPath(_) => ServerStats::new(alloc),
+        Request::StorageGetRaw(_) => ServerStats::new(alloc),
+        Request::StoragePutRaw(_, _) => ServerStats::new(alloc),
+        Request::StorageGetPreprocessorEntry(_) => ServerStats::new(alloc),
+        Request::StoragePutPreprocessorEntry(_, _) => ServerStats::new(alloc),
+        Request::RecordStats(_) => ServerStats::new(alloc),
+    }
+}
+
+/// What an event of a request to a daemon of plain compilers counts. `moment` is the event's, and `since` that of the
+/// request's outcome, in nanoseconds.
+pub fn row_of(
+    alloc: Global,
+    request: &Request,
+    since: u64,
+    moment: u64,
+    what: &What,
+) -> Result<ServerStats, NoMemory>
+    ensures { IfOk result (λ r. (k : Config) → r ≡ row (setup k) request.now since moment what.now) }
 {
     match what {
-        What::Began(_, told) => row_of_began(alloc, told),
+        What::Began(_, told) => row_of_began(alloc, request, told),
         What::Keyed(true, _, _) => Ok(row_of_keyed(alloc)),
         What::Outcome(verdict, _) => row_of_verdict(alloc, verdict),
-        What::WriteEnded(put, _) => Ok(row_of_write(alloc, moment.saturating_sub(since), put)),
+        What::WriteEnded(put, _) => {
+            let duration = moment.saturating_sub(since);
+            Ok(row_of_write(alloc, request, duration, put))
+        }
         _ => Ok(ServerStats::new(alloc)),
     }
 }
@@ -305,20 +360,22 @@ fn starts_anew(what: &What) -> bool
     }
 }
 
-/// Adds what an event of a compile by a plain compiler counts; all counts start anew where a request for that began.
+/// Adds what an event of a request to a daemon of plain compilers counts; all counts start anew where a request for that
+/// began.
 pub fn count_event(
     alloc: Global,
     stats: &mut ServerStats,
+    request: &Request,
     since: u64,
     moment: u64,
     what: &What,
 ) -> Result<(), NoMemory>
-    ensures { IfOk result (λ _. (k : Config) (c : CompileRequest) → stats.new ≡ count (zeroes what.now) stats.old (row (setup k) (OfCompile c) since moment what.now)) }
+    ensures { IfOk result (λ _. (k : Config) → stats.new ≡ count (zeroes what.now) stats.old (row (setup k) request.now since moment what.now)) }
 {
     if starts_anew(what) {
         *stats = ServerStats::new(alloc);
         return Ok(());
     }
-    let row = row_of(alloc, since, moment, what)?;
+    let row = row_of(alloc, request, since, moment, what)?;
     stats.add_assign(&row)
 }

@@ -2,10 +2,11 @@
 use crate::{count_event, entry_of, finish_fatal, finish_hit, finish_output, row_of, run_notes};
 use sc_entry::{ByteText, Items, Text};
 use sc_model::{
-    CCompilerKind, ColorMode, CompilerKind, Language, Output, Parsed, Put, Request, Status, Task,
-    Told, Verdict, What,
+    CCompilerKind, ColorMode, Compile, CompilerKind, Language, Output, Parsed, Put, Request,
+    Status, Task, Told, Verdict, What,
 };
 use sc_stats::ServerStats;
+use std::alloc::Global;
 use std::test::Fail;
 
 #[test]
@@ -58,12 +59,28 @@ fn ample_run_notes(rt: HostRuntime) -> Result<(), Fail> {
     Ok(())
 }
 
+fn compile(alloc: Global) -> Request {
+    Request::Compile(Compile {
+        exe: ByteText::new(alloc),
+        cwd: ByteText::new(alloc),
+        args: Items::new(alloc),
+        env_vars: Items::new(alloc),
+    })
+}
+
 #[test]
 fn ample_row_of(rt: HostRuntime) -> Result<(), Fail> {
     let why = Text::from_str(rt.alloc(), "crate-type")?;
     let extra = Text::from_str(rt.alloc(), "dylib")?;
     let told = Told::Compile(Parsed::CannotCache(why, Some(extra)));
-    let row = row_of(rt.alloc(), 0, 1, &What::Began(Request::GetStats, told))?;
+    let request = compile(rt.alloc());
+    let row = row_of(
+        rt.alloc(),
+        &request,
+        0,
+        1,
+        &What::Began(Request::GetStats, told),
+    )?;
     let reason = Text::from_str(rt.alloc(), "crate-type (dylib)")?;
     assert_eq!(rt; row.compile_requests, 1);
     assert_eq!(rt; row.requests_not_cacheable, 1);
@@ -82,8 +99,9 @@ fn ample_count_event(rt: HostRuntime) -> Result<(), Fail> {
     let written = What::WriteEnded(Put::Done, Items::new(rt.alloc()));
     let hit = What::Outcome(Verdict::CacheHit(5), task);
     let mut stats = ServerStats::new(rt.alloc());
-    count_event(rt.alloc(), &mut stats, 0, 7, &hit)?;
-    count_event(rt.alloc(), &mut stats, 7, 9, &written)?;
+    let request = compile(rt.alloc());
+    count_event(rt.alloc(), &mut stats, &request, 0, 7, &hit)?;
+    count_event(rt.alloc(), &mut stats, &request, 7, 9, &written)?;
     assert_eq!(rt; stats.cache_hits.get(&kind), Some(1));
     assert_eq!(rt; stats.cache_hits.get_adv(&full), Some(1));
     assert_eq!(rt; stats.cache_read_hit_duration.nanoseconds(), 5);

@@ -12,4 +12,5 @@ pub mod Headline
 pub mod Stream
 pub mod Machine
 pub mod Collected
+pub mod There
 pub mod Devices

@@ -1,5 +1,5 @@
 -- Which levels are written, and what a refusal means.
-use Rattle.std.specs.Prelude.{ℕ, zero, suc, ◌+◌, Bool, true, false, ◌&&◌, not, if◌then◌else◌, List, [], ◌∷◌, ◌++◌, take, slice_index_or, Ok, Err, codes, Result, nat_lt}
+use Rattle.std.specs.Prelude.{ℕ, zero, suc, Bool, true, false, ◌&&◌, not, if◌then◌else◌, List, [], ◌∷◌, ◌++◌, take, slice_index_or, Ok, Err, codes, Result, decimal}
 use Rattle.sc_model.specs.declared.event.Answer.{Answer}
 use Rattle.sc_model.specs.declared.event.Answer.TheVariants.{Hit}
 use Rattle.sc_model.specs.declared.event.Mode.{Mode}
@@ -141,15 +141,11 @@ cause_text (ForReading RemoteStore) = codes "storage is read-only"
 cause_text (ForReading WrapperStore) = codes "Cannot write to read-only storage"
 cause_text (RemoteRefused k) = codes "remote fault: " ++ remote_text k
 
--- a number in decimal, for levels 0 to 15
-abbrev pub level_text : ℕ → List ℕ
-level_text n = if nat_lt n 10 then (48 + n) ∷ [] else 49 ∷ (38 + n) ∷ []
-
 -- a put's reply, Ok or the text of its refusal
 abbrev pub put_result : Put → Result Unit (List ℕ)
 put_result PutDone = Ok tt
 put_result (PutRefused c) = Err (cause_text c)
-put_result (PutLevel n c) = Err (codes "Failed to write to cache level " ++ level_text n ++ codes ": " ++ cause_text c)
+put_result (PutLevel n c) = Err (codes "Failed to write to cache level " ++ decimal n ++ codes ": " ++ cause_text c)
 put_result NoLevels = Err (codes "No cache levels configured")
 
 -- a preprocessor put: a single store's refusal is told, those of levels are ignored

@@ -18,7 +18,7 @@ use Rattle.sc_model.specs.declared.event.RunAnswer.{RunAnswer}
 use Rattle.sc_model.specs.declared.level.Container.{Container}
 use Rattle.sc_model.specs.declared.level.LevelFacts.{LevelFacts}
 use Rattle.sc_model.specs.declared.level.Policy.{Policy}
-use Rattle.sc_owned.specs.State.{State, is_one_remote, is_within}
+use Rattle.sc_owned.specs.State.{State, is_good, is_within}
 use Rattle.sc_store.specs.Held.{level_code}
 use base.Stored.{coded_via}
 use mathlib.Core.HLevel.{Σ_prop_path}
@@ -49,7 +49,7 @@ world_code = code_by (ℕ × (List Level × (Option (List (List ℕ × RunAnswer
 -- states that are made of the same and hold the same are one
 pub same_state : (a b : State) → ◌≡◌ {A = Config × (Bool × World)} (a.config, (a.told, a.world)) (b.config, (b.told, b.world)) → a ≡ b
 same_state a b same =
-    let configs : ◌≡◌ {A = (c : Config) × ((is_one_remote c.policy c.levels && is_within c.tokens c.limit) ≡ true)} (a.config, a.one) (b.config, b.one) = Σ_prop_path (λ c. Coded-set coded_bool _ _) (ap (λ p. p.0) same) in
+    let configs : ◌≡◌ {A = (c : Config) × ((is_good c.policy c.levels && is_within c.tokens c.limit) ≡ true)} (a.config, a.one) (b.config, b.one) = Σ_prop_path (λ c. Coded-set coded_bool _ _) (ap (λ p. p.0) same) in
     λ i. record { config = (configs i).0; told = (same i).1.0; world = (same i).1.1; one = (configs i).1 }
 
 abbrev pub state_code : Coded State

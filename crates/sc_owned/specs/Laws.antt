@@ -1,8 +1,12 @@
 -- What holds of every state.
 use Rattle.std.specs.Prelude.{◌≡◌, ℕ, zero, suc, ◌<◌, Bool, ◌&&◌, true, false, T, List, [], ◌∷◌, length, refl}
-use Rattle.std.proofs.Common.{sym, subst, lit<}
+use Rattle.std.proofs.Common.{arith, sym, subst}
+use Rattle.sc_model.specs.There.{AreLevels}
 use Rattle.sc_hold.specs.Quiet.{IsQuiet}
 use Rattle.sc_model.specs.Follows.{kind_at}
+use Rattle.sc_model.proofs.There.{levels_there}
+use Rattle.sc_model.specs.Plan.{is_required, plan}
+use Rattle.sc_model.specs.Script.{is_single}
 use Rattle.sc_model.specs.World.{Need}
 use Rattle.sc_model.specs.declared.event.Told.TheVariants.{Compile as TellsCompile, Dist as TellsDist, Handshake as TellsHandshake, Nothing as TellsNothing, Stats as TellsStats, Valid as TellsValid}
 use Rattle.sc_model.specs.declared.event.Verdict.TheVariants.{CacheHit, CacheMiss, CompileFailed, Error, Fault, Http, NotCacheable, NotCached, ProcessError}
@@ -14,7 +18,7 @@ use Rattle.sc_model.specs.declared.level.LevelKind.TheVariants.{Disk, Remote}
 use Rattle.sc_model.specs.declared.level.Policy.{Policy}
 use Rattle.sc_model.specs.declared.level.Policy.TheVariants.{Levels, Single}
 use Rattle.sc_owned.specs.Moving.{OwnedMoves}
-use Rattle.sc_owned.specs.State.{State, is_lone_remote, is_one_remote, is_remote, is_within}
+use Rattle.sc_owned.specs.State.{State, are_remote, is_count, is_good, is_one, is_remote, is_within}
 
 pub never : false ≡ true → ⊥
 never e = subst T (sym e) tt
@@ -22,30 +26,6 @@ never e = subst T (sym e) tt
 remote_kind : (kind : LevelKind) → is_remote kind ≡ true → kind ≡ Remote
 remote_kind Disk e = absurd (never e)
 remote_kind Remote e = refl
-
-lone_kind : (fs : List LevelFacts) (l : ℕ) → is_lone_remote fs ≡ true → kind_at fs l ≡ Remote
-lone_kind [] l e = absurd (never e)
-lone_kind (f ∷ []) zero e = remote_kind f.kind e
-lone_kind (f ∷ []) (suc l) e = refl
-lone_kind (f ∷ g ∷ fs) l e = absurd (never e)
-
-lone_of : (policy : Policy) (fs : List LevelFacts) → is_one_remote policy fs ≡ true → is_lone_remote fs ≡ true
-lone_of Single fs e = e
-lone_of (Levels ps) fs e = absurd (never e)
-
-single_of : (policy : Policy) (fs : List LevelFacts) → is_one_remote policy fs ≡ true → policy ≡ Single
-single_of Single fs e = refl
-single_of (Levels ps) fs e = absurd (never e)
-
-lone_count : (fs : List LevelFacts) → is_lone_remote fs ≡ true → 0 < length fs
-lone_count [] e = absurd (never e)
-lone_count (f ∷ []) e = lit< tt
-lone_count (f ∷ g ∷ fs) e = absurd (never e)
-
-lone_length : (fs : List LevelFacts) → is_lone_remote fs ≡ true → length fs ≡ 1
-lone_length [] e = absurd (never e)
-lone_length (f ∷ []) e = refl
-lone_length (f ∷ g ∷ fs) e = absurd (never e)
 
 left_true : (a b : Bool) → (a && b) ≡ true → a ≡ true
 left_true true b e = refl
@@ -55,37 +35,51 @@ right_true : (a b : Bool) → (a && b) ≡ true → b ≡ true
 right_true true b e = e
 right_true false b e = absurd (never e)
 
-one_of : (o : State) → is_one_remote o.config.policy o.config.levels ≡ true
-one_of o = left_true (is_one_remote o.config.policy o.config.levels) (is_within o.config.tokens o.config.limit) o.one
+remote_kinds : (fs : List LevelFacts) (l : ℕ) → are_remote fs ≡ true → kind_at fs l ≡ Remote
+remote_kinds [] l e = refl
+remote_kinds (f ∷ fs) zero e = remote_kind f.kind (left_true (is_remote f.kind) (are_remote fs) e)
+remote_kinds (f ∷ fs) (suc l) e = remote_kinds fs l (right_true (is_remote f.kind) (are_remote fs) e)
+
+only_one : (n : ℕ) → is_one n ≡ true → n ≡ 1
+only_one zero e = absurd (never e)
+only_one (suc zero) e = refl
+only_one (suc (suc n)) e = absurd (never e)
+
+one_count : (policy : Policy) (n : ℕ) → is_count policy n ≡ true → is_single policy ≡ true → n ≡ 1
+one_count Single n e is = only_one n e
+one_count (Levels ps) n e is = absurd (never is)
+
+good_of : (o : State) → is_good o.config.policy o.config.levels ≡ true
+good_of o = left_true (is_good o.config.policy o.config.levels) (is_within o.config.tokens o.config.limit) o.one
 
 -- its tokens and its limit are within the limits
 pub within_limits : (o : State) → is_within o.config.tokens o.config.limit ≡ true
-within_limits o = right_true (is_one_remote o.config.policy o.config.levels) (is_within o.config.tokens o.config.limit) o.one
+within_limits o = right_true (is_good o.config.policy o.config.levels) (is_within o.config.tokens o.config.limit) o.one
 
 -- every level is a remote store
 pub remote_levels : (o : State) (l : ℕ) → kind_at o.config.levels l ≡ Remote
-remote_levels o l = lone_kind o.config.levels l (lone_of o.config.policy o.config.levels (one_of o))
+remote_levels o l = remote_kinds o.config.levels l (left_true (are_remote o.config.levels) (is_count o.config.policy (length o.config.levels)) (good_of o))
 
--- there is one store alone
-pub single_store : (o : State) → o.config.policy ≡ Single
-single_store o = single_of o.config.policy o.config.levels (one_of o)
+-- a store that stands alone is one level
+pub one_level : (o : State) → is_single o.config.policy ≡ true → length o.config.levels ≡ 1
+one_level o is = one_count o.config.policy (length o.config.levels) (right_true (are_remote o.config.levels) (is_count o.config.policy (length o.config.levels)) (good_of o)) is
 
--- and one level
-pub lone_level : (o : State) → length o.config.levels ≡ 1
-lone_level o = lone_length o.config.levels (lone_of o.config.policy o.config.levels (one_of o))
+planned_there : (policy : Policy) (fs : List LevelFacts) → is_count policy (length fs) ≡ true → AreLevels (length fs) (plan policy fs)
+planned_there Single fs e = (let one = only_one (length fs) e in omega (arith, one), tt)
+planned_there (Levels ps) fs e = levels_there is_required 0 (length fs) ps fs (omega arith)
 
--- which is there
-pub one_level : (o : State) → 0 < length o.config.levels
-one_level o = lone_count o.config.levels (lone_of o.config.policy o.config.levels (one_of o))
+-- the levels that a write goes to are there
+pub planned_levels : (o : State) → AreLevels (length o.config.levels) (plan o.config.policy o.config.levels)
+planned_levels o = planned_there o.config.policy o.config.levels (right_true (are_remote o.config.levels) (is_count o.config.policy (length o.config.levels)) (good_of o))
 
 -- events that move nothing leave the state as it is
 pub quiet_moves : (o : State) (n : Need) (x : What) → IsQuiet x → OwnedMoves o n x o
 quiet_moves o n (Began q (TellsCompile p)) is = (refl, λ told. refl)
-quiet_moves o n (Began q (TellsStats stats)) is = absurd is
+quiet_moves o n (Began q (TellsStats stats)) is = (refl, λ told. refl)
 quiet_moves o n (Began q (TellsDist info)) is = absurd is
-quiet_moves o n (Began q (TellsHandshake info)) is = absurd is
-quiet_moves o n (Began q (TellsValid v)) is = absurd is
-quiet_moves o n (Began q TellsNothing) is = absurd is
+quiet_moves o n (Began q (TellsHandshake info)) is = (refl, λ told. refl)
+quiet_moves o n (Began q (TellsValid v)) is = (refl, λ told. refl)
+quiet_moves o n (Began q TellsNothing) is = (refl, λ told. refl)
 quiet_moves o n (Outcome Http task) is = absurd is
 quiet_moves o n (Outcome Error task) is = (refl, λ told. refl)
 quiet_moves o n (Outcome (CacheHit d) task) is = (refl, λ told. refl)

@@ -1,5 +1,5 @@
 -- The state of a daemon that one owner holds.
-use Rattle.std.specs.Prelude.{◌≡◌, ℕ, Bool, true, false, ◌&&◌, nat_lt, List, [], ◌∷◌, Option}
+use Rattle.std.specs.Prelude.{◌≡◌, ℕ, zero, suc, Bool, true, false, ◌&&◌, nat_lt, List, [], ◌∷◌, length, Option}
 use Rattle.sc_compile.specs.Answers.{Runs}
 use Rattle.sc_compile.specs.declared.run_line.RunLine.{RunLine}
 use Rattle.sc_compile.specs.declared.tool.Tool.{Tool}
@@ -17,27 +17,34 @@ abbrev pub is_remote : LevelKind → Bool
 is_remote Disk = false
 is_remote Remote = true
 
-abbrev pub is_lone_remote : List LevelFacts → Bool
-is_lone_remote [] = false
-is_lone_remote (f ∷ []) = is_remote f.kind
-is_lone_remote (f ∷ g ∷ fs) = false
+abbrev pub are_remote : List LevelFacts → Bool
+are_remote [] = true
+are_remote (f ∷ fs) = is_remote f.kind && are_remote fs
 
--- a single store, which is a remote one
-abbrev pub is_one_remote : Policy → List LevelFacts → Bool
-is_one_remote Single fs = is_lone_remote fs
-is_one_remote (Levels ps) fs = false
+abbrev pub is_one : ℕ → Bool
+is_one zero = false
+is_one (suc zero) = true
+is_one (suc (suc n)) = false
+
+-- at most sixteen levels, and one where a store stands alone
+abbrev pub is_count : Policy → ℕ → Bool
+is_count Single n = is_one n
+is_count (Levels ps) n = nat_lt n 17
+
+-- the levels that a daemon may have; so far each is a remote store
+abbrev pub is_good : Policy → List LevelFacts → Bool
+is_good policy fs = are_remote fs && is_count policy (length fs)
 
 -- the limits of a daemon: 1 to 65,535 tokens, and payloads of 1 to 16,777,216 bytes
 abbrev pub is_within : ℕ → ℕ → Bool
 is_within tokens limit = (nat_lt 0 tokens && nat_lt tokens 65536) && (nat_lt 0 limit && nat_lt limit 16777217)
 
--- What a daemon is made of, whether its levels tell what they hold, and what its parts hold where they tell it. So far it
--- has one remote store alone.
+-- What a daemon is made of, whether its levels tell what they hold, and what its parts hold where they tell it.
 pub record State : Type 0 where
   pub config : Config
   pub told : Bool
   pub world : World
-  pub one : (is_one_remote config.policy config.levels && is_within config.tokens config.limit) ≡ true
+  pub one : (is_good config.policy config.levels && is_within config.tokens config.limit) ≡ true
 
 -- what a daemon over these levels is made of
 abbrev pub config_of : Held → (tokens limit : ℕ) → Option (List Tool) → Option (List RunLine) → Config

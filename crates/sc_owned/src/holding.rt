@@ -1,8 +1,6 @@
 //! One action of a request, at a daemon of one's own.
-ghost use Rattle.std.specs.Prelude.{◌≡◌, []};
-ghost use Rattle.sc_model.specs.Plan.{put_answer};
+ghost use Rattle.std.specs.Prelude.{◌≡◌};
 ghost use Rattle.sc_owned.specs.Moving.{placing_of};
-ghost use Rattle.sc_model.specs.declared.level.Policy.TheVariants.{Single};
 
 use crate::missing::first_missing;
 use crate::owned::Owned;
@@ -10,11 +8,11 @@ use crate::parts::Parts;
 use sc_compile::{PlainCompiler, Workshop, begin};
 use sc_entry::{ByteText, FileObjectSource, Items, NoMemory, Queue, Text};
 use sc_hold::{Hold, Lookup, PutEnd};
-use sc_model::{Bytes, Compile, KeyFound, Mode, Parsed, Placing, Put, Refusal, RunAnswer, Written};
+use sc_model::{Bytes, Compile, KeyFound, Mode, Parsed, Placing, Refusal, RunAnswer, Written};
 use std::alloc::Global;
 
 impl<P: Parts> Hold for Owned<P> {
-    ghost use Rattle.sc_owned.specs.Laws.{one_level, quiet_moves, remote_levels, single_store};
+    ghost use Rattle.sc_owned.specs.Laws.{planned_levels, quiet_moves, remote_levels};
     ghost use Rattle.sc_owned.specs.Moving.{OwnedMoves};
 
     ghost config = { λ o. o.config };
@@ -25,9 +23,7 @@ impl<P: Parts> Hold for Owned<P> {
 
     ghost remote = { λ o level. remote_levels o level };
 
-    ghost single = { λ o. single_store o };
-
-    ghost some_level = { λ o. one_level o };
+    ghost planned = { λ o. planned_levels o };
 
     ghost quiet = { λ o n what is. quiet_moves o n what is };
 
@@ -44,16 +40,18 @@ impl<P: Parts> Hold for Owned<P> {
     }
 
     fn plan(&self, alloc: Global) -> Result<Queue<u64>, NoMemory> {
-        let mut levels = Queue::new(alloc);
-        levels.push_back(0)?;
+        let levels = self.levels.plan(alloc)?;
         Ok(levels)
     }
 
-    fn put_end(&self, alloc: Global, _bytes: &Bytes, refusal: Refusal) -> Result<PutEnd, NoMemory> {
-        Ok(PutEnd {
-            answer: put_answer(refusal),
-            handed: Items::new(alloc),
-        })
+    fn is_single(&self) -> bool {
+        self.levels.is_single()
+    }
+
+    fn put_end(&self, alloc: Global, bytes: &Bytes, refusal: Refusal) -> Result<PutEnd, NoMemory> {
+        let handed = self.levels.handed(alloc, bytes, refusal)?;
+        let answer = self.levels.put_answer(refusal);
+        Ok(PutEnd { answer, handed })
     }
 
     fn begin(&self, alloc: Global, request: &Compile) -> Result<Parsed, NoMemory> {
@@ -80,10 +78,8 @@ impl<P: Parts> Hold for Owned<P> {
     ) -> Result<Lookup, NoMemory> {
         let _count = self.levels.len();
         let answer = self.levels.ask(alloc, level as usize, key, mode)?;
-        Ok(Lookup {
-            answer,
-            handed: Items::new(alloc),
-        })
+        let handed = self.levels.backfills(alloc, level, key, mode, &answer)?;
+        Ok(Lookup { answer, handed })
     }
 
     fn place(
@@ -119,16 +115,6 @@ impl<P: Parts> Hold for Owned<P> {
             .levels
             .put_step(alloc, level as usize, &bytes.key, &bytes.bytes, bytes.run)?;
         Ok(written)
-    }
-}
-
-/// What a put at a single store comes to.
-fn put_answer(refusal: Refusal) -> Put
-    ensures { result ≡ put_answer Single [] refusal }
-{
-    match refusal {
-        Refusal::NoneYet => Put::Done,
-        Refusal::At(_, cause) => Put::Refused(cause),
     }
 }
 

@@ -1,9 +1,6 @@
-ghost use Rattle.std.specs.Prelude.{◌≡◌, ◌≤◌, ◌&&◌, true, length};
-ghost use Rattle.sc_model.specs.Follows.{kind_at};
+ghost use Rattle.std.specs.Prelude.{◌≡◌, ◌≤◌, ◌&&◌, true};
 ghost use Rattle.sc_model.specs.Next.{at_moment};
-ghost use Rattle.sc_model.specs.declared.level.LevelKind.TheVariants.{Remote};
-ghost use Rattle.sc_model.specs.declared.level.Policy.TheVariants.{Single};
-ghost use Rattle.sc_owned.specs.State.{is_one_remote, is_within, world_of};
+ghost use Rattle.sc_owned.specs.State.{is_good, is_within, world_of};
 ghost use Rattle.sc_stats.specs.Sums.{sat};
 
 use crate::parts::Parts;
@@ -11,7 +8,7 @@ use sc_store::Levels;
 use std::marker::Model;
 
 /// A daemon of one's own. Contracts see what it is made of, whether its levels tell what they hold, and what its parts
-/// hold where they tell it. So far it has one remote store alone.
+/// hold where they tell it. So far each of its levels is a remote store.
 #[derive(Drop)]
 pub struct Owned<P: Parts> {
     pub(crate) levels: Levels<P::Store>,
@@ -20,7 +17,7 @@ pub struct Owned<P: Parts> {
     pub(crate) moment: u64,
     tokens: u64,
     pub(crate) limit: u32,
-    ghost one: { (is_one_remote levels.policy levels.facts && is_within tokens limit) ≡ true },
+    ghost one: { (is_good levels.policy levels.facts && is_within tokens limit) ≡ true },
 }
 
 impl<P: Parts> Model for Owned<P> {
@@ -40,7 +37,7 @@ impl<P: Parts> Model for Owned<P> {
 }
 
 impl<P: Parts> Owned<P> {
-    /// A daemon over one remote store, at moment 0, with so many tokens for runs (1 to 65,535); payloads have at most
+    /// A daemon over these levels, at moment 0, with so many tokens for runs (1 to 65,535); payloads have at most
     /// `limit` bytes (1 to 16,777,216).
     pub fn new(
         levels: Levels<P::Store>,
@@ -49,9 +46,7 @@ impl<P: Parts> Owned<P> {
         tokens: u64,
         limit: u32,
     ) -> Owned<P>
-        requires single { levels.policy ≡ Single }
-        requires alone { length levels.facts ≡ 1 }
-        requires remote { kind_at levels.facts 0 ≡ Remote }
+        requires levels { is_good levels.policy levels.facts ≡ true }
         requires tokens { (1 ≤ tokens) × (tokens ≤ 65535) }
         requires limit { (1 ≤ limit) × (limit ≤ 16777216) }
         ensures levels { result.config.levels ≡ levels.facts }

@@ -2,7 +2,10 @@ use crate::{Owned, Parts};
 use sc_compile::{RunLine, ScriptWorkshop, Tool, ToolKind, ToolTable};
 use sc_entry::{ByteText, CacheMode, FileObjectSource, Items, Object, Text};
 use sc_hold::Hold;
-use sc_model::{Answer, Bytes, CCompilerKind, Compile, CompilerKind, Mode, Objects, Output, Parsed, Placing, Policy, Put, Refusal, RunAnswer, RunOutput, Status, Written};
+use sc_model::{
+    Answer, Bytes, CCompilerKind, Compile, CompilerKind, Mode, Objects, Output, Parsed, Placing,
+    Policy, Put, Refusal, RunAnswer, RunOutput, Status, Written,
+};
 use sc_store::{Level, Levels, MemRemote, RemoteStorage};
 use std::alloc::Global;
 use std::test::Fail;

@@ -60,5 +60,5 @@ later_same v = record { faults = omega arith; losses = omega arith; calls = unma
 pub new_calls : (calls : Counted) (failing : List ℕ) → ((number : ℕ) → fails_at calls number ≡ list_any (eq_by_cmp nat_cmp number) failing) → calls.made ≡ 0 → calls_of calls ≡ calls_failing failing
 new_calls calls failing fails made =
     let same : numbers_of calls.failing.keys ≡ numbers_of failing = set.same_set nat_cmp_total set.nat_cmp-IsAntisymmetric (numbers_of calls.failing.keys) (numbers_of failing)
-            (λ q. listed calls q ∙ fails q ∙ sym (set.contains-from_list nat_cmp_total failing q)) in
+    (λ q. listed calls q ∙ fails q ∙ sym (set.contains-from_list nat_cmp_total failing q)) in
     λ i. record { failing = same i; made = made i }

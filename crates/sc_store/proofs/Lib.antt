@@ -1,3 +1,4 @@
+mod Plans
 mod Devices
 pub mod PathMaps
 pub mod Spellings

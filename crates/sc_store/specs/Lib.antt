@@ -4,3 +4,4 @@ pub mod Devices
 pub mod Paths
 pub mod Remotes
 pub mod Levels
+pub mod Planning

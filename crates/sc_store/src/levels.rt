@@ -18,8 +18,8 @@ use std::marker::Model;
 /// policy, whether every level tells what it holds, and what each holds where it tells that.
 #[derive(Drop)]
 pub struct Levels<R: Remote> {
-    levels: Vec<Level<R>>,
-    policy: Policy,
+    pub(crate) levels: Vec<Level<R>>,
+    pub(crate) policy: Policy,
 }
 
 impl<R: Remote> Model for Levels<R> {

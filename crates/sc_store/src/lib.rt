@@ -5,6 +5,7 @@ mod level;
 mod levels;
 mod mem_remote;
 mod path_map;
+mod planning;
 mod remote;
 mod remote_storage;
 mod store_key;

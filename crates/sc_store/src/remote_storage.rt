@@ -115,7 +115,8 @@ fn is_single(policy: &Policy) -> bool
     }
 }
 
-fn is_read_only(mode: CacheMode) -> bool
+/// Whether a store of this mode refuses each put.
+pub(crate) fn is_read_only(mode: CacheMode) -> bool
     ensures { result ≡ reads_only mode }
 {
     match mode {

@@ -1,9 +1,7 @@
 -- A request read by the codec is a request of the stream.
 use Rattle.std.proofs.Common.{◌≡◌, ℕ, ◌+◌, ◌*◌, ◌≤◌, Bool, true, false, cond, List, [], ◌∷◌, length, take, drop, nat_lt, Option, Some, None, Result, Ok, Err, refl, sym, ap, subst, ◌∙◌}
 use Rattle.sc_model.specs.Stream.{Bad, Frame, Front, Part as Unread, decoded}
-use Rattle.sc_model.specs.declared.message.Compile.{Compile}
 use Rattle.sc_model.specs.declared.message.Request.{Request}
-use Rattle.sc_model.specs.declared.message.Request.TheVariants.{Compile as CompileRequest}
 use Rattle.sc_wire.specs.Codec.{read_all}
 use Rattle.sc_wire.specs.Frames.{Ahead, Fault, Framing, GivesMessage, Long, Message, Part, Payload, ShowsMessage, Unfinished, ahead, if_message, message_of}
 use Rattle.sc_wire.specs.Requests.{read_request, read_served, request, served_of}
@@ -92,9 +90,9 @@ module _ (limit : ℕ) (bytes : List ℕ) (r : Request) (n : ℕ) (o : Option (R
   shown_is : (ahead request limit bytes ≡ Message r (drop n bytes)) × (n ≤ length bytes)
   shown_is = subst (λ (x : Option (Request × ℕ)). ShowsMessage (Ok x) bytes (ahead request limit bytes)) is shown
 
-  -- a compile at the front is shown
-  pub shows_compile : (c : Compile) → Some (CompileRequest c) ≡ served_of (Some r) → (served_front limit bytes ≡ Frame (CompileRequest c) (drop n bytes)) × (n ≤ length bytes)
-  shows_compile c e = (message_served limit bytes r (drop n bytes) shown_is.0 ∙ ap (λ (s : Option Request). decoded s (drop n bytes)) (sym e), shown_is.1)
+  -- a served request at the front is shown
+  pub shows_served : (q : Request) → Some q ≡ served_of (Some r) → (served_front limit bytes ≡ Frame q (drop n bytes)) × (n ≤ length bytes)
+  shows_served q e = (message_served limit bytes r (drop n bytes) shown_is.0 ∙ ap (λ (s : Option Request). decoded s (drop n bytes)) (sym e), shown_is.1)
 
   -- another request is a bad frame
   pub shows_other : None ≡ served_of (Some r) → served_front limit bytes ≡ Bad

@@ -1,5 +1,5 @@
 -- Requests: the number of the variant, then its fields.
-use Rattle.std.specs.Prelude.{◌≡◌, ℕ, ◌⊎◌, List, Option, Some, None, refl}
+use Rattle.std.specs.Prelude.{◌≡◌, ℕ, ◌⊎◌, List, Option, Some, None, refl, [], ◌∷◌}
 use Rattle.std.proofs.Common.{inl, inr, lit<}
 use Rattle.sc_wire.specs.Codec.{Codec, nothing, ◌&◌, same_as, read_all}
 use Rattle.sc_wire.specs.Lists.{byte_text, text}
@@ -95,10 +95,23 @@ spell_request message = request.spell message
 unfoldable pub read_request : List ℕ → Option Request
 read_request bytes = read_all request bytes
 
--- the requests that a daemon serves so far: compiles
+-- the requests that a daemon serves so far: compiles, and bytes as a store holds them
 abbrev pub served_of : Option Request → Option Request
 served_of (Some (CompileRequest compiled)) = Some (CompileRequest compiled)
+served_of (Some (StorageGetRaw key)) = Some (StorageGetRaw key)
+served_of (Some (StoragePutRaw key bytes)) = Some (StoragePutRaw key bytes)
 served_of _ = None
+
+abbrev pub IsServed : Request → Type 0
+IsServed (CompileRequest compiled) = Unit {0}
+IsServed (StorageGetRaw key) = Unit {0}
+IsServed (StoragePutRaw key bytes) = Unit {0}
+IsServed _ = ⊥
+
+-- requests that are all served
+abbrev pub AreServed : List Request → Type 0
+AreServed [] = Unit {0}
+AreServed (r ∷ rs) = IsServed r × AreServed rs
 
 -- the request that all of the bytes spell, where it is served
 unfoldable pub read_served : List ℕ → Option Request

@@ -2,9 +2,7 @@
 use Rattle.std.specs.Prelude.{◌≡◌, ℕ, ◌≤◌, Bool, List, [], ◌∷◌, ◌++◌, length, drop, Option, Some, None, Result, Ok, Err}
 use Rattle.sc_model.specs.Script.{Reader}
 use Rattle.sc_model.specs.Stream.{Bad, Frame, Front, Part, front, stream_reader}
-use Rattle.sc_model.specs.declared.message.Compile.{Compile}
 use Rattle.sc_model.specs.declared.message.Request.{Request}
-use Rattle.sc_model.specs.declared.message.Request.TheVariants.{Compile as CompileRequest}
 use Rattle.sc_wire.specs.Frames.{Framing}
 use Rattle.sc_wire.specs.Requests.{read_request, read_served}
 use Rattle.sc_wire.specs.declared.error.DecodeError.{DecodeError}
@@ -25,19 +23,12 @@ GivesRequest (Err BadFrame) at_front old new = (at_front ≡ Bad) × (new ≡ ol
 abbrev pub served_front : ℕ → List ℕ → Front
 served_front limit bytes = front limit read_served bytes
 
--- The compile that was shown is that at the front, with the length of its frame.
-abbrev pub ShowsServed : Result (Option (Compile × ℕ)) DecodeError → List ℕ → Front → Type 0
-ShowsServed (Ok (Some p)) bytes at_front = (at_front ≡ Frame (CompileRequest p.0) (drop p.1 bytes)) × (p.1 ≤ length bytes)
+-- The request that was shown is that at the front, with the length of its frame.
+abbrev pub ShowsServed : Result (Option (Request × ℕ)) DecodeError → List ℕ → Front → Type 0
+ShowsServed (Ok (Some p)) bytes at_front = (at_front ≡ Frame p.0 (drop p.1 bytes)) × (p.1 ≤ length bytes)
 ShowsServed (Ok None) bytes at_front = at_front ≡ Part
 ShowsServed (Err NoMemory) bytes at_front = Unit {0}
 ShowsServed (Err BadFrame) bytes at_front = at_front ≡ Bad
-
--- The compile at the front is given and leaves with its frame. Else nothing changes.
-abbrev pub GivesServed : Result (Option Compile) DecodeError → Front → Framing → Framing → Type 0
-GivesServed (Ok (Some compiled)) at_front old new = (at_front ≡ Frame (CompileRequest compiled) new.rest) × (new.limit ≡ old.limit)
-GivesServed (Ok None) at_front old new = (at_front ≡ Part) × (new ≡ old)
-GivesServed (Err NoMemory) at_front old new = new ≡ old
-GivesServed (Err BadFrame) at_front old new = (at_front ≡ Bad) × (new ≡ old)
 
 -- the requests of bytes, the bytes behind them and the end, as the daemon reads them
 abbrev pub request_reader : ℕ → Reader

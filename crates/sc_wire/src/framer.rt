@@ -1,16 +1,15 @@
 //! Frames out of bytes that come in any pieces.
-ghost use Rattle.std.specs.Prelude.{◌≡◌, ◌↔◌, ℕ, ◌++◌, ◌≤◌, List, [], Option, Some, option_map, length, drop, IsTrue, OnOk, OnErr};
+ghost use Rattle.std.specs.Prelude.{◌≡◌, ◌↔◌, ℕ, ◌++◌, ◌≤◌, List, [], Option, Some, length, drop, IsTrue, IfOk, IfSome, OnOk, OnErr};
 ghost use Rattle.sc_model.specs.declared.message.Request.{Request};
 ghost use Rattle.sc_wire.specs.Frames.{cut, ahead, Shows, ShowsMessage, GivesPayload, GivesMessage};
-ghost use Rattle.sc_model.specs.declared.message.Request.TheVariants.{Compile as CompileRequest};
-ghost use Rattle.sc_wire.specs.Requests.{served_of};
-ghost use Rattle.sc_wire.specs.Streams.{request_front, served_front, GivesRequest, GivesServed, ShowsServed, AnyCutting};
+ghost use Rattle.sc_wire.specs.Requests.{IsServed, served_of};
+ghost use Rattle.sc_wire.specs.Streams.{request_front, served_front, GivesRequest, ShowsServed, AnyCutting};
 
 use crate::bincode::BincodeCodec;
 use crate::error::DecodeError;
 use crate::wire::Wire;
 use sc_entry::{ByteText, NoMemory};
-use sc_model::{Compile, Request};
+use sc_model::Request;
 use std::alloc::Global;
 use std::marker::Model;
 
@@ -69,39 +68,41 @@ fn front_message<M: Wire + Drop>(
     }
 }
 
-/// The compile that a request is: no other is served so far.
-fn only_served(request: Request) -> Option<Compile>
-    ensures { option_map CompileRequest result ≡ served_of (Some request) }
+/// The request, where it is served: so far a compile, or one for bytes as a store holds them.
+fn only_served(request: Request) -> Option<Request>
+    ensures request { result ≡ served_of (Some request) }
+    ensures served { IfSome result IsServed }
 {
     match request {
-        Request::Compile(compiled) => Some(compiled),
+        Request::Compile(_) => Some(request),
+        Request::StorageGetRaw(_) => Some(request),
+        Request::StoragePutRaw(_, _) => Some(request),
         Request::ZeroStats => None,
         Request::GetStats => None,
         Request::DistStatus => None,
         Request::Shutdown => None,
         Request::StorageHandshake => None,
         Request::StorageGetPath(_) => None,
-        Request::StorageGetRaw(_) => None,
-        Request::StoragePutRaw(_, _) => None,
         Request::StorageGetPreprocessorEntry(_) => None,
         Request::StoragePutPreprocessorEntry(_, _) => None,
         Request::RecordStats(_) => None,
     }
 }
 
-/// The compile at the front, with the length of its frame.
+/// The served request at the front, with the length of its frame.
 #[tactic(auto, using(crate::proofs::Requested::none_served, crate::proofs::Requested::bad_served, crate::proofs::Requested::message_served))]
 fn front_served(
     alloc: Global,
     limit: u32,
     bytes: &[u8],
-) -> Result<Option<(Compile, usize)>, DecodeError>
-    ensures { ShowsServed result bytes.now (served_front limit bytes.now) }
+) -> Result<Option<(Request, usize)>, DecodeError>
+    ensures shows { ShowsServed result bytes.now (served_front limit bytes.now) }
+    ensures served { IfOk result (λ shown. IfSome shown (λ p. IsServed p.0)) }
 {
     match front_message::<Request>(alloc, limit, bytes)? {
         None => Ok(None),
         Some((request, len)) => match only_served(request) {
-            Some(compiled) => Ok(Some((compiled, len))),
+            Some(served) => Ok(Some((served, len))),
             None => Err(DecodeError::BadFrame),
         },
     }
@@ -186,14 +187,15 @@ impl Framer {
         self.next_message::<Request>(alloc)
     }
 
-    /// The compile of the next frame. Other requests are no served ones so far: `BadFrame`, and they stay so.
-    pub fn next_served(&mut self, alloc: Global) -> Result<Option<Compile>, DecodeError>
-        ensures { GivesServed result (served_front self.old.limit self.old.rest) self.old self.new }
+    /// The request of the next frame, where it is served so far. Any other is `BadFrame`, and stays so.
+    pub fn next_served(&mut self, alloc: Global) -> Result<Option<Request>, DecodeError>
+        ensures gives { GivesRequest result (served_front self.old.limit self.old.rest) self.old self.new }
+        ensures served { IfOk result (λ request. IfSome request IsServed) }
     {
         match front_served(alloc, self.limit, &self.held[self.start..])? {
-            Some((compiled, len)) => {
+            Some((served, len)) => {
                 self.start += len;
-                Ok(Some(compiled))
+                Ok(Some(served))
             }
             None => Ok(None),
         }

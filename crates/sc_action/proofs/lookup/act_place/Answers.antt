@@ -10,6 +10,7 @@ returns-clause-acts g c =
     record {
       fits = tt;
       then = c.in_ok-phase.ensures.phase k c.args.request.now ∙ ap (λ (m : ℕ). placed_phase (setup k) (CompileOf c.args.request.now) c.args.job c.args.entry c.args.duration m c.in_ok-placing.placing) c.now-now.ensures;
-      stands = c.in_ok-phase.ensures.stands k;
+      stands = c.in_ok-phase.ensures.stands k c.args.request.now;
       plain = tt;
+      there = tt;
     }

@@ -4,14 +4,17 @@ use Rattle.sc_action.specs.declared.acted.Acted.{Acted}
 use Rattle.sc_job.specs.Setups.{setup}
 use Rattle.sc_model.specs.Machine.{need_at}
 use Rattle.sc_model.specs.declared.message.Request.TheVariants.{Compile as CompileOf}
+use Rattle.sc_model.specs.declared.message.Request.{Request}
 use Rattle.sc_model.specs.declared.phase.Phase.{Phase}
-use Rattle.sc_action.proofs.dispatch.act.Goals as goal
+use Rattle.sc_model.specs.declared.phase.Phase.TheVariants.{AtSend}
+use Rattle.sc_action.proofs.Requests.{if_all}
+use Rattle.sc_action.proofs.dispatch.act_compile.Goals as goal
 
 pub returns-in-AtBegin-clause-moves : goal.returns-in-AtBegin-clause-moves
 returns-in-AtBegin-clause-moves g c = subst (λ (p : Phase). IfOk c.act_begin.result (λ (a : Acted). g.H.Hold.moves c.args.hold.now (need_at (setup (g.H.Hold.config c.args.hold.now)) (CompileOf c.args.request.now) p) a.what c.act_begin.new.hold)) (sym c.in-AtBegin.is) c.act_begin.ensures.moves
 
 pub returns-in-AtSend-clause-moves : goal.returns-in-AtSend-clause-moves
-returns-in-AtSend-clause-moves g c = subst (λ (p : Phase). IfOk c.act_send.result (λ (a : Acted). g.H.Hold.moves c.args.hold.now (need_at (setup (g.H.Hold.config c.args.hold.now)) (CompileOf c.args.request.now) p) a.what c.act_send.new.hold)) (sym c.in-AtSend.is) c.act_send.ensures.moves
+returns-in-AtSend-clause-moves g c = subst (λ (p : Phase). IfOk c.act_send.result (λ (a : Acted). g.H.Hold.moves c.args.hold.now (need_at (setup (g.H.Hold.config c.args.hold.now)) (CompileOf c.args.request.now) p) a.what c.act_send.new.hold)) (sym c.in-AtSend.is) (if_all (λ (a : Acted) (q : Request). g.H.Hold.moves c.args.hold.now (need_at (setup (g.H.Hold.config c.args.hold.now)) q (AtSend c.in-AtSend.reply)) a.what c.act_send.new.hold) c.act_send.result (CompileOf c.args.request.now) c.act_send.ensures.moves)
 
 pub returns-in-AtStarted-clause-moves : goal.returns-in-AtStarted-clause-moves
 returns-in-AtStarted-clause-moves g c = subst (λ (p : Phase). IfOk c.act_started.result (λ (a : Acted). g.H.Hold.moves c.args.hold.now (need_at (setup (g.H.Hold.config c.args.hold.now)) (CompileOf c.args.request.now) p) a.what c.act_started.new.hold)) (sym c.in-AtStarted.is) c.act_started.ensures.moves

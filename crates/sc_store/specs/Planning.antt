@@ -1,0 +1,19 @@
+-- Which levels a write goes to, as code tells it.
+use Rattle.std.specs.Prelude.{ℕ, Bool, List, map}
+use Rattle.sc_model.specs.Plan.{is_background, is_required, takes_writes}
+use Rattle.sc_model.specs.declared.level.LevelFacts.{LevelFacts}
+use Rattle.sc_model.specs.declared.level.LevelPolicy.{LevelPolicy}
+use Rattle.sc_store.specs.Held.{HeldLevel}
+use Rattle.sc_store.specs.Levels.{held_level}
+use Rattle.sc_store.specs.declared.level.Level.{Level}
+use Rattle.sc_store.specs.declared.planning.Takes.{Takes}
+use Rattle.sc_store.specs.declared.planning.Takes.TheVariants.{Any, Background, Required}
+
+abbrev pub test_of : Takes → LevelPolicy → Bool
+test_of Required = is_required
+test_of Background = is_background
+test_of Any = takes_writes
+
+-- what does not change of each of these levels
+abbrev pub facts_of : {R : Type 0} → List (Level R) → List LevelFacts
+facts_of levels = map (λ l. (held_level l).facts) levels
