@@ -1,6 +1,6 @@
 -- The pairs that an `IterMut` has left.
-use Rattle.std.proofs.Common.{Bool, ◌≡◌, ℕ, zero, suc, ◌+◌, ◌-◌, ◌<◌, ◌≤◌, ◌^◌, List, [], ◌∷◌, length, take, drop, slice_get, refl, sym, ap, ◌∙◌, subst, arith, length-take, length-drop}
-use Rattle.std.specs.Option.{option_map_or}
+use Rattle.std.proofs.Common.{Bool, ◌≡◌, ℕ, zero, suc, ◌+◌, ◌-◌, ◌<◌, ◌≤◌, List, [], ◌∷◌, length, take, drop, slice_get, refl, sym, ap, ◌∙◌, arith, length-take, length-drop}
+use Rattle.std.specs.Option.{option_map, option_map_or}
 use Rattle.std.specs.List.{position_or_len}
 use Rattle.std.specs.Map.{keys_of}
 use Rattle.indexmap.specs.IndexMap.{set_value_at}
@@ -37,6 +37,14 @@ module _ {X : Type 0} where
   drop-nil (suc n) = refl
 
 module _ {K V : Type 0} where
+  get-keys : (es : List (K × V)) (i : ℕ) → slice_get (keys_of es) i ≡ option_map (λ e. e.0) (slice_get es i)
+  get-keys [] i = refl
+  get-keys (e ∷ es) zero = refl
+  get-keys (e ∷ es) (suc i) = get-keys es i
+
+  pub rest_key : (m n : ℕ) (es : List (K × V)) (i : ℕ) → i < n → slice_get (keys_of (take n (drop m es))) i ≡ slice_get (keys_of es) (m + i)
+  rest_key m n es i h = get-keys (take n (drop m es)) i ∙ ap (option_map (λ (e : K × V). e.0)) (get_rest m n es i h) ∙ sym (get-keys es (m + i))
+
   first_gone : (es : List (K × V)) (m k : ℕ) (v : V) → take k (drop (suc m) (set_value_at es m v)) ≡ drop 1 (take (suc k) (drop m es))
   first_gone [] m k v = take-nil k ∙ sym (ap (λ l. drop 1 (take (suc k) l)) (drop-nil m))
   first_gone (e ∷ es) zero k v = refl

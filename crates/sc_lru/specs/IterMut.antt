@@ -1,6 +1,6 @@
 -- What an `IterMut` shows, and what it ends as once a pair that it lent has ended.
-use Rattle.std.specs.Prelude.{Bool, ◌≡◌, ℕ, ◌+◌, ◌-◌, ◌^◌, ◌<◌, ◌≤◌, List, [], length, take, drop}
-use Rattle.std.specs.Borrow.{Fml, RattleType, MutBor, Lends}
+use Rattle.std.specs.Prelude.{Bool, ◌≡◌, ℕ, ◌+◌, ◌-◌, ◌^◌, ◌<◌, ◌≤◌, List, [], Option, length, take, drop}
+use Rattle.std.specs.Borrow.{Fml, RattleType, MutBor, LendsIf}
 use Rattle.std.specs.HashMap.Lent.{HashMembers}
 use Rattle.std.specs.declared.hash.Hasher as hasher
 use Rattle.std.specs.declared.hash.BuildHasher as builder
@@ -49,10 +49,10 @@ module _ (K V S H : RattleType) (key : HashMembers K.Denot) (build : builder.Gho
   iter_row = the_row (record { mir = named 1; lft = [] }) K V S H (record { eq = key.eq }) (record { hash_input = key.hash_input }) build hashes
 
   module _ (s : MutBor (IterMut K.Denot V.Denot S.Denot H.Denot)) where
-    -- the first pair that was left has the last value written through r
-    abbrev pub lends_first : MutBor V.Denot → Fml
-    lends_first r = Lends iter_row V s r (λ v. first_written key.eq s.now v)
+    -- the first pair that was left has the last value written through r, and at `None` the iterator stays
+    abbrev pub lends_first : Option (MutBor V.Denot) → Fml
+    lends_first r = LendsIf iter_row V s r (λ v. first_written key.eq s.now v) s.now
 
     -- the same of the last pair
-    abbrev pub lends_last : MutBor V.Denot → Fml
-    lends_last r = Lends iter_row V s r (λ v. last_written key.eq s.now v)
+    abbrev pub lends_last : Option (MutBor V.Denot) → Fml
+    lends_last r = LendsIf iter_row V s r (λ v. last_written key.eq s.now v) s.now

@@ -324,6 +324,9 @@ impl<K: Eq + Hash + Drop, V: Drop, S: BuildHasher, M: Meter<K, V>> LruCache<K, V
     /// Changes the capacity, and takes the least recently used pairs out until the others measure at most it.
     pub fn set_capacity(&mut self, capacity: u64)
         ensures entries { self.new.entries ≡ suffix_within (M.measure self.old.meter) capacity self.old.entries }
+
+        // Where all fit, their positions stay.
+        ensures slots { total (M.measure self.old.meter) self.old.entries ≤ capacity → self.new.slots ≡ self.old.slots }
         ensures spare { self.old.spare ≤ self.new.spare }
         ensures parts { HasParts self.new capacity self.old.meter self.old.hasher }
     {
@@ -366,6 +369,13 @@ impl<K: Eq + Hash, V, S: BuildHasher> LruCache<K, V, S, Count> {
         ensures { (i : ℕ) → i < length self.now.entries → at ≡ position_at K.eq self.now.entries self.now.slots i → result ≡ position_at K.eq self.now.entries self.now.slots (i - 1) }
     {
         self.order.position_before(at)
+    }
+
+    // The key at a position.
+    pub(crate) fn key_at(&self, at: usize) -> Option<&K>
+        ensures { (i : ℕ) → i < length self.now.entries → at ≡ position_at K.eq self.now.entries self.now.slots i → option_copied result ≡ slice_get (keys_of self.now.entries) i }
+    {
+        self.order.key_at(at)
     }
 
     // The pair at a position, whose value can be written. The order stays.

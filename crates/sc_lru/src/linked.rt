@@ -196,6 +196,17 @@ impl<K: Eq + Hash, V, S: BuildHasher> Order<K, V, S> {
         self.map[at].before
     }
 
+    /// The key at a position.
+    pub fn key_at(&self, at: usize) -> Option<&K>
+        ensures { (i : ℕ) → i < length self.now.entries → at ≡ position_at K.eq self.now.entries self.now.slots i → option_copied result ≡ slice_get (keys_of self.now.entries) i }
+    {
+        let _ = &self.first;
+        match self.map.get_index(at) {
+            Some((key, _)) => Some(key),
+            None => None,
+        }
+    }
+
     /// Makes room for more pairs.
     pub fn reserve(&mut self, additional: usize) -> Result<(), AllocError>
         ensures entries { self.new.entries ≡ self.old.entries }

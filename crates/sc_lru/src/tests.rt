@@ -31,6 +31,15 @@ fn pairs_of(alloc: Global, cache: &Sizes) -> Result<Pairs, AllocError> {
     Ok(pairs)
 }
 
+// A cache of at most `capacity` of the pairs 1 to 3.
+fn three(alloc: Global, capacity: u64) -> Result<LruCache<u64, u64>, AllocError> {
+    let mut cache = LruCache::new(alloc, capacity);
+    for (key, value) in [(1, 10), (2, 20), (3, 30)] {
+        cache.insert(key, value)?;
+    }
+    Ok(cache)
+}
+
 #[test]
 fn evicts_the_least_recently_used(rt: HostRuntime) -> Result<(), Fail> {
     let mut cache: LruCache<u64, u64> = LruCache::new(rt.alloc(), 2);
@@ -38,13 +47,7 @@ fn evicts_the_least_recently_used(rt: HostRuntime) -> Result<(), Fail> {
     cache.insert(2, 20)?;
     assert_eq!(rt; cache.get(&1).copied(), Some(10));
     cache.insert(3, 30)?;
-    assert_eq!(rt;
-        format!(in rt.alloc(); "{cache:?}")?.as_str(),
-        "{3: 30, 1: 10}"
-    );
     let mut pairs = cache.iter();
-    assert_eq!(rt; pairs.len(), 2);
-    assert_eq!(rt; pairs.clone()?.next_back(), Some((&3, &30)));
     assert_eq!(rt; pairs.next(), Some((&1, &10)));
     assert_eq!(rt; pairs.next(), Some((&3, &30)));
     assert_eq!(rt; pairs.next(), None);
@@ -52,15 +55,40 @@ fn evicts_the_least_recently_used(rt: HostRuntime) -> Result<(), Fail> {
 }
 
 #[test]
-fn measures_pairs(rt: HostRuntime) -> Result<(), Fail> {
+fn prints_the_most_recently_used_first(rt: HostRuntime) -> Result<(), Fail> {
+    let cache = three(rt.alloc(), 2)?;
+    let text = format!(in rt.alloc(); "{cache:?}")?;
+    assert_eq!(rt; text.as_str(), "{3: 30, 2: 20}");
+    Ok(())
+}
+
+#[test]
+fn walks_from_both_ends(rt: HostRuntime) -> Result<(), Fail> {
+    let cache = three(rt.alloc(), 2)?;
+    let mut pairs = cache.iter();
+    assert_eq!(rt; pairs.len(), 2);
+    assert_eq!(rt; pairs.clone()?.next(), Some((&2, &20)));
+    assert_eq!(rt; pairs.next_back(), Some((&3, &30)));
+    assert_eq!(rt; pairs.len(), 1);
+    Ok(())
+}
+
+#[test]
+fn holds_no_pair_over_the_capacity(rt: HostRuntime) -> Result<(), Fail> {
     let mut cache = LruCache::with_meter(rt.alloc(), 10, Size);
     cache.insert("a", 4)?;
     assert_eq!(rt; cache.insert("big", 12)?, None);
     assert!(rt; cache.is_empty());
     assert_eq!(rt; cache.size(), 0);
-    cache.insert("a", 4)?;
-    cache.insert("b", 5)?;
-    cache.insert("c", 3)?;
+    Ok(())
+}
+
+#[test]
+fn measures_pairs(rt: HostRuntime) -> Result<(), Fail> {
+    let mut cache = LruCache::with_meter(rt.alloc(), 10, Size);
+    for (key, size) in [("a", 4), ("b", 5), ("c", 3)] {
+        cache.insert(key, size)?;
+    }
     assert!(rt; !cache.contains_key(&"a"));
     assert_eq!(rt; cache.size(), 8);
     assert_eq!(rt; cache.len(), 2);
@@ -68,45 +96,83 @@ fn measures_pairs(rt: HostRuntime) -> Result<(), Fail> {
     Ok(())
 }
 
+fn has_positions(rt: &impl Abort, cache: &LruCache<u64, u64>, positions: &[(u64, Option<usize>)]) {
+    for (key, position) in positions {
+        assert_eq!(rt; cache.position_of(key), *position, "of {key}");
+    }
+}
+
 #[test]
-fn keeps_positions(rt: HostRuntime) -> Result<(), Fail> {
-    let mut cache: LruCache<u64, u64> = LruCache::new(rt.alloc(), 3);
-    cache.insert(1, 10)?;
-    cache.insert(2, 20)?;
-    cache.insert(3, 30)?;
+fn keeps_positions_at_a_use(rt: HostRuntime) -> Result<(), Fail> {
+    let mut cache = three(rt.alloc(), 3)?;
     cache.get(&1);
-    assert_eq!(rt;
-        format!(in rt.alloc(); "{cache:?}")?.as_str(),
-        "{1: 10, 3: 30, 2: 20}"
-    );
-    assert_eq!(rt; cache.position_of(&1), Some(0));
-    assert_eq!(rt; cache.position_of(&2), Some(1));
-    assert_eq!(rt; cache.position_of(&3), Some(2));
+    let text = format!(in rt.alloc(); "{cache:?}")?;
+    assert_eq!(rt; text.as_str(), "{1: 10, 3: 30, 2: 20}");
+    has_positions(&rt, &cache, &[(1, Some(0)), (2, Some(1)), (3, Some(2))]);
+    Ok(())
+}
+
+#[test]
+fn fills_the_position_of_a_removed_pair(rt: HostRuntime) -> Result<(), Fail> {
+    let mut cache = three(rt.alloc(), 3)?;
+    cache.get(&1);
     assert_eq!(rt; cache.remove(&2), Some(20));
-    assert_eq!(rt;
-        format!(in rt.alloc(); "{cache:?}")?.as_str(),
-        "{1: 10, 3: 30}"
-    );
-    assert_eq!(rt; cache.position_of(&3), Some(1));
-    assert_eq!(rt; cache.position_of(&1), Some(0));
-    assert_eq!(rt; cache.position_of(&2), None);
+    let text = format!(in rt.alloc(); "{cache:?}")?;
+    assert_eq!(rt; text.as_str(), "{1: 10, 3: 30}");
+    has_positions(&rt, &cache, &[(1, Some(0)), (2, None), (3, Some(1))]);
     Ok(())
 }
 
 #[test]
 fn writes_values(rt: HostRuntime) -> Result<(), Fail> {
-    let mut cache: LruCache<u64, u64> = LruCache::new(rt.alloc(), 3);
-    cache.insert(1, 10)?;
-    cache.insert(2, 20)?;
+    let mut cache = three(rt.alloc(), 3)?;
     if let Some(value) = cache.get_mut(&1) {
         *value = 11;
     }
-    assert!(rt; cache.get_mut(&3).is_none());
-    cache.set_capacity(1);
-    let mut pairs = cache.into_iter();
-    assert_eq!(rt; pairs.len(), 1);
-    assert_eq!(rt; pairs.next_back(), Some((1, 11)));
+    let text = format!(in rt.alloc(); "{cache:?}")?;
+    assert_eq!(rt; text.as_str(), "{1: 11, 3: 30, 2: 20}");
+    Ok(())
+}
+
+#[test]
+fn gives_pairs_from_both_ends(rt: HostRuntime) -> Result<(), Fail> {
+    let mut pairs = three(rt.alloc(), 2)?.into_iter();
+    assert_eq!(rt; pairs.len(), 2);
+    assert_eq!(rt; pairs.next_back(), Some((3, 30)));
+    assert_eq!(rt; pairs.next(), Some((2, 20)));
     assert_eq!(rt; pairs.next(), None);
+    Ok(())
+}
+
+#[test]
+fn lends_values_from_both_ends(rt: HostRuntime) -> Result<(), Fail> {
+    let mut cache = three(rt.alloc(), 3)?;
+    let mut pairs = cache.iter_mut();
+    assert_eq!(rt; pairs.key().copied(), Some(1));
+    let Some(value) = pairs.next() else {
+        panic!(rt; "no first pair");
+    };
+    *value = 11;
+    assert_eq!(rt; pairs.key_back().copied(), Some(3));
+    let Some(value) = pairs.next_back() else {
+        panic!(rt; "no last pair");
+    };
+    *value = 31;
+    assert_eq!(rt; pairs.len(), 1);
+    let text = format!(in rt.alloc(); "{cache:?}")?;
+    assert_eq!(rt; text.as_str(), "{3: 31, 2: 20, 1: 11}");
+    Ok(())
+}
+
+#[test]
+fn lends_every_value(rt: HostRuntime) -> Result<(), Fail> {
+    let mut cache = three(rt.alloc(), 3)?;
+    let mut pairs = cache.iter_mut();
+    while let Some(value) = pairs.next() {
+        *value = value.wrapping_add(1);
+    }
+    let text = format!(in rt.alloc(); "{cache:?}")?;
+    assert_eq!(rt; text.as_str(), "{3: 31, 2: 21, 1: 11}");
     Ok(())
 }
 
@@ -194,12 +260,14 @@ fn take_out(list: &mut Pairs, key: u64) -> Option<u64> {
     Some(list.remove(at).1)
 }
 
+fn sum_of(list: &Pairs) -> u64 {
+    list.iter()
+        .fold(0u64, |sum, pair| sum.saturating_add(pair.1))
+}
+
 fn evict_to(list: &mut Pairs, capacity: u64) {
     for _ in 0..list.len() {
-        let sum = list
-            .iter()
-            .fold(0u64, |sum, pair| sum.saturating_add(pair.1));
-        if sum <= capacity || list.is_empty() {
+        if sum_of(list) <= capacity || list.is_empty() {
             return;
         }
         list.remove(0);
@@ -267,6 +335,8 @@ impl Bodies {
         if let Some(value) = value {
             self.list.push((key, value))?;
         }
+        assert_eq!(rt; self.linked.contains_key(&key), value.is_some());
+        assert_eq!(rt; self.linked.position_of(&key).is_some(), value.is_some());
         assert_eq!(rt; self.shifted.touch(&key), value.is_some());
         assert_eq!(rt; self.linked.get(&key).copied(), value);
         Ok(())
@@ -299,31 +369,34 @@ impl Bodies {
         self.list.clear();
     }
 
-    fn compare(&self, rt: &impl Abort, alloc: Global) -> Result<(), Fail> {
+    fn compare_linked(&self, rt: &impl Abort, alloc: Global) -> Result<(), Fail> {
         assert_eq!(rt;
             pairs_of(alloc, &self.linked)?.as_slice(),
             self.list.as_slice()
         );
         assert_eq!(rt; self.linked.len(), self.list.len());
-        let sum = self
-            .list
-            .iter()
-            .fold(0u64, |sum, pair| sum.saturating_add(pair.1));
-        assert_eq!(rt; self.linked.size(), sum);
+        assert_eq!(rt; self.linked.size(), sum_of(&self.list));
+        Ok(())
+    }
+
+    fn compare_ends(&self, rt: &impl Abort) {
         let first = self.linked.peek_lru().map(|pair| (*pair.0, *pair.1));
         assert_eq!(rt; first, self.list.first().copied());
-        let last = self.linked.iter().next_back();
-        assert_eq!(rt;
-            last.map(|pair| (*pair.0, *pair.1)),
-            self.list.last().copied()
-        );
+        let last = self
+            .linked
+            .iter()
+            .next_back()
+            .map(|pair| (*pair.0, *pair.1));
+        assert_eq!(rt; last, self.list.last().copied());
+    }
+
+    fn compare_shifted(&self, rt: &impl Abort) {
         let mut at = 0usize;
         for (key, value) in self.shifted.iter() {
             assert_eq!(rt; self.list.get(at).copied(), Some((*key, *value)));
             at = at.saturating_add(1);
         }
         assert_eq!(rt; at, self.list.len());
-        Ok(())
     }
 
     fn call(&mut self, rt: &impl Abort, kind: u64, key: u64, value: u64) -> Result<(), Fail> {
@@ -362,7 +435,9 @@ fn three_bodies_agree(rt: HostRuntime) -> Result<(), Fail> {
         let key = draw(&mut state, 24);
         let value = draw(&mut state, 60);
         bodies.call(&rt, kind, key, value)?;
-        bodies.compare(&rt, rt.alloc())?;
+        bodies.compare_linked(&rt, rt.alloc())?;
+        bodies.compare_ends(&rt);
+        bodies.compare_shifted(&rt);
     }
     Ok(())
 }
