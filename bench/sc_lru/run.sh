@@ -1,5 +1,6 @@
 #!/bin/sh
-# Times sc_lru beside the hand-made baseline, and prints a table. Needs `rt`, cargo and no network.
+# Times sc_lru beside the Rust crates lru, hashlink and lru-cache, the kit's port of lru and a hand-made baseline, and prints a table.
+# Needs `rt`, cargo and Debian's packages librust-lru-dev, librust-hashlink-dev and librust-lru-cache-dev, and no network.
 # Usage: bench/sc_lru/run.sh [RUNS], at the top of the repository. The scratch repository is kept in $SCRATCH, to be used again.
 set -eu
 runs=${1:-5}
@@ -22,14 +23,16 @@ END
 # Each program is proved before it is built, and runs once.
 (cd "$scratch/crates/lru_bench" && rt run) >"$scratch/build.log" 2>&1
 (cd "$scratch/crates/kit_bench" && rt run) >"$scratch/kit_build.log" 2>&1
-CARGO_TARGET_DIR="$scratch/target" cargo build --release --offline --quiet --manifest-path "$here/baseline/Cargo.toml"
+(cd "$here/baseline" && CARGO_TARGET_DIR="$scratch/target" cargo build --release --offline --quiet)
 
 rm -f "$scratch"/runs/*
 i=0
 while [ "$i" -lt "$runs" ]; do
     "$scratch/crates/lru_bench/out/lru_bench" >"$scratch/runs/ours.$i"
     "$scratch/crates/kit_bench/out/kit_bench" >"$scratch/runs/kit.$i"
-    "$scratch/target/release/lru-baseline" >"$scratch/runs/baseline.$i"
+    for peer in lru hashlink lru-cache fold-map std-map; do
+        "$scratch/target/release/lru-baseline" "$peer" >"$scratch/runs/$peer.$i"
+    done
     i=$((i + 1))
 done
 python3 "$here/table.py" "$scratch/runs"

@@ -18,15 +18,17 @@ def read(folder):
 
 def main():
     runs = read(sys.argv[1])
-    others = ["kit-lru", "fold-map", "std-map"]
+    others = ["lru", "hashlink", "lru-cache", "kit-lru", "fold-map", "std-map"]
+    peers = ["lru", "hashlink"]
     rows = sorted({(w, k, n) for run in runs for (w, _, k, n) in run}, key=lambda r: (r[0], r[2], r[1] != "u64"))
-    print("| call | key | pairs | sc_lru | " + " | ".join(others) + " | " + " | ".join("/ " + o for o in others) + " |")
-    print("|---|---|---|" + "---|" * (1 + 2 * len(others)))
+    print("| call | key | pairs | sc_lru | " + " | ".join(others) + " | " + " | ".join("/ " + o for o in others[:3]) + " | / faster of two |")
+    print("|---|---|---|" + "---|" * (1 + len(others) + 4))
     for what, kind, pairs in rows:
         ours = min(run[(what, "sc_lru", kind, pairs)] for run in runs)
         theirs = [min(run[(what, other, kind, pairs)] for run in runs) for other in others]
         cells = [f"{time:.1f}" for time in [ours] + theirs]
-        cells += [f"{ours / time:.2f}" for time in theirs]
+        cells += [f"{ours / time:.2f}" for time in theirs[:3]]
+        cells.append(f"{ours / min(theirs[: len(peers)]):.2f}")
         print(f"| {what} | {kind} | {pairs:,} | " + " | ".join(cells) + " |")
 
 

@@ -1,5 +1,6 @@
-//! The hand-made baseline: boxed nodes in a doubly linked list, found by a `HashMap` whose keys point into them.
-//! It prints the lines that the Rattle program prints: what, key, pairs, tenths of a nanosecond a call.
+//! The Rust crates `lru`, `hashlink` and `lru-cache`, and a hand-made baseline: boxed nodes in a doubly linked list, found by a
+//! `HashMap` whose keys point into them. It prints the lines that the Rattle program prints: what, name, key, pairs, tenths of a
+//! nanosecond a call.
 use std::collections::hash_map::RandomState;
 use std::collections::HashMap;
 use std::hash::{BuildHasher, BuildHasherDefault, Hash, Hasher};
@@ -153,6 +154,86 @@ impl<K: Eq + Hash, V, S: BuildHasher + Default> Baseline<K, V, S> {
     }
 }
 
+/// What is timed of each cache.
+trait Cache<K> {
+    fn new(capacity: usize) -> Self;
+    fn get(&mut self, key: &K) -> Option<&u64>;
+    fn insert(&mut self, key: K, value: u64);
+    fn len(&self) -> usize;
+}
+
+impl<K: Eq + Hash, S: BuildHasher + Default> Cache<K> for Baseline<K, u64, S> {
+    fn new(capacity: usize) -> Self {
+        Baseline::new(capacity)
+    }
+
+    fn get(&mut self, key: &K) -> Option<&u64> {
+        Baseline::get(self, key)
+    }
+
+    fn insert(&mut self, key: K, value: u64) {
+        Baseline::insert(self, key, value);
+    }
+
+    fn len(&self) -> usize {
+        self.map.len()
+    }
+}
+
+impl<K: Eq + Hash> Cache<K> for lru::LruCache<K, u64> {
+    fn new(capacity: usize) -> Self {
+        lru::LruCache::new(capacity)
+    }
+
+    fn get(&mut self, key: &K) -> Option<&u64> {
+        lru::LruCache::get(self, key)
+    }
+
+    fn insert(&mut self, key: K, value: u64) {
+        self.put(key, value);
+    }
+
+    fn len(&self) -> usize {
+        lru::LruCache::len(self)
+    }
+}
+
+impl<K: Eq + Hash> Cache<K> for hashlink::LruCache<K, u64> {
+    fn new(capacity: usize) -> Self {
+        hashlink::LruCache::new(capacity)
+    }
+
+    fn get(&mut self, key: &K) -> Option<&u64> {
+        hashlink::LruCache::get(self, key)
+    }
+
+    fn insert(&mut self, key: K, value: u64) {
+        hashlink::LruCache::insert(self, key, value);
+    }
+
+    fn len(&self) -> usize {
+        hashlink::LruCache::len(self)
+    }
+}
+
+impl<K: Eq + Hash> Cache<K> for lru_cache::LruCache<K, u64> {
+    fn new(capacity: usize) -> Self {
+        lru_cache::LruCache::new(capacity)
+    }
+
+    fn get(&mut self, key: &K) -> Option<&u64> {
+        self.get_mut(key).map(|value| &*value)
+    }
+
+    fn insert(&mut self, key: K, value: u64) {
+        lru_cache::LruCache::insert(self, key, value);
+    }
+
+    fn len(&self) -> usize {
+        lru_cache::LruCache::len(self)
+    }
+}
+
 fn key(i: u64) -> u64 {
     i.wrapping_mul(0x9E37_79B9_7F4A_7C15)
 }
@@ -175,10 +256,10 @@ fn report(what: &str, name: &str, kind: &str, n: usize, start: Instant, calls: u
     println!("{what} {name} {kind} {n} {tenths}");
 }
 
-fn run<K: Eq + Hash, S: BuildHasher + Default>(name: &str, kind: &str, stored: Vec<K>, looked: Vec<K>, fresh: Vec<K>) {
+fn run<K, C: Cache<K>>(name: &str, kind: &str, stored: Vec<K>, looked: Vec<K>, fresh: Vec<K>) {
     let n = looked.len();
     let calls = 2_000_000;
-    let mut cache: Baseline<K, u64, S> = Baseline::new(n);
+    let mut cache = C::new(n);
     for key in stored {
         cache.insert(key, 1);
     }
@@ -198,15 +279,27 @@ fn run<K: Eq + Hash, S: BuildHasher + Default>(name: &str, kind: &str, stored: V
         cache.insert(key, 2);
     }
     report("insert-evict", name, kind, n, start, made);
-    assert_eq!(cache.map.len(), n);
+    assert_eq!(cache.len(), n);
+}
+
+fn run_all<K, C: Cache<K>>(name: &str, kind: &str, keys: fn(u64, u64) -> Vec<K>) {
+    for n in [1_000, 100_000, 1_000_000] {
+        run::<K, C>(name, kind, keys(0, n), keys(0, n), keys(n, 1_000_000));
+    }
+}
+
+fn run_kinds<C: Cache<u64>, D: Cache<String>>(name: &str) {
+    run_all::<u64, C>(name, "u64", numbers);
+    run_all::<String, D>(name, "40-byte", texts);
 }
 
 fn main() {
-    let made = 1_000_000;
-    for n in [1_000, 100_000, 1_000_000] {
-        run::<_, RandomState>("std-map", "u64", numbers(0, n), numbers(0, n), numbers(n, made));
-        run::<_, BuildHasherDefault<FoldHasher>>("fold-map", "u64", numbers(0, n), numbers(0, n), numbers(n, made));
-        run::<_, RandomState>("std-map", "40-byte", texts(0, n), texts(0, n), texts(n, made));
-        run::<_, BuildHasherDefault<FoldHasher>>("fold-map", "40-byte", texts(0, n), texts(0, n), texts(n, made));
+    match std::env::args().nth(1).as_deref() {
+        Some("lru") => run_kinds::<lru::LruCache<u64, u64>, lru::LruCache<String, u64>>("lru"),
+        Some("hashlink") => run_kinds::<hashlink::LruCache<u64, u64>, hashlink::LruCache<String, u64>>("hashlink"),
+        Some("lru-cache") => run_kinds::<lru_cache::LruCache<u64, u64>, lru_cache::LruCache<String, u64>>("lru-cache"),
+        Some("fold-map") => run_kinds::<Baseline<u64, u64, BuildHasherDefault<FoldHasher>>, Baseline<String, u64, BuildHasherDefault<FoldHasher>>>("fold-map"),
+        Some("std-map") => run_kinds::<Baseline<u64, u64, RandomState>, Baseline<String, u64, RandomState>>("std-map"),
+        _ => eprintln!("usage: lru-baseline lru|hashlink|lru-cache|fold-map|std-map"),
     }
 }
