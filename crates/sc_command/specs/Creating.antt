@@ -1,5 +1,5 @@
 -- What a creator answers.
-use Rattle.std.specs.Prelude.{◌≡◌, ℕ, List, [], ◌∷◌, Option, Some, None, Result, Ok, Err}
+use Rattle.std.specs.Prelude.{◌≡◌, ℕ, Bool, List, [], ◌∷◌, Option, Some, None, Result, Ok, Err, IsTrue}
 use Rattle.sc_entry.specs.Causes.{Rose}
 use Rattle.sc_command.specs.declared.refusal.NewCommandError.{NewCommandError}
 use Rattle.sc_command.specs.declared.refusal.NewCommandError.TheVariants.{NoMemory, NoChild}
@@ -14,8 +14,9 @@ NewAnswer (Some (first ∷ rest)) (Ok command) after = (command ≡ first) × (a
 NewAnswer (Some (first ∷ rest)) (Err NoMemory) after = after ≡ Some (first ∷ rest)
 NewAnswer (Some (first ∷ rest)) (Err NoChild) after = ⊥
 
--- A creator's count over a call that makes a command: it rises where that is refused, and nowhere else.
-abbrev pub NewCause : {C : Type 0} → ℕ → ℕ → Result C NewCommandError → Type 0
-NewCause before now (Ok command) = now ≡ before
-NewCause before now (Err NoMemory) = now ≡ before
-NewCause before now (Err NoChild) = Rose before now
+-- A creator's count over a call that makes a command: it rises where that is refused, and nowhere else. Only a creator
+-- that has a list of children refuses.
+abbrev pub NewCause : {C : Type 0} → Bool → ℕ → ℕ → Result C NewCommandError → Type 0
+NewCause listed before now (Ok command) = now ≡ before
+NewCause listed before now (Err NoMemory) = now ≡ before
+NewCause listed before now (Err NoChild) = IsTrue listed × Rose before now

@@ -1,7 +1,7 @@
 ghost use Rattle.std.specs.Prelude.{◌≡◌, [], true, false, Some, IfOk};
 ghost use Rattle.sc_command.specs.Children.{IfFault, IsRefused};
 ghost use Rattle.sc_command.specs.Programs.{AreTexts, SystemAnswer};
-ghost use Rattle.sc_command.specs.Settings.{fresh_setting};
+ghost use Rattle.sc_command.specs.Settings.{fresh_setting, with_jobserver};
 ghost use Rattle.sc_command.specs.Spawning.{SpawnAnswer};
 ghost use Rattle.sc_command.specs.declared.refusal.CommandRefusal.TheVariants as refusals;
 
@@ -133,7 +133,10 @@ impl<R: Processes<Started = SystemProcess> + Threads + Wait + Copy + Drop> RunCo
         self.setting.stderr = mode;
     }
 
-    fn share_jobserver(&mut self) {
+    fn share_jobserver(&mut self)
+        ensures set { self.new.setting ≡ with_jobserver self.old.setting }
+        ensures same { (self.new.arguments ≡ self.old.arguments) × (self.new.is_spent ≡ self.old.is_spent) }
+    {
         self.jobserver.configure(&mut self.setting);
     }
 

@@ -1,3 +1,9 @@
+//! Tokens that threads share.
+//!
+//! Whenever the lock is free, tokens out and free are the pool's size: it is an invariant of `Pool`, which a thread finds
+//! when it takes the lock and owes when it lets go. What a call does under its lock no clause can name, since another
+//! thread may have been there before. So the clauses stand on the calls of `Pool`, and each call below makes one of them
+//! under the lock. A token is made by a pool alone and has no drop: a dropped `Acquired` hands it to `Pool::give`.
 ghost use Rattle.std.specs.Prelude.{◌≡◌, ◌<◌};
 ghost use Rattle.sc_command.specs.Settings.{with_jobserver};
 
@@ -107,7 +113,7 @@ impl Client {
         }
     }
 
-    /// A token, where one is free. None exactly where `Pool::take` found none.
+    /// A token, where one is free. None exactly where `Pool::take`, which this calls under the lock, found none.
     pub fn try_acquire<'a, R: Wait>(&'a self, rt: &'a R) -> Option<Acquired<'a, R>> {
         let token = self.shared.pool.lock(rt).take()?;
         Some(Acquired {

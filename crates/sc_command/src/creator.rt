@@ -1,4 +1,4 @@
-ghost use Rattle.std.specs.Prelude.{◌≡◌, ◌≤◌, ℕ, [], false, List, Option, IfOk};
+ghost use Rattle.std.specs.Prelude.{◌≡◌, ◌≤◌, ℕ, Bool, [], false, List, Option, IfOk};
 ghost use Rattle.sc_entry.specs.Causes.{Rose, IfTold};
 ghost use Rattle.sc_command.specs.Creating.{NewAnswer, NewCause};
 ghost use Rattle.sc_command.specs.Settings.{fresh_setting};
@@ -21,6 +21,9 @@ pub trait CommandCreator {
     /// The commands that it will make, where it tells them. No call changes whether it tells.
     ghost queue: { Self → Option (List Self.Cmd) };
 
+    /// Whether its commands spawn the children of a list, which can be used up.
+    ghost is_listed: { Bool };
+
     /// How often it refused, and its commands and their children did.
     ghost fault_count: { Self → ℕ };
 
@@ -39,7 +42,7 @@ pub trait CommandCreator {
         ensures unspent { IfOk result (λ command. Self.Cmd.is_spent command ≡ false) }
         ensures words { IfOk result (λ command. IfTold (Self.Cmd.arguments command) (λ words. words ≡ [])) }
         ensures setting { IfOk result (λ command. IfTold (Self.Cmd.setting command) (λ setting. setting ≡ fresh_setting program.now)) }
-        ensures cause { NewCause (fault_count self.old) (fault_count self.new) result };
+        ensures cause { NewCause is_listed (fault_count self.old) (fault_count self.new) result };
 
     /// Books a refusal of one of its commands or children, and tells why it refused.
     fn book(
@@ -63,7 +66,7 @@ pub trait CommandCreatorSync: CommandCreator {
         ensures unspent { IfOk result (λ command. Self.Cmd.is_spent command ≡ false) }
         ensures words { IfOk result (λ command. IfTold (Self.Cmd.arguments command) (λ words. words ≡ [])) }
         ensures setting { IfOk result (λ command. IfTold (Self.Cmd.setting command) (λ setting. setting ≡ fresh_setting program.now)) }
-        ensures cause { NewCause (Self.fault_count self.old) (Self.fault_count self.new) result }
+        ensures cause { NewCause Self.is_listed (Self.fault_count self.old) (Self.fault_count self.new) result }
     {
         self.new_command(program)
     }

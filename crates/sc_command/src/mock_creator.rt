@@ -1,4 +1,4 @@
-ghost use Rattle.std.specs.Prelude.{◌≡◌, ◌++◌, ◌∷◌, [], List, Some, map, OnOk, OnErr, MatchOption};
+ghost use Rattle.std.specs.Prelude.{◌≡◌, ◌++◌, ◌∷◌, [], List, true, Some, map, OnOk, OnErr, MatchOption};
 ghost use Rattle.sc_entry.specs.Failing.{one_more};
 
 use crate::child_call::{Call, ChildCall};
@@ -60,6 +60,8 @@ impl CommandCreator for MockCommandCreator {
     type Cmd = MockCommand;
 
     ghost queue = { λ c. Some (map (λ child. record { child = Some child; args = [] }) c.children) };
+
+    ghost is_listed = { true };
 
     ghost fault_count = { λ c. c.faults };
 

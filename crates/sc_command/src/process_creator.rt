@@ -1,4 +1,4 @@
-ghost use Rattle.std.specs.Prelude.{None};
+ghost use Rattle.std.specs.Prelude.{false, None};
 
 use crate::async_command::AsyncCommand;
 use crate::client::Client;
@@ -29,6 +29,8 @@ impl<R: Processes<Started = SystemProcess> + Threads + Wait + Copy + Drop> Comma
     type Cmd = AsyncCommand<R>;
 
     ghost queue = { λ _. None };
+
+    ghost is_listed = { false };
 
     ghost fault_count = { λ c. c.faults };
 

@@ -50,6 +50,8 @@ impl<T: CommandCreator + Drop, R: Wait + Copy> CommandCreator for SharedCreator<
 
     ghost queue = { λ _. None };
 
+    ghost is_listed = { T.is_listed };
+
     ghost fault_count = { λ s. s.faults };
 
     fn new(
