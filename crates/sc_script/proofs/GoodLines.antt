@@ -7,7 +7,9 @@ use Rattle.sc_model.specs.declared.event.RunAnswer.TheVariants.{Output}
 use Rattle.sc_script.proofs.GoodObjects.{good_objects}
 use Rattle.sc_script.proofs.Tests.{by_only, by_then, some_same}
 use Rattle.sc_script.specs.Fields.{bytes_of_token, hex_of, kind_of, number_in, number_of, status_of, store_key_of, text_of_token}
-use Rattle.sc_script.specs.Lines.{◌>>=◌, ask_line, body, bytes_line, compile_request, connections_line, fail_line, field, gives, hold_line, keyword_of, level_line, limit_line, line_of_words, literal, no_names, objects_onto, read_line, run_line, serve_line, times_of, tokens_line, tool_line, version_line, whole}
+use Rattle.sc_script.specs.Readers.{◌>>=◌, field, gives, literal}
+use Rattle.sc_script.specs.Requests.{request_words}
+use Rattle.sc_script.specs.Lines.{ask_line, body, bytes_line, connections_line, fail_line, hold_line, keyword_of, level_line, limit_line, line_of_words, no_names, objects_onto, read_line, run_line, serve_line, times_of, tokens_line, tool_line, version_line, whole}
 use Rattle.sc_script.specs.Reading.{Reader}
 use Rattle.sc_script.specs.declared.line.Line.{Line}
 use Rattle.sc_script.specs.declared.line.Line.TheVariants.{Version, Connections, Tokens, Limit, Level, Hold, Fail, Tool, Run, Bytes, Ask, Read, Serve}
@@ -97,7 +99,7 @@ good_bytes = ends_on GoodLine (field number_of) _ (λ c. ends_on GoodLine (field
 
 good_ask : Ends GoodLine ask_line
 unfolding ask_line
-good_ask = ends_on GoodLine (field number_of) _ (λ c. ends_on GoodLine (field (literal (codes "compile"))) _ (λ k. ends_on GoodLine (compile_request) _ (λ r. ends_gives GoodLine (Ask c r) tt)))
+good_ask = ends_on GoodLine (field number_of) _ (λ c. ends_on GoodLine request_words _ (λ r. ends_gives GoodLine (Ask c r) tt))
 
 good_read : Ends GoodLine read_line
 unfolding read_line

@@ -1,6 +1,8 @@
 pub mod Reading
 pub mod Parts
 pub mod Fields
+pub mod Readers
+pub mod Requests
 pub mod Lines
 pub mod Inputs
 pub mod Frames

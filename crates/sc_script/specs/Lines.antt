@@ -5,36 +5,15 @@ use Rattle.sc_entry.specs.Tally.{Tally, count_of, counted}
 use Rattle.sc_entry.specs.declared.object.Object.{Object}
 use Rattle.sc_model.specs.declared.event.Objects.TheVariants.{Collected}
 use Rattle.sc_model.specs.declared.event.RunAnswer.TheVariants.{Output}
-use Rattle.sc_model.specs.declared.message.Request.{Request}
-use Rattle.sc_model.specs.declared.message.Request.TheVariants.{Compile}
-use Rattle.sc_model.specs.declared.message.Variable.{Variable}
-use Rattle.sc_script.specs.Reading.{Reader, only_if}
+use Rattle.sc_script.specs.Reading.{Reader}
 use Rattle.sc_script.specs.Reading.{◌>>=◌ as ◌then◌}
-use Rattle.sc_script.specs.Fields.{number_of, number_in, bytes_of_token, text_of_token, store_key_of, variable_of, object_of, status_of, kind_of, hex_of}
+use Rattle.sc_script.specs.Readers.{◌>>=◌, word, gives, field, literal}
+use Rattle.sc_script.specs.Requests.{request_words}
+use Rattle.sc_script.specs.Fields.{number_of, number_in, bytes_of_token, text_of_token, store_key_of, object_of, status_of, kind_of, hex_of}
 use Rattle.sc_script.specs.declared.line.Line.{Line}
 use Rattle.sc_script.specs.declared.line.Line.TheVariants.{Version, Connections, Tokens, Limit, Level, Hold, Fail, Tool, Run, Bytes, Ask, Read, Serve}
 use Rattle.sc_script.specs.declared.lines.Keyword.{Keyword}
 use Rattle.sc_script.specs.declared.lines.Keyword.TheVariants as at
-
-abbrev pub word : Reader (List ℕ)
-word [] = None
-word (w ∷ ws) = Some (w, ws)
-
--- one reader after another
-infixl 10 ◌>>=◌
-abbrev pub ◌>>=◌ : {A B : Type 0} → Reader A → (A → Reader B) → Reader B
-(r >>= f) ws = r ws then (λ p. f p.0 p.1)
-
-abbrev pub gives : {A : Type 0} → A → Reader A
-gives x ws = Some (x, ws)
-
--- the next word, of which there must be one
-abbrev pub field : {A : Type 0} → (List ℕ → Option A) → Reader A
-field f ws = word ws then (λ p. f p.0 then (λ x. Some (x, p.1)))
-
--- a word that must be this one
-abbrev pub literal : List ℕ → List ℕ → Option (Unit {0})
-literal text w = only_if (bytes_eq w text) tt
 
 -- no name counted so far
 abbrev pub no_names : Tally
@@ -49,18 +28,6 @@ abbrev pub objects_onto : List Object → Tally → Reader (List Object)
 objects_onto sofar names [] = Some (sofar, [])
 objects_onto sofar names (w ∷ ws) =
     object_of w then (λ o. if is_new_object sofar names o then objects_onto (sofar ++ o ∷ []) (counted names o.name 1) ws else None)
-
--- tokens of all words that are left, behind those so far
-abbrev pub tokens_onto : List (List ℕ) → Reader (List (List ℕ))
-tokens_onto sofar [] = Some (sofar, [])
-tokens_onto sofar (w ∷ ws) = bytes_of_token w then (λ x. tokens_onto (sofar ++ x ∷ []) ws)
-
--- variables up to the word --, which is taken too
-abbrev pub variables_onto : List Variable → Reader (List Variable)
-variables_onto sofar [] = None
-variables_onto sofar (w ∷ ws) =
-    if bytes_eq w (codes "--") then Some (sofar, ws)
-    else variable_of w then (λ x. variables_onto (sofar ++ x ∷ []) ws)
 
 -- script 1
 unfoldable pub version_line : Reader Line
@@ -136,21 +103,11 @@ bytes_line = do
   bytes ← field hex_of
   gives (Bytes connection bytes)
 
--- compile EXE CWD PAIR.. -- WORD..
-unfoldable pub compile_request : Reader Request
-compile_request = do
-  exe ← field bytes_of_token
-  cwd ← field bytes_of_token
-  env_vars ← variables_onto []
-  args ← tokens_onto []
-  gives (Compile (record { exe = exe; cwd = cwd; args = args; env_vars = env_vars }))
-
 -- ask C REQUEST
 unfoldable pub ask_line : Reader Line
 ask_line = do
   connection ← field number_of
-  kind ← field (literal (codes "compile"))
-  request ← compile_request
+  request ← request_words
   gives (Ask connection request)
 
 -- read C N

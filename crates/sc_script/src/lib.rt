@@ -15,6 +15,7 @@ mod lines;
 mod parts;
 mod reading;
 mod replies;
+mod requests;
 mod run_rule;
 mod script;
 #[cfg(test)]

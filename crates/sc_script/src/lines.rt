@@ -1,18 +1,20 @@
 //! Lines, kind by kind.
 ghost use Rattle.std.specs.Prelude.{◌≡◌, []};
 ghost use Rattle.sc_script.specs.Reading.{Means, Reads};
-ghost use Rattle.sc_script.specs.Lines.{version_line, connections_line, tokens_line, limit_line, level_line, hold_line, fail_line, tool_line, run_line, bytes_line, compile_request, ask_line, read_line, times_of, serve_line, keyword_of, body, line_of_words, objects_onto, no_names, is_new_object, tokens_onto, variables_onto, literal};
+ghost use Rattle.sc_script.specs.Readers.{literal};
+ghost use Rattle.sc_script.specs.Lines.{version_line, connections_line, tokens_line, limit_line, level_line, hold_line, fail_line, tool_line, run_line, bytes_line, ask_line, read_line, times_of, serve_line, keyword_of, body, line_of_words, objects_onto, no_names, is_new_object};
 
 use crate::fault::LineError;
 use crate::fields::{
-    hex_bytes, kind, number, number_within, object, status, store_key, text_token, token, variable,
+    hex_bytes, kind, number, number_within, object, status, store_key, text_token, token,
 };
 use crate::line::{HoldLine, Line};
 use crate::parts::Words;
+use crate::requests::request_words;
 use crate::run_rule::RunRule;
 use sc_compile::Tool;
-use sc_entry::{ByteText, Counts, Items, Object};
-use sc_model::{Compile, Objects, Output, Request, RunAnswer, RunOutput, Variable};
+use sc_entry::{Counts, Items, Object};
+use sc_model::{Objects, Output, RunAnswer, RunOutput};
 use std::alloc::Global;
 
 /// The kinds of lines.
@@ -62,29 +64,6 @@ fn objects(alloc: Global, words: &mut Words<'_>) -> Result<Items<Object>, LineEr
         items.push(object)?;
     }
     Ok(items)
-}
-
-fn tokens(alloc: Global, words: &mut Words<'_>) -> Result<Items<ByteText>, LineError>
-    ensures { Reads (tokens_onto [] words.old) result words.new }
-{
-    let mut items = Items::new(alloc);
-    while let Some(word) = words.next() {
-        items.push(token(alloc, word)?)?;
-    }
-    Ok(items)
-}
-
-fn variables(alloc: Global, words: &mut Words<'_>) -> Result<Items<Variable>, LineError>
-    ensures { Reads (variables_onto [] words.old) result words.new }
-{
-    let mut items = Items::new(alloc);
-    while let Some(word) = words.next() {
-        if word == b"--".as_slice() {
-            return Ok(items);
-        }
-        items.push(variable(alloc, word)?)?;
-    }
-    Err(LineError::Bad)
 }
 
 #[tactic(auto, unfolding(crate::specs::Lines::version_line))]
@@ -188,29 +167,12 @@ fn bytes_line(alloc: Global, words: &mut Words<'_>) -> Result<Line, LineError>
     Ok(Line::Bytes { connection, bytes })
 }
 
-#[tactic(auto, unfolding(crate::specs::Lines::compile_request))]
-fn compile_request(alloc: Global, words: &mut Words<'_>) -> Result<Request, LineError>
-    ensures { Reads (compile_request words.old) result words.new }
-{
-    let exe = token(alloc, words.word()?)?;
-    let cwd = token(alloc, words.word()?)?;
-    let env_vars = variables(alloc, words)?;
-    let args = tokens(alloc, words)?;
-    Ok(Request::Compile(Compile {
-        exe,
-        cwd,
-        args,
-        env_vars,
-    }))
-}
-
 #[tactic(auto, unfolding(crate::specs::Lines::ask_line))]
 fn ask_line(alloc: Global, words: &mut Words<'_>) -> Result<Line, LineError>
     ensures { Reads (ask_line words.old) result words.new }
 {
     let connection = number(words.word()?)?;
-    literal(b"compile", words.word()?)?;
-    let request = compile_request(alloc, words)?;
+    let request = request_words(alloc, words)?;
     Ok(Line::Ask {
         connection,
         request,
