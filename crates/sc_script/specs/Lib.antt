@@ -6,6 +6,7 @@ pub mod Requests
 pub mod Lines
 pub mod Inputs
 pub mod Frames
+pub mod Levels
 pub mod Scripts
 pub mod Tokens
 pub mod Numbers

@@ -1,6 +1,6 @@
 -- Readers of a line's words, one after another.
-use Rattle.std.specs.Prelude.{ℕ, List, [], ◌∷◌, Option, Some, None, bytes_eq}
-use Rattle.sc_script.specs.Reading.{Reader, only_if}
+use Rattle.std.specs.Prelude.{ℕ, List, [], ◌∷◌, Option, Some, None}
+use Rattle.sc_script.specs.Reading.{Reader}
 use Rattle.sc_script.specs.Reading.{◌>>=◌ as ◌then◌}
 
 abbrev pub word : Reader (List ℕ)
@@ -18,7 +18,3 @@ gives x ws = Some (x, ws)
 -- the next word, of which there must be one
 abbrev pub field : {A : Type 0} → (List ℕ → Option A) → Reader A
 field f ws = word ws then (λ p. f p.0 then (λ x. Some (x, p.1)))
-
--- a word that must be this one
-abbrev pub literal : List ℕ → List ℕ → Option (Unit {0})
-literal text w = only_if (bytes_eq w text) tt

@@ -44,15 +44,17 @@ fn ample_read_script(rt: HostRuntime) -> Result<(), Fail> {
         sizes.push(input.len())?;
     }
     assert_eq!(rt; sizes.as_slice(), [87 + 53, 2].as_slice());
-    for (_, held) in script.holds.as_slice() {
-        assert_eq!(rt; held.as_slice(), b"a b".as_slice());
+    for level in script.levels.as_slice() {
+        assert_eq!(rt; level.fails.as_slice(), [2].as_slice());
+        for (_, held) in level.holds.as_slice() {
+            assert_eq!(rt; held.as_slice(), b"a b".as_slice());
+        }
     }
     for tool in script.tools.as_slice() {
         assert_eq!(rt; tool.moment, 7);
     }
-    assert_eq!(rt; script.fails.as_slice(), [2].as_slice());
     assert_eq!(rt;
-        script.holds.len() + script.tools.len() + script.runs.len(),
+        script.levels.len() + script.tools.len() + script.runs.len(),
         3
     );
     let mut served = 0u64;
