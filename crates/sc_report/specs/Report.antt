@@ -1,5 +1,5 @@
 -- The report that a drive prints, line by line.
-use Rattle.std.specs.Prelude.{ℕ, ◌+◌, Bool, true, false, ◌==◌, if◌then◌else◌, List, [], ◌∷◌, ◌++◌, count_by, codes, decimal}
+use Rattle.std.specs.Prelude.{ℕ, ◌+◌, Bool, true, false, ◌==◌, if◌then◌else◌, List, [], ◌∷◌, ◌++◌, Option, Some, None, count_by, slice_get, codes, decimal}
 use Rattle.std.specs.List.{concat}
 use Rattle.sc_conn.specs.declared.end.End.{End}
 use Rattle.sc_conn.specs.declared.end.End.TheVariants.{Open, Ended, EndInFrame, BadFrame, ReplyTooLong}
@@ -14,6 +14,7 @@ use Rattle.sc_report.specs.declared.levels.LevelSize.{LevelSize}
 use Rattle.sc_script.specs.Counters.{counter_lines}
 use Rattle.sc_script.specs.Numbers.{named_line}
 use Rattle.sc_script.specs.Replies.{reply_line}
+use Rattle.sc_stats.specs.declared.counters.LevelStats.{LevelStats}
 use Rattle.sc_stats.specs.declared.counters.ServerStats.{ServerStats}
 
 -- the reply that an event sends on connection c, if it sends one
@@ -55,13 +56,29 @@ abbrev pub sections : ℕ → List End → List Event → List (List ℕ)
 sections c [] events = []
 sections c (end ∷ ends) events = (connection_line c end ++ reply_lines (replies_to c events)) ∷ sections (c + 1) ends events
 
--- of each level from number l on: a line of its bytes and entries
-unfoldable pub level_line : ℕ → LevelSize → List ℕ
-level_line l size = codes "level " ++ decimal l ++ codes " " ++ decimal size.bytes ++ codes " " ++ decimal size.entries ++ codes "\n"
+-- a level's bytes and entries
+unfoldable pub size_words : ℕ → LevelSize → List ℕ
+size_words l size = codes "level " ++ decimal l ++ codes " " ++ decimal size.bytes ++ codes " " ++ decimal size.entries
 
-abbrev pub level_lines : ℕ → List LevelSize → List ℕ
-level_lines l [] = []
-level_lines l (size ∷ sizes) = level_line l size ++ level_lines (l + 1) sizes
+-- what a level counts; a single store's level counts nothing
+unfoldable pub counted_lookups : LevelStats → List ℕ
+counted_lookups s = codes " hits " ++ decimal s.hits ++ codes " misses " ++ decimal s.misses ++ codes " writes " ++ decimal s.writes
+
+unfoldable pub counted_writes : LevelStats → List ℕ
+counted_writes s =
+    codes " failures " ++ decimal s.write_failures ++ codes " from " ++ decimal s.backfills_from ++ codes " to " ++ decimal s.backfills_to
+
+unfoldable pub counter_words : Option LevelStats → List ℕ
+counter_words None = []
+counter_words (Some s) = counted_lookups s ++ counted_writes s
+
+unfoldable pub level_line : ℕ → LevelSize → Option LevelStats → List ℕ
+level_line l size counted = size_words l size ++ counter_words counted ++ codes "\n"
+
+-- a line for each level from number l on, whose sizes these are; the counters are those of all levels
+abbrev pub level_lines : ℕ → List LevelSize → List LevelStats → List ℕ
+level_lines l [] counters = []
+level_lines l (size ∷ sizes) counters = level_line l size (slice_get counters l) ++ level_lines (l + 1) sizes counters
 
 -- the background writes that are left, the tokens that are free, the runs
 abbrev pub total_lines : ℕ → ℕ → ℕ → List ℕ
@@ -69,10 +86,10 @@ total_lines background tokens runs =
     named_line (codes "background") background ++ named_line (codes "tokens") tokens ++ named_line (codes "runs") runs
 
 -- the report of a drive
-unfoldable pub report_of : List End → List Event → List LevelSize → ℕ → ℕ → ServerStats → List ℕ
-report_of ends events levels background tokens stats =
+unfoldable pub report_of : List End → List Event → List LevelSize → List LevelStats → ℕ → ℕ → ServerStats → List ℕ
+report_of ends events levels counters background tokens stats =
     concat (sections 0 ends events)
-    ++ level_lines 0 levels
+    ++ level_lines 0 levels counters
     ++ total_lines background tokens (runs_in events)
     ++ counter_lines stats
     ++ codes "end\n"

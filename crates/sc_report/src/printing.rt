@@ -8,7 +8,7 @@ use sc_conn::End;
 use sc_entry::NoMemory;
 use sc_model::{Event, What};
 use sc_script::{put, put_counters, put_named};
-use sc_stats::ServerStats;
+use sc_stats::{LevelStats, ServerStats};
 use std::alloc::Global;
 
 /// What a drive came to, as its report tells it.
@@ -20,6 +20,8 @@ pub struct Report<'a> {
     pub events: &'a [Event],
     /// What each level holds.
     pub levels: &'a [LevelSize],
+    /// What each level counts; nothing where they are a single store.
+    pub counters: &'a [LevelStats],
     /// How many background writes are left.
     pub background: u64,
     /// How many tokens are free.
@@ -60,15 +62,15 @@ fn put_totals(
 }
 
 /// Appends the report of a drive: what each connection came to and the replies that were sent on it, what the levels
-/// hold, what is left to write in the background, the free tokens, the runs, and the counters that aren't 0.
+/// hold and count, what is left to write in the background, the free tokens, the runs, and the counters that aren't 0.
 #[tactic(auto, unfolding(crate::specs::Report::report_of))]
 pub fn put_report(alloc: Global, out: &mut Vec<u8>, report: &Report) -> Result<(), NoMemory>
     ensures { let r = report.now in
         OnOk result (out.new.items ≡ out.old.items
-        ++ report_of r.ends.now r.events.now r.levels.now r.background r.tokens r.stats.now) }
+        ++ report_of r.ends.now r.events.now r.levels.now r.counters.now r.background r.tokens r.stats.now) }
 {
     put_sections(alloc, out, report.ends, report.events)?;
-    put_levels(alloc, out, report.levels)?;
+    put_levels(alloc, out, report.levels, report.counters)?;
     let runs = count_runs(report.events);
     put_totals(alloc, out, report.background, report.tokens, runs)?;
     put_counters(alloc, out, report.stats)?;

@@ -4,7 +4,7 @@ use sc_entry::{ByteText, Items};
 use sc_model::{
     ColorMode, CompileFinished, CompileResponse, Event, Owner, Response, RunAnswer, What,
 };
-use sc_stats::ServerStats;
+use sc_stats::{LevelStats, ServerStats};
 use std::alloc::Global;
 use std::test::Fail;
 
@@ -52,12 +52,24 @@ fn events(alloc: Global) -> Result<Vec<Event>, Fail> {
     Ok(made)
 }
 
+fn counters(alloc: Global) -> LevelStats {
+    let mut stats = LevelStats::new(alloc);
+    stats.hits = 1;
+    stats.misses = 2;
+    stats.writes = 3;
+    stats.write_failures = 4;
+    stats.backfills_from = 5;
+    stats.backfills_to = u64::MAX;
+    stats
+}
+
 #[test]
 fn ample_put_report(rt: HostRuntime) -> Result<(), Fail> {
     let events = events(rt.alloc())?;
     let mut stats = ServerStats::new(rt.alloc());
     stats.compile_requests = 1;
     stats.cache_writes = 20;
+    let counters = [counters(rt.alloc())];
     let report = Report {
         ends: &[End::Open, End::ReplyTooLong(73)],
         events: events.as_slice(),
@@ -71,6 +83,7 @@ fn ample_put_report(rt: HostRuntime) -> Result<(), Fail> {
                 entries: 0,
             },
         ],
+        counters: &counters,
         background: 3,
         tokens: 65535,
         stats: &stats,
@@ -84,7 +97,7 @@ finished 0 - hi - auto
 conn 1 reply-too-long 73
 raw a\\x20b
 raw none
-level 0 41 1
+level 0 41 1 hits 1 misses 2 writes 3 failures 4 from 5 to 18446744073709551615
 level 1 0 0
 background 3
 tokens 65535
@@ -105,6 +118,7 @@ fn ample_ends(rt: HostRuntime) -> Result<(), Fail> {
         ends: &ends,
         events: &[],
         levels: &[],
+        counters: &[],
         background: 0,
         tokens: 0,
         stats: &stats,

@@ -1,16 +1,18 @@
 -- What holds of all that a line says.
-use Rattle.std.proofs.Common.{◌≡◌, ℕ, ◌^◌, ◌-◌, true, ◌&&◌, nat_le, List, [], ◌∷◌, Option, Some, None, ap, subst, codes}
+use Rattle.std.proofs.Common.{◌≡◌, ℕ, ◌^◌, ◌-◌, true, ◌&&◌, nat_le, List, [], ◌∷◌, Option, Some, None, ap, subst}
 use Rattle.sc_compile.specs.GoodNames.{are_run_objects, is_good_answer}
 use Rattle.sc_entry.specs.Keys.{is_store_key}
 use Rattle.sc_model.specs.declared.event.Objects.TheVariants.{Collected}
 use Rattle.sc_model.specs.declared.event.RunAnswer.TheVariants.{Output}
 use Rattle.sc_script.proofs.GoodObjects.{good_objects}
 use Rattle.sc_script.proofs.Tests.{by_only, by_then, some_same}
-use Rattle.sc_script.specs.Fields.{bytes_of_token, hex_of, kind_of, number_in, number_of, status_of, store_key_of, text_of_token}
-use Rattle.sc_script.specs.Lines.{◌>>=◌, ask_line, body, bytes_line, compile_request, connections_line, fail_line, field, gives, hold_line, keyword_of, level_line, limit_line, line_of_words, literal, no_names, objects_onto, read_line, run_line, serve_line, times_of, tokens_line, tool_line, version_line, whole}
+use Rattle.sc_script.specs.Fields.{bytes_of_token, hex_of, kind_of, number_in, number_of, status_of, store_key_of, text_of_token, level_kind_of, mode_of, policy_name_of}
+use Rattle.sc_script.specs.Readers.{◌>>=◌, field, gives}
+use Rattle.sc_script.specs.Requests.{request_words}
+use Rattle.sc_script.specs.Lines.{ask_line, back_line, body, capacity_words, own_policy, policy_line, bytes_line, connections_line, fail_line, hold_line, keyword_of, level_line, limit_line, line_of_words, no_names, objects_onto, read_line, run_line, serve_line, times_of, tokens_line, tool_line, version_line, whole}
 use Rattle.sc_script.specs.Reading.{Reader}
 use Rattle.sc_script.specs.declared.line.Line.{Line}
-use Rattle.sc_script.specs.declared.line.Line.TheVariants.{Version, Connections, Tokens, Limit, Level, Hold, Fail, Tool, Run, Bytes, Ask, Read, Serve}
+use Rattle.sc_script.specs.declared.line.Line.TheVariants.{Version, Connections, Tokens, Limit, Policy, Level, Hold, Fail, Tool, Run, Bytes, Ask, Read, Serve, Back}
 use Rattle.sc_script.specs.declared.lines.Keyword.{Keyword}
 use Rattle.sc_script.specs.declared.lines.Keyword.TheVariants as at
 
@@ -68,9 +70,13 @@ good_limit : Ends GoodLine limit_line
 unfolding limit_line
 good_limit = ends_then GoodLine (IsWithin 1 16777216) (field (number_in 1 16777216)) _ (ends_field (IsWithin 1 16777216) (number_in 1 16777216) (within 1 16777216)) (λ n good. ends_gives GoodLine (Limit n) good)
 
+good_policy : Ends GoodLine policy_line
+unfolding policy_line
+good_policy = ends_on GoodLine (field policy_name_of) _ (λ n. ends_gives GoodLine (Policy n) tt)
+
 good_level : Ends GoodLine level_line
 unfolding level_line
-good_level = ends_on GoodLine (field (literal (codes "remote"))) _ (λ k. ends_on GoodLine (field (literal (codes "rw"))) _ (λ m. ends_gives GoodLine Level tt))
+good_level = ends_on GoodLine (field level_kind_of) _ (λ k. ends_on GoodLine (capacity_words k) _ (λ n. ends_on GoodLine (field mode_of) _ (λ m. ends_on GoodLine own_policy _ (λ p. ends_gives GoodLine (Level (record { kind = k; capacity = n; mode = m; policy = p })) tt))))
 
 good_hold : Ends GoodLine hold_line
 unfolding hold_line
@@ -97,7 +103,7 @@ good_bytes = ends_on GoodLine (field number_of) _ (λ c. ends_on GoodLine (field
 
 good_ask : Ends GoodLine ask_line
 unfolding ask_line
-good_ask = ends_on GoodLine (field number_of) _ (λ c. ends_on GoodLine (field (literal (codes "compile"))) _ (λ k. ends_on GoodLine (compile_request) _ (λ r. ends_gives GoodLine (Ask c r) tt)))
+good_ask = ends_on GoodLine (field number_of) _ (λ c. ends_on GoodLine request_words _ (λ r. ends_gives GoodLine (Ask c r) tt))
 
 good_read : Ends GoodLine read_line
 unfolding read_line
@@ -107,12 +113,17 @@ good_serve : Ends GoodLine serve_line
 unfolding serve_line
 good_serve = ends_on GoodLine (field number_of) _ (λ c. ends_on GoodLine (times_of) _ (λ n. ends_gives GoodLine (Serve c n) tt))
 
+good_back : Ends GoodLine back_line
+unfolding back_line
+good_back = ends_on GoodLine (field number_of) _ (λ n. ends_gives GoodLine (Back n) tt)
+
 good_body : (k : Keyword) → Ends GoodLine (body k)
 unfolding body
 good_body at.Version = good_version
 good_body at.Connections = good_connections
 good_body at.Tokens = good_tokens
 good_body at.Limit = good_limit
+good_body at.Policy = good_policy
 good_body at.Level = good_level
 good_body at.Hold = good_hold
 good_body at.Fail = good_fail
@@ -122,6 +133,7 @@ good_body at.Bytes = good_bytes
 good_body at.Ask = good_ask
 good_body at.Read = good_read
 good_body at.Serve = good_serve
+good_body at.Back = good_back
 
 by_whole : {P : Type 0} (o : Option (Line × List (List ℕ))) (l : Line) → (o ≡ Some (l, []) → P) → whole o ≡ Some l → P
 by_whole None l f e = absurd (cc)

@@ -1,5 +1,5 @@
 -- What follows where a definition by tests gave something.
-use Rattle.std.proofs.Common.{◌≡◌, ℕ, ◌≤◌, Bool, true, false, ◌&&◌, nat_le, Option, Some, None, unwrap_or, refl, ap, arith, if◌then◌else◌}
+use Rattle.std.proofs.Common.{◌≡◌, ℕ, ◌<◌, ◌≤◌, Bool, true, false, ◌&&◌, ◌==◌, nat_le, nat_lt, Option, Some, None, unwrap_or, refl, ap, arith, if◌then◌else◌}
 use Rattle.std.proofs.lemmas.Grind.{common_steps}
 use Rattle.sc_script.specs.Reading.{◌>>=◌, only_if}
 
@@ -31,3 +31,9 @@ by_then None f z g e = absurd (cc)
 
 pub le_of_test : (a b : ℕ) → nat_le a b ≡ true → a ≤ b
 le_of_test a b h = grind (arith, common_steps)
+
+pub eq_of_test : (a b : ℕ) → (a == b) ≡ true → a ≡ b
+eq_of_test a b h = grind (arith, common_steps)
+
+pub lt_of_test : (a b : ℕ) → nat_lt a b ≡ true → a < b
+lt_of_test a b h = grind (arith, common_steps)

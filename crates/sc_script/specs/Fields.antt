@@ -5,12 +5,20 @@ use Rattle.hex.specs.Hex.{decode_of}
 use Rattle.sc_compile.specs.declared.tool.ToolKind.{ToolKind}
 use Rattle.sc_compile.specs.declared.tool.ToolKind.TheVariants.{Compiler, NotACompiler}
 use Rattle.sc_entry.specs.Keys.{is_store_key}
+use Rattle.sc_entry.specs.declared.cache_mode.CacheMode.{CacheMode}
+use Rattle.sc_entry.specs.declared.cache_mode.CacheMode.TheVariants.{ReadOnly, ReadWrite}
 use Rattle.sc_entry.specs.declared.object.Object.{Object}
 use Rattle.sc_model.specs.declared.event.CCompilerKind.TheVariants.{Gcc}
 use Rattle.sc_model.specs.declared.event.CompilerKind.TheVariants.{C}
 use Rattle.sc_model.specs.declared.event.Status.{Status}
 use Rattle.sc_model.specs.declared.event.Status.TheVariants.{Code, Signal}
+use Rattle.sc_model.specs.declared.level.LevelKind.{LevelKind}
+use Rattle.sc_model.specs.declared.level.LevelKind.TheVariants.{Disk, Remote}
+use Rattle.sc_model.specs.declared.level.LevelPolicy.{LevelPolicy}
+use Rattle.sc_model.specs.declared.level.LevelPolicy.TheVariants.{Background, Off, Required}
 use Rattle.sc_model.specs.declared.message.Variable.{Variable}
+use Rattle.sc_script.specs.declared.policies.PolicyName.{PolicyName}
+use Rattle.sc_script.specs.declared.policies.PolicyName.TheVariants as named
 use Rattle.sc_script.specs.Reading.{◌>>=◌, only_if}
 use Rattle.sc_script.specs.Parts.{cut_at}
 
@@ -131,3 +139,35 @@ decoded (Err e) = None
 unfoldable pub hex_of : List ℕ → Option (List ℕ)
 hex_of [] = None
 hex_of (c ∷ word) = decoded (decode_of (c ∷ word))
+
+-- how the levels are written
+unfoldable pub policy_name_of : List ℕ → Option PolicyName
+policy_name_of word =
+    if bytes_eq word (codes "single") then Some named.Single
+    else if bytes_eq word (codes "ignore") then Some named.Ignore
+    else if bytes_eq word (codes "l0") then Some named.L0
+    else if bytes_eq word (codes "all") then Some named.All
+    else if bytes_eq word (codes "levels") then Some named.Levels
+    else None
+
+-- when one level is written
+unfoldable pub level_policy_of : List ℕ → Option LevelPolicy
+level_policy_of word =
+    if bytes_eq word (codes "required") then Some Required
+    else if bytes_eq word (codes "background") then Some Background
+    else if bytes_eq word (codes "off") then Some Off
+    else None
+
+-- what a level is
+unfoldable pub level_kind_of : List ℕ → Option LevelKind
+level_kind_of word =
+    if bytes_eq word (codes "disk") then Some Disk
+    else if bytes_eq word (codes "remote") then Some Remote
+    else None
+
+-- whether a level may be written
+unfoldable pub mode_of : List ℕ → Option CacheMode
+mode_of word =
+    if bytes_eq word (codes "rw") then Some ReadWrite
+    else if bytes_eq word (codes "ro") then Some ReadOnly
+    else None

@@ -1,7 +1,10 @@
 -- What holds of all that good scripts say.
-use Rattle.std.specs.Prelude.{◌≡◌, ℕ, ◌≤◌, Bool, true, ◌&&◌, List, [], ◌∷◌}
+use Rattle.std.specs.Prelude.{◌≡◌, ℕ, ◌≤◌, Bool, true, ◌&&◌, List, [], ◌∷◌, length}
 use Rattle.sc_compile.specs.GoodNames.{is_good_answer}
 use Rattle.sc_entry.specs.Keys.{is_store_key}
+use Rattle.sc_model.specs.declared.level.Policy.TheVariants.{Single}
+use Rattle.sc_script.specs.Levels.{is_driven}
+use Rattle.sc_script.specs.declared.level_rule.LevelRule.{LevelRule}
 use Rattle.sc_script.specs.declared.run_rule.RunRule.{RunRule}
 use Rattle.sc_script.specs.declared.script.Script.{Script}
 
@@ -9,6 +12,14 @@ use Rattle.sc_script.specs.declared.script.Script.{Script}
 abbrev pub are_store_keys : List (List ℕ × List ℕ) → Bool
 are_store_keys [] = true
 are_store_keys (h ∷ holds) = is_store_key h.0 && are_store_keys holds
+
+-- every level is of a kind that can be driven, and holds store keys alone
+abbrev pub is_good_level : LevelRule → Bool
+is_good_level r = is_driven r.kind && are_store_keys r.holds
+
+abbrev pub are_good_levels : List LevelRule → Bool
+are_good_levels [] = true
+are_good_levels (r ∷ rules) = is_good_level r && are_good_levels rules
 
 -- a workshop may give every answer
 abbrev pub are_good_runs : List RunRule → Bool
@@ -21,5 +32,7 @@ pub record IsGood (s : Script) : Type 0 where
   pub few_tokens : s.tokens ≤ 65535
   pub some_limit : 1 ≤ s.limit
   pub small_limit : s.limit ≤ 16777216
-  pub keys : are_store_keys s.holds ≡ true
+  pub levels : are_good_levels s.levels ≡ true
+  pub few_levels : length s.levels ≤ 16
+  pub one_level : s.policy ≡ Single → length s.levels ≡ 1
   pub answers : are_good_runs s.runs ≡ true

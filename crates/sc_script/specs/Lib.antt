@@ -1,9 +1,12 @@
 pub mod Reading
 pub mod Parts
 pub mod Fields
+pub mod Readers
+pub mod Requests
 pub mod Lines
 pub mod Inputs
 pub mod Frames
+pub mod Levels
 pub mod Scripts
 pub mod Tokens
 pub mod Numbers

@@ -5,36 +5,18 @@ use Rattle.sc_entry.specs.Tally.{Tally, count_of, counted}
 use Rattle.sc_entry.specs.declared.object.Object.{Object}
 use Rattle.sc_model.specs.declared.event.Objects.TheVariants.{Collected}
 use Rattle.sc_model.specs.declared.event.RunAnswer.TheVariants.{Output}
-use Rattle.sc_model.specs.declared.message.Request.{Request}
-use Rattle.sc_model.specs.declared.message.Request.TheVariants.{Compile}
-use Rattle.sc_model.specs.declared.message.Variable.{Variable}
-use Rattle.sc_script.specs.Reading.{Reader, only_if}
+use Rattle.sc_model.specs.declared.level.LevelKind.{LevelKind}
+use Rattle.sc_model.specs.declared.level.LevelKind.TheVariants.{Disk, Remote}
+use Rattle.sc_model.specs.declared.level.LevelPolicy.{LevelPolicy}
+use Rattle.sc_script.specs.Reading.{Reader}
 use Rattle.sc_script.specs.Reading.{◌>>=◌ as ◌then◌}
-use Rattle.sc_script.specs.Fields.{number_of, number_in, bytes_of_token, text_of_token, store_key_of, variable_of, object_of, status_of, kind_of, hex_of}
+use Rattle.sc_script.specs.Readers.{◌>>=◌, word, gives, field}
+use Rattle.sc_script.specs.Requests.{request_words}
+use Rattle.sc_script.specs.Fields.{number_of, number_in, bytes_of_token, text_of_token, store_key_of, object_of, status_of, kind_of, hex_of, policy_name_of, level_policy_of, level_kind_of, mode_of}
 use Rattle.sc_script.specs.declared.line.Line.{Line}
-use Rattle.sc_script.specs.declared.line.Line.TheVariants.{Version, Connections, Tokens, Limit, Level, Hold, Fail, Tool, Run, Bytes, Ask, Read, Serve}
+use Rattle.sc_script.specs.declared.line.Line.TheVariants.{Version, Connections, Tokens, Limit, Policy, Level, Hold, Fail, Tool, Run, Bytes, Ask, Read, Serve, Back}
 use Rattle.sc_script.specs.declared.lines.Keyword.{Keyword}
 use Rattle.sc_script.specs.declared.lines.Keyword.TheVariants as at
-
-abbrev pub word : Reader (List ℕ)
-word [] = None
-word (w ∷ ws) = Some (w, ws)
-
--- one reader after another
-infixl 10 ◌>>=◌
-abbrev pub ◌>>=◌ : {A B : Type 0} → Reader A → (A → Reader B) → Reader B
-(r >>= f) ws = r ws then (λ p. f p.0 p.1)
-
-abbrev pub gives : {A : Type 0} → A → Reader A
-gives x ws = Some (x, ws)
-
--- the next word, of which there must be one
-abbrev pub field : {A : Type 0} → (List ℕ → Option A) → Reader A
-field f ws = word ws then (λ p. f p.0 then (λ x. Some (x, p.1)))
-
--- a word that must be this one
-abbrev pub literal : List ℕ → List ℕ → Option (Unit {0})
-literal text w = only_if (bytes_eq w text) tt
 
 -- no name counted so far
 abbrev pub no_names : Tally
@@ -49,18 +31,6 @@ abbrev pub objects_onto : List Object → Tally → Reader (List Object)
 objects_onto sofar names [] = Some (sofar, [])
 objects_onto sofar names (w ∷ ws) =
     object_of w then (λ o. if is_new_object sofar names o then objects_onto (sofar ++ o ∷ []) (counted names o.name 1) ws else None)
-
--- tokens of all words that are left, behind those so far
-abbrev pub tokens_onto : List (List ℕ) → Reader (List (List ℕ))
-tokens_onto sofar [] = Some (sofar, [])
-tokens_onto sofar (w ∷ ws) = bytes_of_token w then (λ x. tokens_onto (sofar ++ x ∷ []) ws)
-
--- variables up to the word --, which is taken too
-abbrev pub variables_onto : List Variable → Reader (List Variable)
-variables_onto sofar [] = None
-variables_onto sofar (w ∷ ws) =
-    if bytes_eq w (codes "--") then Some (sofar, ws)
-    else variable_of w then (λ x. variables_onto (sofar ++ x ∷ []) ws)
 
 -- script 1
 unfoldable pub version_line : Reader Line
@@ -86,12 +56,30 @@ limit_line = do
   n ← field (number_in 1 16777216)
   gives (Limit n)
 
--- level remote rw
+-- policy NAME
+unfoldable pub policy_line : Reader Line
+policy_line = do
+  name ← field policy_name_of
+  gives (Policy name)
+
+-- a disk level's kind is followed by its capacity
+unfoldable pub capacity_words : LevelKind → Reader ℕ
+capacity_words Disk = field number_of
+capacity_words Remote = gives 0
+
+-- a level's own policy, which may be absent
+unfoldable pub own_policy : Reader (Option LevelPolicy)
+own_policy [] = Some (None, [])
+own_policy (w ∷ ws) = level_policy_of w then (λ p. Some (Some p, ws))
+
+-- level disk CAP MODE [POLICY], level remote MODE [POLICY]
 unfoldable pub level_line : Reader Line
 level_line = do
-  kind ← field (literal (codes "remote"))
-  mode ← field (literal (codes "rw"))
-  gives Level
+  kind ← field level_kind_of
+  capacity ← capacity_words kind
+  mode ← field mode_of
+  policy ← own_policy
+  gives (Level (record { kind = kind; capacity = capacity; mode = mode; policy = policy }))
 
 -- hold L KEY DATA
 unfoldable pub hold_line : Reader Line
@@ -136,21 +124,11 @@ bytes_line = do
   bytes ← field hex_of
   gives (Bytes connection bytes)
 
--- compile EXE CWD PAIR.. -- WORD..
-unfoldable pub compile_request : Reader Request
-compile_request = do
-  exe ← field bytes_of_token
-  cwd ← field bytes_of_token
-  env_vars ← variables_onto []
-  args ← tokens_onto []
-  gives (Compile (record { exe = exe; cwd = cwd; args = args; env_vars = env_vars }))
-
 -- ask C REQUEST
 unfoldable pub ask_line : Reader Line
 ask_line = do
   connection ← field number_of
-  kind ← field (literal (codes "compile"))
-  request ← compile_request
+  request ← request_words
   gives (Ask connection request)
 
 -- read C N
@@ -171,6 +149,12 @@ serve_line = do
   times ← times_of
   gives (Serve connection times)
 
+-- back I
+unfoldable pub back_line : Reader Line
+back_line = do
+  write ← field number_of
+  gives (Back write)
+
 -- a line's first word says its kind
 unfoldable pub keyword_of : List ℕ → Option Keyword
 keyword_of w =
@@ -178,6 +162,7 @@ keyword_of w =
     else if bytes_eq w (codes "conns") then Some at.Connections
     else if bytes_eq w (codes "tokens") then Some at.Tokens
     else if bytes_eq w (codes "limit") then Some at.Limit
+    else if bytes_eq w (codes "policy") then Some at.Policy
     else if bytes_eq w (codes "level") then Some at.Level
     else if bytes_eq w (codes "hold") then Some at.Hold
     else if bytes_eq w (codes "fail") then Some at.Fail
@@ -187,6 +172,7 @@ keyword_of w =
     else if bytes_eq w (codes "ask") then Some at.Ask
     else if bytes_eq w (codes "read") then Some at.Read
     else if bytes_eq w (codes "serve") then Some at.Serve
+    else if bytes_eq w (codes "back") then Some at.Back
     else None
 
 unfoldable pub body : Keyword → Reader Line
@@ -194,6 +180,7 @@ body at.Version = version_line
 body at.Connections = connections_line
 body at.Tokens = tokens_line
 body at.Limit = limit_line
+body at.Policy = policy_line
 body at.Level = level_line
 body at.Hold = hold_line
 body at.Fail = fail_line
@@ -203,6 +190,7 @@ body at.Bytes = bytes_line
 body at.Ask = ask_line
 body at.Read = read_line
 body at.Serve = serve_line
+body at.Back = back_line
 
 -- no word is left over
 abbrev pub whole : Option (Line × List (List ℕ)) → Option Line

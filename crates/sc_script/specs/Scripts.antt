@@ -1,19 +1,23 @@
 -- When a script is good, what it says, and which of its lines is the first bad one.
-use Rattle.std.specs.Prelude.{◌≡◌, ℕ, ◌+◌, List, [], ◌∷◌, ◌++◌, length, take, replicate, Option, Some, None, is_none, Result, Ok, Err, Bool, true, false, not, ◌&&◌, ◌==◌, nat_lt, nat_le, if◌then◌else◌, unwrap_or, codes, decimal}
+use Rattle.std.specs.Prelude.{◌≡◌, ℕ, ◌+◌, List, [], ◌∷◌, ◌++◌, length, take, replicate, Option, Some, None, is_none, Result, Ok, Err, Bool, true, false, not, ◌&&◌, ◌==◌, nat_lt, nat_le, if◌then◌else◌, unwrap_or, option_to_list, codes, decimal}
 use Rattle.std.specs.FinMap as map
 use Rattle.sc_script.specs.declared.run_rule.RunRule.{RunRule}
 use Rattle.sc_compile.specs.declared.tool.Tool.{Tool as Told}
 use Rattle.sc_entry.specs.Tally.{count_of, counted}
-use Rattle.sc_model.specs.declared.event.Step.TheVariants.{Read as ReadStep, Serve as ServeStep}
+use Rattle.sc_model.specs.declared.event.Step.TheVariants.{Back as BackStep, Read as ReadStep, Serve as ServeStep}
 use Rattle.sc_script.specs.Reading.{◌>>=◌, only_if}
 use Rattle.sc_script.specs.Parts.{words_of, parts_of}
 use Rattle.sc_script.specs.Lines.{line_of_words}
 use Rattle.sc_script.specs.Inputs.{appended}
 use Rattle.sc_script.specs.Frames.{frame_of}
+use Rattle.sc_script.specs.Levels.{changed, fits_word, has_its_levels, is_driven, policy_of, rule_of, with_call, with_key}
 use Rattle.sc_script.specs.declared.line.HoldLine.{HoldLine}
+use Rattle.sc_script.specs.declared.line.LevelLine.{LevelLine}
 use Rattle.sc_script.specs.declared.line.Line.{Line}
-use Rattle.sc_script.specs.declared.line.Line.TheVariants.{Version, Connections, Tokens, Limit, Level, Hold, Fail, Tool, Run, Bytes, Ask, Read, Serve}
+use Rattle.sc_script.specs.declared.line.Line.TheVariants.{Version, Connections, Tokens, Limit, Policy, Level, Hold, Fail, Tool, Run, Bytes, Ask, Read, Serve, Back}
 use Rattle.sc_script.specs.declared.draft.Draft.{Draft}
+use Rattle.sc_script.specs.declared.policies.PolicyName.{PolicyName}
+use Rattle.sc_script.specs.declared.policies.PolicyName.TheVariants as named
 use Rattle.sc_script.specs.declared.script.Script.{Script}
 use Rattle.sc_script.specs.declared.script.ScriptError.{ScriptError}
 use Rattle.sc_script.specs.declared.script.ScriptError.TheVariants.{Memory, Bad}
@@ -26,10 +30,10 @@ nothing = record {
   connected = false;
   tokens = None;
   limit = None;
-  levels = 0;
+  policy = None;
+  words = [];
+  levels = [];
   held = map.empty;
-  holds = [];
-  fails = [];
   tools = [];
   runs = [];
   inputs = [];
@@ -37,7 +41,7 @@ nothing = record {
 }
 
 abbrev pub is_level : ℕ → Draft → Bool
-is_level level d = nat_lt level d.levels
+is_level level d = nat_lt level (length d.levels)
 
 abbrev pub is_connection : ℕ → Draft → Bool
 is_connection c d = nat_lt c (length d.inputs)
@@ -67,18 +71,35 @@ with_tokens d n = only_if (may_set d && is_none d.tokens) (record d { tokens = S
 unfoldable pub with_limit : Draft → ℕ → Option Draft
 with_limit d n = only_if (may_set d && is_none d.limit) (record d { limit = Some n })
 
+-- how the levels are written, where no line says it yet
+abbrev pub policy_name : Draft → PolicyName
+policy_name d = unwrap_or d.policy named.Single
+
+-- that each level has a policy of its own is said before the first level
+abbrev pub is_in_time : PolicyName → Draft → Bool
+is_in_time named.Levels d = length d.levels == 0
+is_in_time _ d = true
+
+unfoldable pub with_policy : Draft → PolicyName → Option Draft
+with_policy d name = only_if (may_set d && is_none d.policy && is_in_time name d) (record d { policy = Some name })
+
 -- at most sixteen levels
-unfoldable pub with_level : Draft → Option Draft
-with_level d = only_if (d.begun && nat_lt d.levels 16) (record d { levels = d.levels + 1 })
+abbrev pub takes_level : Draft → LevelLine → Bool
+takes_level d l = nat_lt (length d.levels) 16 && is_driven l.kind && fits_word (policy_name d) l.policy
+
+unfoldable pub with_level : Draft → LevelLine → Option Draft
+with_level d l =
+    only_if (d.begun && takes_level d l)
+    (record d { levels = d.levels ++ rule_of l ∷ []; words = d.words ++ option_to_list l.policy })
 
 -- a key that the level doesn't hold yet
 unfoldable pub with_hold : Draft → HoldLine → Option Draft
 with_hold d h =
     only_if (d.begun && is_level h.level d && count_of d.held (held_name h.level h.key) == 0)
-    (record d { held = counted d.held (held_name h.level h.key) 1; holds = d.holds ++ (h.key, h.bytes) ∷ [] })
+    (record d { held = counted d.held (held_name h.level h.key) 1; levels = changed d.levels h.level (with_key h.key h.bytes) })
 
 unfoldable pub with_fail : Draft → ℕ → ℕ → Option Draft
-with_fail d level call = only_if (d.begun && is_level level d) (record d { fails = d.fails ++ call ∷ [] })
+with_fail d level call = only_if (d.begun && is_level level d) (record d { levels = changed d.levels level (with_call call) })
 
 unfoldable pub with_tool : Draft → Told → Option Draft
 with_tool d tool = only_if d.begun (record d { tools = d.tools ++ tool ∷ [] })
@@ -101,13 +122,18 @@ with_serve d c times =
     only_if (d.begun && is_connection c d && has_room times d)
     (record d { steps = d.steps ++ replicate times (ServeStep c); started = true })
 
+-- a step at a write in the background, which needn't be there
+unfoldable pub with_back : Draft → ℕ → Option Draft
+with_back d write = only_if (d.begun && has_room 1 d) (record d { steps = d.steps ++ BackStep write ∷ []; started = true })
+
 -- one more line, where it may stand there
 unfoldable pub with_line : Draft → Line → Option Draft
 with_line d Version = with_version d
 with_line d (Connections n) = with_connections d n
 with_line d (Tokens n) = with_tokens d n
 with_line d (Limit n) = with_limit d n
-with_line d Level = with_level d
+with_line d (Policy name) = with_policy d name
+with_line d (Level l) = with_level d l
 with_line d (Hold h) = with_hold d h
 with_line d (Fail level call) = with_fail d level call
 with_line d (Tool tool) = with_tool d tool
@@ -116,6 +142,7 @@ with_line d (Bytes c bytes) = with_bytes d c bytes
 with_line d (Ask c request) = with_bytes d c (frame_of request)
 with_line d (Read c most) = with_read d c most
 with_line d (Serve c times) = with_serve d c times
+with_line d (Back write) = with_back d write
 
 unfoldable pub with_text : Draft → List ℕ → Option Draft
 with_text d line = line_of_words (words_of line) >>= (λ l. with_line d l)
@@ -126,8 +153,8 @@ script_from d = record {
   inputs = d.inputs;
   tokens = unwrap_or d.tokens 1;
   limit = unwrap_or d.limit 8388608;
-  holds = d.holds;
-  fails = d.fails;
+  policy = policy_of (policy_name d) (length d.levels) d.words;
+  levels = d.levels;
   tools = d.tools;
   runs = d.runs;
   steps = d.steps;
@@ -135,7 +162,7 @@ script_from d = record {
 
 -- Behind the last line: a single store is exactly one level, else the line behind the last is bad.
 abbrev pub finished : ℕ → Draft → Result Script ℕ
-finished n d = if d.begun && d.levels == 1 then Ok (script_from d) else Err n
+finished n d = if d.begun && has_its_levels (policy_name d) (length d.levels) then Ok (script_from d) else Err n
 
 abbrev pub go_on : ℕ → Option Draft → (Draft → Result Script ℕ) → Result Script ℕ
 go_on n None rest = Err n

@@ -1,19 +1,25 @@
 //! A script that is read line by line, and where its lines may stand.
-ghost use Rattle.std.specs.Prelude.{◌≡◌, ◌++◌, OnOk, IfOk, replicate};
+ghost use Rattle.std.specs.Prelude.{◌≡◌, ◌++◌, OnOk, IfOk, option_to_list, replicate};
 ghost use Rattle.sc_model.specs.declared.event.Step.TheVariants.{Serve};
 ghost use Rattle.sc_script.specs.Reading.{Leaves};
-ghost use Rattle.sc_script.specs.Scripts.{nothing, is_level, is_connection, has_room, may_set, held_name, with_version, with_connections, with_tokens, with_limit, with_level, with_hold, with_fail, with_tool, with_run, with_bytes, with_read, with_serve, with_line, finished, Answers};
+ghost use Rattle.sc_script.specs.Scripts.{nothing, is_level, is_connection, has_room, may_set, held_name, policy_name, is_in_time, takes_level, with_version, with_connections, with_tokens, with_limit, with_policy, with_level, with_hold, with_fail, with_tool, with_run, with_bytes, with_read, with_serve, with_back, with_line, finished, Answers};
 
 use crate::fault::LineError;
 use crate::frames::frame;
 use crate::inputs::Inputs;
-use crate::line::{HoldLine, Line};
+use crate::level_rule::LevelRule;
+use crate::level_rules::LevelRules;
+use crate::line::{HoldLine, LevelLine, Line};
+use crate::policies::{PolicyName, fits_word, has_its_levels, is_driven, policy_of};
 use crate::run_rule::RunRule;
 use crate::script::{Script, ScriptError};
 use sc_compile::Tool;
-use sc_entry::{ByteText, Counts, Items, NoMemory, Text};
-use sc_model::Step;
+use sc_entry::{Counts, Items, NoMemory, Text};
+use sc_model::{LevelPolicy, Step};
 use std::alloc::Global;
+
+/// The most levels that a script may have.
+const MOST_LEVELS: usize = 16;
 
 /// The most steps that a script may have, each repeat counted.
 const MOST_STEPS: u64 = 10_000_000;
@@ -29,11 +35,12 @@ pub struct Draft {
     pub connected: bool,
     pub tokens: Option<u64>,
     pub limit: Option<u64>,
-    pub levels: u64,
+    pub policy: Option<PolicyName>,
+    /// The levels' own policies.
+    pub words: Items<LevelPolicy>,
+    pub levels: LevelRules,
     /// Each level's keys that are held.
     pub held: Counts,
-    pub holds: Items<(Text, ByteText)>,
-    pub fails: Items<u64>,
     pub tools: Items<Tool>,
     pub runs: Items<RunRule>,
     pub inputs: Inputs,
@@ -58,6 +65,16 @@ fn serve_often(steps: &mut Items<Step>, connection: u64, times: u64) -> Result<(
     Ok(())
 }
 
+/// Adds a level's own policy, where it has one.
+fn push_word(words: &mut Items<LevelPolicy>, word: Option<LevelPolicy>) -> Result<(), NoMemory>
+    ensures { OnOk result (words.new ≡ words.old ++ option_to_list word) }
+{
+    match word {
+        None => Ok(()),
+        Some(policy) => words.push(policy),
+    }
+}
+
 impl Draft {
     /// Before the first line.
     pub fn new(alloc: Global) -> Draft
@@ -69,10 +86,10 @@ impl Draft {
             connected: false,
             tokens: None,
             limit: None,
-            levels: 0,
+            policy: None,
+            words: Items::new(alloc),
+            levels: LevelRules::none(alloc),
             held: Counts::new(alloc),
-            holds: Items::new(alloc),
-            fails: Items::new(alloc),
             tools: Items::new(alloc),
             runs: Items::new(alloc),
             inputs: Inputs::none(alloc),
@@ -83,7 +100,7 @@ impl Draft {
     fn is_level(&self, level: u64) -> bool
         ensures { result ≡ is_level level self.now }
     {
-        level < self.levels
+        level < self.levels.len() as u64
     }
 
     fn is_connection(&self, connection: u64) -> bool
@@ -151,14 +168,56 @@ impl Draft {
         Ok(())
     }
 
-    #[tactic(auto, unfolding(crate::specs::Scripts::with_level))]
-    fn add_level(&mut self) -> Result<(), LineError>
-        ensures { Leaves (with_level self.old) result self.new }
+    /// How the levels are written, where no line says it yet.
+    fn policy_name(&self) -> PolicyName
+        ensures { result ≡ policy_name self.now }
     {
-        if !self.begun || self.levels >= 16 {
+        self.policy.unwrap_or(PolicyName::Single)
+    }
+
+    fn is_in_time(&self, name: PolicyName) -> bool
+        ensures { result ≡ is_in_time name self.now }
+    {
+        match name {
+            PolicyName::Levels => self.levels.len() == 0,
+            _ => true,
+        }
+    }
+
+    #[tactic(auto, unfolding(crate::specs::Scripts::with_policy))]
+    fn add_policy(&mut self, name: PolicyName) -> Result<(), LineError>
+        ensures { Leaves (with_policy self.old name) result self.new }
+    {
+        if !self.may_set() || self.policy.is_some() || !self.is_in_time(name) {
             return Err(LineError::Bad);
         }
-        self.levels += 1;
+        self.policy = Some(name);
+        Ok(())
+    }
+
+    fn takes_level(&self, level: LevelLine) -> bool
+        ensures { result ≡ takes_level self.now level }
+    {
+        self.levels.len() < MOST_LEVELS
+            && is_driven(level.kind)
+            && fits_word(self.policy_name(), level.policy)
+    }
+
+    #[tactic(auto, unfolding(crate::specs::Scripts::with_level))]
+    fn add_level(&mut self, alloc: Global, level: LevelLine) -> Result<(), LineError>
+        ensures { Leaves (with_level self.old level) result self.new }
+    {
+        if !self.begun || !self.takes_level(level) {
+            return Err(LineError::Bad);
+        }
+        push_word(&mut self.words, level.policy)?;
+        self.levels.push(LevelRule {
+            kind: level.kind,
+            capacity: level.capacity,
+            mode: level.mode,
+            holds: Items::new(alloc),
+            fails: Items::new(alloc),
+        })?;
         Ok(())
     }
 
@@ -171,7 +230,7 @@ impl Draft {
             return Err(LineError::Bad);
         }
         self.held.add(&name, 1)?;
-        self.holds.push((hold.key, hold.bytes))?;
+        self.levels.hold(hold.level as usize, hold.key, hold.bytes)?;
         Ok(())
     }
 
@@ -182,7 +241,7 @@ impl Draft {
         if !self.begun || !self.is_level(level) {
             return Err(LineError::Bad);
         }
-        self.fails.push(call)?;
+        self.levels.fail(level as usize, call)?;
         Ok(())
     }
 
@@ -244,6 +303,18 @@ impl Draft {
         Ok(())
     }
 
+    #[tactic(auto, unfolding(crate::specs::Scripts::with_back))]
+    fn add_back(&mut self, write: u64) -> Result<(), LineError>
+        ensures { Leaves (with_back self.old write) result self.new }
+    {
+        if !self.begun || !self.has_room(1) {
+            return Err(LineError::Bad);
+        }
+        self.steps.push(Step::Back(write))?;
+        self.started = true;
+        Ok(())
+    }
+
     /// Adds a line, where it may stand here.
     #[tactic(auto, unfolding(crate::specs::Scripts::with_line))]
     pub fn add(&mut self, alloc: Global, line: Line) -> Result<(), LineError>
@@ -254,7 +325,8 @@ impl Draft {
             Line::Connections(connections) => self.add_connections(alloc, connections),
             Line::Tokens(tokens) => self.add_tokens(tokens),
             Line::Limit(limit) => self.add_limit(limit),
-            Line::Level => self.add_level(),
+            Line::Policy(name) => self.add_policy(name),
+            Line::Level(level) => self.add_level(alloc, level),
             Line::Hold(hold) => self.add_hold(alloc, hold),
             Line::Fail { level, call } => self.add_fail(level, call),
             Line::Tool(tool) => self.add_tool(tool),
@@ -269,22 +341,28 @@ impl Draft {
             }
             Line::Read { connection, most } => self.add_read(connection, most),
             Line::Serve { connection, times } => self.add_serve(connection, times),
+            Line::Back(write) => self.add_back(write),
         }
     }
 
     /// The script that the lines so far are, where `number` counts the line behind the last.
-    pub fn finish(self, number: u64) -> Result<Script, ScriptError>
+    pub fn finish(self, alloc: Global, number: u64) -> Result<Script, ScriptError>
         ensures { Answers (finished number self) result }
     {
-        if !self.begun || self.levels != 1 {
+        let name = self.policy_name();
+        let levels = self.levels.len();
+        if !self.begun || !has_its_levels(name, levels) {
             return Err(ScriptError::Bad(number));
         }
+        let Ok(policy) = policy_of(alloc, name, levels, self.words) else {
+            return Err(ScriptError::Memory);
+        };
         Ok(Script {
             inputs: self.inputs.into_items(),
             tokens: self.tokens.unwrap_or(1),
             limit: self.limit.unwrap_or(8_388_608),
-            holds: self.holds,
-            fails: self.fails,
+            policy,
+            levels: self.levels.into_items(),
             tools: self.tools,
             runs: self.runs,
             steps: self.steps,

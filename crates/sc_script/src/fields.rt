@@ -4,14 +4,15 @@ ghost use Rattle.std.specs.Option.{option_map};
 ghost use Rattle.std.specs.Str.{is_utf8};
 ghost use Rattle.sc_entry.specs.Keys.{is_key_byte, are_key_bytes, is_store_key};
 ghost use Rattle.sc_script.specs.Reading.{Means};
-ghost use Rattle.sc_script.specs.Fields.{digits_onto, number_of, number_in, stands, hex_digit, byte_of, bytes_onto, escape_onto, bytes_after, bytes_of_token, text_of_bytes, text_of_token, store_key_of, pair_of, variable_of, is_object_name, object_of, status_of, kind_of, hex_of};
+ghost use Rattle.sc_script.specs.Fields.{digits_onto, number_of, number_in, stands, hex_digit, byte_of, bytes_onto, escape_onto, bytes_after, bytes_of_token, text_of_bytes, text_of_token, store_key_of, pair_of, variable_of, is_object_name, object_of, status_of, kind_of, hex_of, policy_name_of, level_policy_of, level_kind_of, mode_of};
 
 use crate::fault::LineError;
 use crate::parts::cut;
+use crate::policies::PolicyName;
 use hex::FromHexError;
 use sc_compile::ToolKind;
-use sc_entry::{ByteText, Object, Text};
-use sc_model::{CCompilerKind, CompilerKind, Status, Variable};
+use sc_entry::{ByteText, CacheMode, Object, Text};
+use sc_model::{CCompilerKind, CompilerKind, LevelKind, LevelPolicy, Status, Variable};
 use std::alloc::Global;
 
 fn digits(number: u64, word: &[u8]) -> Option<u64>
@@ -286,4 +287,71 @@ pub fn hex_bytes(alloc: Global, word: &[u8]) -> Result<ByteText, LineError>
         Err(FromHexError::OutOfMemory) => Err(LineError::Memory),
         Err(_) => Err(LineError::Bad),
     }
+}
+
+/// How the levels are written.
+#[tactic(auto, unfolding(crate::specs::Fields::policy_name_of))]
+pub fn policy_name(word: &[u8]) -> Result<PolicyName, LineError>
+    ensures { Means (policy_name_of word.now) result }
+{
+    if word == b"single".as_slice() {
+        return Ok(PolicyName::Single);
+    }
+    if word == b"ignore".as_slice() {
+        return Ok(PolicyName::Ignore);
+    }
+    if word == b"l0".as_slice() {
+        return Ok(PolicyName::L0);
+    }
+    if word == b"all".as_slice() {
+        return Ok(PolicyName::All);
+    }
+    if word == b"levels".as_slice() {
+        return Ok(PolicyName::Levels);
+    }
+    Err(LineError::Bad)
+}
+
+/// When one level is written.
+#[tactic(auto, unfolding(crate::specs::Fields::level_policy_of))]
+pub fn level_policy(word: &[u8]) -> Result<LevelPolicy, LineError>
+    ensures { Means (level_policy_of word.now) result }
+{
+    if word == b"required".as_slice() {
+        return Ok(LevelPolicy::Required);
+    }
+    if word == b"background".as_slice() {
+        return Ok(LevelPolicy::Background);
+    }
+    if word == b"off".as_slice() {
+        return Ok(LevelPolicy::Off);
+    }
+    Err(LineError::Bad)
+}
+
+#[tactic(auto, unfolding(crate::specs::Fields::level_kind_of))]
+pub fn level_kind(word: &[u8]) -> Result<LevelKind, LineError>
+    ensures { Means (level_kind_of word.now) result }
+{
+    if word == b"disk".as_slice() {
+        return Ok(LevelKind::Disk);
+    }
+    if word == b"remote".as_slice() {
+        return Ok(LevelKind::Remote);
+    }
+    Err(LineError::Bad)
+}
+
+/// Whether a level may be written.
+#[tactic(auto, unfolding(crate::specs::Fields::mode_of))]
+pub fn mode(word: &[u8]) -> Result<CacheMode, LineError>
+    ensures { Means (mode_of word.now) result }
+{
+    if word == b"rw".as_slice() {
+        return Ok(CacheMode::ReadWrite);
+    }
+    if word == b"ro".as_slice() {
+        return Ok(CacheMode::ReadOnly);
+    }
+    Err(LineError::Bad)
 }

@@ -10,11 +10,17 @@ mod frames;
 mod good_laws;
 mod inputs;
 mod laws;
+mod level_rule;
+mod level_rules;
+#[cfg(test)]
+mod level_tests;
 mod line;
 mod lines;
 mod parts;
+mod policies;
 mod reading;
 mod replies;
+mod requests;
 mod run_rule;
 mod script;
 #[cfg(test)]
@@ -25,6 +31,7 @@ mod words;
 pub use counters::put_counters;
 pub use good_laws::read_scripts_are_good;
 pub use laws::{numbers_are_read_again, tokens_are_read_again};
+pub use level_rule::LevelRule;
 pub use reading::read_script;
 pub use replies::put_reply;
 pub use run_rule::RunRule;

@@ -1,8 +1,19 @@
 //! What a line of a script says.
+use crate::policies::PolicyName;
 use crate::run_rule::RunRule;
 use sc_compile::Tool;
-use sc_entry::{ByteText, Text};
-use sc_model::Request;
+use sc_entry::{ByteText, CacheMode, Text};
+use sc_model::{LevelKind, LevelPolicy, Request};
+
+/// A level, with its own policy where the line ends in one.
+#[derive(Clone, Copy)]
+pub struct LevelLine {
+    pub kind: LevelKind,
+    /// How many bytes a disk level may hold; 0 at a remote one.
+    pub capacity: u64,
+    pub mode: CacheMode,
+    pub policy: Option<LevelPolicy>,
+}
 
 /// What a level holds at the start.
 #[derive(Drop)]
@@ -19,8 +30,8 @@ pub enum Line {
     Connections(u64),
     Tokens(u64),
     Limit(u64),
-    /// A remote level that may be written.
-    Level,
+    Policy(PolicyName),
+    Level(LevelLine),
     Hold(HoldLine),
     /// The call on a level's device that fails.
     Fail { level: u64, call: u64 },
@@ -32,4 +43,6 @@ pub enum Line {
     Ask { connection: u64, request: Request },
     Read { connection: u64, most: u64 },
     Serve { connection: u64, times: u64 },
+    /// A step at a write in the background.
+    Back(u64),
 }

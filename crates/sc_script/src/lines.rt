@@ -1,18 +1,20 @@
 //! Lines, kind by kind.
 ghost use Rattle.std.specs.Prelude.{◌≡◌, []};
 ghost use Rattle.sc_script.specs.Reading.{Means, Reads};
-ghost use Rattle.sc_script.specs.Lines.{version_line, connections_line, tokens_line, limit_line, level_line, hold_line, fail_line, tool_line, run_line, bytes_line, compile_request, ask_line, read_line, times_of, serve_line, keyword_of, body, line_of_words, objects_onto, no_names, is_new_object, tokens_onto, variables_onto, literal};
+ghost use Rattle.sc_script.specs.Lines.{version_line, connections_line, tokens_line, limit_line, policy_line, capacity_words, own_policy, level_line, hold_line, fail_line, tool_line, run_line, bytes_line, ask_line, read_line, times_of, serve_line, back_line, keyword_of, body, line_of_words, objects_onto, no_names, is_new_object};
 
 use crate::fault::LineError;
 use crate::fields::{
-    hex_bytes, kind, number, number_within, object, status, store_key, text_token, token, variable,
+    hex_bytes, kind, level_kind, level_policy, mode, number, number_within, object, policy_name,
+    status, store_key, text_token, token,
 };
-use crate::line::{HoldLine, Line};
+use crate::line::{HoldLine, LevelLine, Line};
 use crate::parts::Words;
+use crate::requests::request_words;
 use crate::run_rule::RunRule;
 use sc_compile::Tool;
-use sc_entry::{ByteText, Counts, Items, Object};
-use sc_model::{Compile, Objects, Output, Request, RunAnswer, RunOutput, Variable};
+use sc_entry::{Counts, Items, Object};
+use sc_model::{LevelKind, LevelPolicy, Objects, Output, RunAnswer, RunOutput};
 use std::alloc::Global;
 
 /// The kinds of lines.
@@ -22,6 +24,7 @@ pub enum Keyword {
     Connections,
     Tokens,
     Limit,
+    Policy,
     Level,
     Hold,
     Fail,
@@ -31,15 +34,7 @@ pub enum Keyword {
     Ask,
     Read,
     Serve,
-}
-
-fn literal(text: &[u8], word: &[u8]) -> Result<(), LineError>
-    ensures { Means (literal text.now word.now) result }
-{
-    if word == text {
-        return Ok(());
-    }
-    Err(LineError::Bad)
+    Back,
 }
 
 fn is_new_object(sofar: &[Object], names: &Counts, object: &Object) -> bool
@@ -62,29 +57,6 @@ fn objects(alloc: Global, words: &mut Words<'_>) -> Result<Items<Object>, LineEr
         items.push(object)?;
     }
     Ok(items)
-}
-
-fn tokens(alloc: Global, words: &mut Words<'_>) -> Result<Items<ByteText>, LineError>
-    ensures { Reads (tokens_onto [] words.old) result words.new }
-{
-    let mut items = Items::new(alloc);
-    while let Some(word) = words.next() {
-        items.push(token(alloc, word)?)?;
-    }
-    Ok(items)
-}
-
-fn variables(alloc: Global, words: &mut Words<'_>) -> Result<Items<Variable>, LineError>
-    ensures { Reads (variables_onto [] words.old) result words.new }
-{
-    let mut items = Items::new(alloc);
-    while let Some(word) = words.next() {
-        if word == b"--".as_slice() {
-            return Ok(items);
-        }
-        items.push(variable(alloc, word)?)?;
-    }
-    Err(LineError::Bad)
 }
 
 #[tactic(auto, unfolding(crate::specs::Lines::version_line))]
@@ -119,13 +91,51 @@ fn limit_line(words: &mut Words<'_>) -> Result<Line, LineError>
     Ok(Line::Limit(limit))
 }
 
+#[tactic(auto, unfolding(crate::specs::Lines::policy_line))]
+fn policy_line(words: &mut Words<'_>) -> Result<Line, LineError>
+    ensures { Reads (policy_line words.old) result words.new }
+{
+    let name = policy_name(words.word()?)?;
+    Ok(Line::Policy(name))
+}
+
+#[tactic(auto, unfolding(crate::specs::Lines::capacity_words))]
+fn capacity_words(kind: LevelKind, words: &mut Words<'_>) -> Result<u64, LineError>
+    ensures { Reads (capacity_words kind words.old) result words.new }
+{
+    match kind {
+        LevelKind::Disk => number(words.word()?),
+        LevelKind::Remote => Ok(0),
+    }
+}
+
+#[tactic(auto, unfolding(crate::specs::Lines::own_policy))]
+fn own_policy(words: &mut Words<'_>) -> Result<Option<LevelPolicy>, LineError>
+    ensures { Reads (own_policy words.old) result words.new }
+{
+    match words.next() {
+        None => Ok(None),
+        Some(word) => {
+            let policy = level_policy(word)?;
+            Ok(Some(policy))
+        }
+    }
+}
+
 #[tactic(auto, unfolding(crate::specs::Lines::level_line))]
 fn level_line(words: &mut Words<'_>) -> Result<Line, LineError>
     ensures { Reads (level_line words.old) result words.new }
 {
-    literal(b"remote", words.word()?)?;
-    literal(b"rw", words.word()?)?;
-    Ok(Line::Level)
+    let kind = level_kind(words.word()?)?;
+    let capacity = capacity_words(kind, words)?;
+    let mode = mode(words.word()?)?;
+    let policy = own_policy(words)?;
+    Ok(Line::Level(LevelLine {
+        kind,
+        capacity,
+        mode,
+        policy,
+    }))
 }
 
 #[tactic(auto, unfolding(crate::specs::Lines::hold_line))]
@@ -188,29 +198,12 @@ fn bytes_line(alloc: Global, words: &mut Words<'_>) -> Result<Line, LineError>
     Ok(Line::Bytes { connection, bytes })
 }
 
-#[tactic(auto, unfolding(crate::specs::Lines::compile_request))]
-fn compile_request(alloc: Global, words: &mut Words<'_>) -> Result<Request, LineError>
-    ensures { Reads (compile_request words.old) result words.new }
-{
-    let exe = token(alloc, words.word()?)?;
-    let cwd = token(alloc, words.word()?)?;
-    let env_vars = variables(alloc, words)?;
-    let args = tokens(alloc, words)?;
-    Ok(Request::Compile(Compile {
-        exe,
-        cwd,
-        args,
-        env_vars,
-    }))
-}
-
 #[tactic(auto, unfolding(crate::specs::Lines::ask_line))]
 fn ask_line(alloc: Global, words: &mut Words<'_>) -> Result<Line, LineError>
     ensures { Reads (ask_line words.old) result words.new }
 {
     let connection = number(words.word()?)?;
-    literal(b"compile", words.word()?)?;
-    let request = compile_request(alloc, words)?;
+    let request = request_words(alloc, words)?;
     Ok(Line::Ask {
         connection,
         request,
@@ -245,6 +238,14 @@ fn serve_line(words: &mut Words<'_>) -> Result<Line, LineError>
     Ok(Line::Serve { connection, times })
 }
 
+#[tactic(auto, unfolding(crate::specs::Lines::back_line))]
+fn back_line(words: &mut Words<'_>) -> Result<Line, LineError>
+    ensures { Reads (back_line words.old) result words.new }
+{
+    let write = number(words.word()?)?;
+    Ok(Line::Back(write))
+}
+
 #[tactic(auto, unfolding(crate::specs::Lines::keyword_of))]
 fn first_word(word: &[u8]) -> Result<Keyword, LineError>
     ensures { Means (keyword_of word.now) result }
@@ -260,6 +261,9 @@ fn first_word(word: &[u8]) -> Result<Keyword, LineError>
     }
     if word == b"limit".as_slice() {
         return Ok(Keyword::Limit);
+    }
+    if word == b"policy".as_slice() {
+        return Ok(Keyword::Policy);
     }
     if word == b"level".as_slice() {
         return Ok(Keyword::Level);
@@ -288,6 +292,9 @@ fn first_word(word: &[u8]) -> Result<Keyword, LineError>
     if word == b"serve".as_slice() {
         return Ok(Keyword::Serve);
     }
+    if word == b"back".as_slice() {
+        return Ok(Keyword::Back);
+    }
     Err(LineError::Bad)
 }
 
@@ -300,6 +307,7 @@ fn body(alloc: Global, keyword: Keyword, words: &mut Words<'_>) -> Result<Line, 
         Keyword::Connections => connections_line(words),
         Keyword::Tokens => tokens_line(words),
         Keyword::Limit => limit_line(words),
+        Keyword::Policy => policy_line(words),
         Keyword::Level => level_line(words),
         Keyword::Hold => hold_line(alloc, words),
         Keyword::Fail => fail_line(words),
@@ -309,6 +317,7 @@ fn body(alloc: Global, keyword: Keyword, words: &mut Words<'_>) -> Result<Line, 
         Keyword::Ask => ask_line(alloc, words),
         Keyword::Read => read_line(words),
         Keyword::Serve => serve_line(words),
+        Keyword::Back => back_line(words),
     }
 }
 

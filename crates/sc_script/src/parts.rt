@@ -3,7 +3,7 @@ ghost use Rattle.std.specs.Prelude.{◌≡◌, ◌<◌, length, IfSome};
 ghost use Rattle.std.specs.Option.{option_copied, option_map};
 ghost use Rattle.sc_script.specs.Reading.{ReadsBy};
 ghost use Rattle.sc_script.specs.Parts.{words_of, words_left, Pops, cut_at, CutAt};
-ghost use Rattle.sc_script.specs.Lines.{word};
+ghost use Rattle.sc_script.specs.Readers.{word};
 
 use crate::fault::LineError;
 use memchr::memchr;

@@ -40,7 +40,7 @@ fn lines(alloc: Global, text: &[u8], whole: bool) -> Result<Script, ScriptError>
         rest = after;
     }
     if whole && rest.is_empty() {
-        return draft.finish(number);
+        return draft.finish(alloc, number);
     }
     Err(ScriptError::Bad(number))
 }

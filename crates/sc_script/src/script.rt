@@ -1,8 +1,9 @@
 //! What a script says.
+use crate::level_rule::LevelRule;
 use crate::run_rule::RunRule;
 use sc_compile::Tool;
-use sc_entry::{ByteText, Items, Text};
-use sc_model::Step;
+use sc_entry::{ByteText, Items};
+use sc_model::{Policy, Step};
 
 /// What a good script says.
 #[derive(Drop)]
@@ -12,10 +13,10 @@ pub struct Script {
     pub tokens: u64,
     /// How many bytes a frame's payload may have.
     pub limit: u64,
-    /// What the level holds at the start, each key once, in the order of the lines.
-    pub holds: Items<(Text, ByteText)>,
-    /// The numbers of the calls on the level's device that fail, counted from 1; a 0 is without effect.
-    pub fails: Items<u64>,
+    /// How the levels are written.
+    pub policy: Policy,
+    /// The levels in their order.
+    pub levels: Items<LevelRule>,
     pub tools: Items<Tool>,
     pub runs: Items<RunRule>,
     /// Each step by itself: a line with a count stands for so many.

@@ -44,15 +44,17 @@ fn ample_read_script(rt: HostRuntime) -> Result<(), Fail> {
         sizes.push(input.len())?;
     }
     assert_eq!(rt; sizes.as_slice(), [87 + 53, 2].as_slice());
-    for (_, held) in script.holds.as_slice() {
-        assert_eq!(rt; held.as_slice(), b"a b".as_slice());
+    for level in script.levels.as_slice() {
+        assert_eq!(rt; level.fails.as_slice(), [2].as_slice());
+        for (_, held) in level.holds.as_slice() {
+            assert_eq!(rt; held.as_slice(), b"a b".as_slice());
+        }
     }
     for tool in script.tools.as_slice() {
         assert_eq!(rt; tool.moment, 7);
     }
-    assert_eq!(rt; script.fails.as_slice(), [2].as_slice());
     assert_eq!(rt;
-        script.holds.len() + script.tools.len() + script.runs.len(),
+        script.levels.len() + script.tools.len() + script.runs.len(),
         3
     );
     let mut served = 0u64;
@@ -169,6 +171,35 @@ fn bad_lines(rt: HostRuntime) -> Result<(), Fail> {
     Ok(())
 }
 
+const RAW: &[u8] = b"script 1
+level remote rw
+conns 1
+ask 0 get-raw abc
+ask 0 put-raw - \\xffB
+";
+
+#[test]
+fn raw_requests(rt: HostRuntime) -> Result<(), Fail> {
+    let script = read_script(rt.alloc(), RAW)?;
+    assert_eq!(rt; script.inputs.len(), 1);
+    let frames =
+        b"\0\0\0\x0f\x07\0\0\0\x03\0\0\0\0\0\0\0abc\0\0\0\x16\x08\0\0\0\0\0\0\0\0\0\0\0\x02\0\0\0\0\0\0\0\xffB";
+    for input in script.inputs.as_slice() {
+        assert_eq!(rt; input.as_slice(), frames.as_slice());
+    }
+    let lines: [&[u8]; 5] = [
+        b"ask 0 get-raw",
+        b"ask 0 get-raw a b",
+        b"ask 0 get-raw \\xff",
+        b"ask 0 put-raw abc",
+        b"ask 0 get abc",
+    ];
+    for line in lines {
+        assert_eq!(rt; of_line(rt.alloc(), line)?, 4);
+    }
+    Ok(())
+}
+
 #[test]
 fn words_of_the_program(rt: HostRuntime) -> Result<(), Fail> {
     let drive = [ByteText::from_slice(rt.alloc(), b"drive")?];
@@ -248,6 +279,8 @@ fn store_replies(alloc: Global) -> Result<Vec<Response>, Fail> {
     made.push(Response::StorageGetPath(GetPathResult::Unsupported))?;
     made.push(Response::StorageGetRaw(None))?;
     made.push(Response::StorageGetRaw(Some(ByteText::new(alloc))))?;
+    let held = ByteText::from_slice(alloc, b"a b")?;
+    made.push(Response::StorageGetRaw(Some(held)))?;
     made.push(Response::StoragePutRaw(Ok(())))?;
     made.push(Response::StoragePutRaw(Err(Text::from_str(alloc, "bad key")?)))?;
     made.push(Response::StorageGetPreprocessorEntry(Ok(None)))?;
@@ -277,6 +310,7 @@ path miss
 path unsupported
 raw none
 raw -
+raw a\\x20b
 put ok
 put err bad key
 pre none

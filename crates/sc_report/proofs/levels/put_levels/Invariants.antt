@@ -4,7 +4,7 @@ use Rattle.sc_report.proofs.levels.put_levels.Given as goal
 
 abbrev pub invariant-loop-left : goal.invariant-loop-left
 invariant-loop-left l = record {
-  same : l.out.items ++ level_lines l.level l.left ≡ l.fn.out.items ++ level_lines 0 l.fn.levels;
+  same : l.out.items ++ level_lines l.level l.left l.counters ≡ l.fn.out.items ++ level_lines 0 l.fn.levels l.fn.counters;
   few : l.level + length l.left ≤ length l.fn.levels;
 }
 
