@@ -2,7 +2,8 @@
 use Rattle.std.proofs.Common.{◌≡◌, ◌⊎◌, inl, inr, ℕ, zero, suc, ◌+◌, ◌-◌, ◌<◌, ◌≤◌, List, [], ◌∷◌, ◌++◌, length, take, drop, slice_get, Option, Some, None, refl, sym, ap, ◌∙◌, subst, arith, append_assoc}
 use native.Mathlib.Decide.{dec_lt}
 use Rattle.sc_lru.specs.LruCache.{total}
-use Rattle.sc_disk.specs.Disks.{Does}
+use Rattle.sc_disk.specs.Disks.{DiskState, Does}
+use Rattle.sc_disk.specs.Opening.{Drops}
 use Rattle.sc_disk.specs.Store.{Store, gone, firsts, Evicts, Needed, size_of}
 use Rattle.sc_disk.specs.declared.change.Change.{Change}
 use Rattle.sc_disk.specs.declared.change.Change.TheVariants.{Gone}
@@ -57,3 +58,13 @@ Needed-more limit n es fs is over h = λ m l. elim (dec_lt m n) [
   | Prim.yes less ↦ h m less
   | Prim.no not_less ↦ let same : m ≡ n = omega arith in subst (λ i. limit < total size_of (drop i es)) (sym same) (omega (arith, over, ap (total size_of) is))
 ]
+
+pub Drops-none : (es : Index) (d : DiskState) → Drops 0 es es d d
+Drops-none es d = record { entries = refl; disk = does-none d }
+
+pub Drops-more : (n : ℕ) (es fs gs : Index) (a b c : DiskState) → Drops n es fs a b → Drops 1 fs gs b c → Drops (suc n) es gs a c
+Drops-more n es fs gs a b c p q = record {
+  entries = q.entries ∙ ap (drop 1) p.entries ∙ drop-more n es;
+  disk = let go : gone (firsts 1 fs) ++ gone (firsts n es) ≡ gone (firsts (suc n) es) = ap (λ l. gone (firsts 1 l) ++ gone (firsts n es)) p.entries ∙ sym (gone-append (firsts n es) (firsts 1 (drop n es))) ∙ ap gone (sym (firsts-more n es)) in
+      subst (λ xs. Does xs a c) go (does-after a b c (gone (firsts n es)) (gone (firsts 1 fs)) p.disk q.disk);
+}

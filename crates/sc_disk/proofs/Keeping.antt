@@ -8,7 +8,7 @@ use Rattle.sc_entry.specs.Causes.{IfTold}
 use Rattle.sc_lru.proofs.Measures.{total-first, total-touched}
 use Rattle.sc_lru.specs.LruCache.{total}
 use Rattle.sc_lru.specs.Order.{touched}
-use Rattle.sc_disk.specs.Disks.{DiskFiles, DiskRecord, DiskState, Does, DoesPart, IsSize, change, disk_file, disk_file_at, files_now}
+use Rattle.sc_disk.specs.Disks.{AdoptsPart, DiskFiles, DiskRecord, DiskState, Does, DoesPart, IsSize, change, disk_file, disk_file_at, files_now}
 use Rattle.sc_disk.specs.Names.{is_temporary_path, temporary}
 use Rattle.sc_disk.specs.Store.{AreKeys, HasFiles, HaveFiles, HaveKeys, Keeps, declared, filed, size_of}
 use Rattle.sc_disk.specs.declared.change.Change.{Change}
@@ -48,6 +48,10 @@ Keeps-aside es b slots h c old new x a is k = record {
 pub Keeps-part : (es : Index) (b : ℕ) (slots : Slots) (h c : ℕ) (old new : DiskState) (path bytes : List ℕ) → is_temporary_path path ≡ true → DoesPart path bytes old new → Keeps es b slots h c old.told → Keeps es b slots h c new.told
 Keeps-part es b slots h c old new path bytes temp (inl same) k = Keeps-still es b slots h c old new same k
 Keeps-part es b slots h c old new path bytes temp (inr part) k = Keeps-aside es b slots h c old new (Added path (take part.0 bytes)) temp part.1 k
+
+pub Keeps-adopted : (es : Index) (b : ℕ) (slots : Slots) (h c : ℕ) (old new : DiskState) (outside path : List ℕ) → is_temporary_path path ≡ true → AdoptsPart outside path old new → Keeps es b slots h c old.told → Keeps es b slots h c new.told
+Keeps-adopted es b slots h c old new outside path temp (inl same) k = Keeps-still es b slots h c old new same k
+Keeps-adopted es b slots h c old new outside path temp (inr part) k = Keeps-part es b slots h c old new path part.0 temp part.2 k
 
 -- the first file went, and its pair
 pub Keeps-first : (es fs : Index) (b b2 : ℕ) (slots : Slots) (h c : ℕ) (old new : DiskState) (e : List ℕ × ℕ) → Some e ≡ slice_get es 0 → IsDistinct bytes_eq (keys_of es) → fs ≡ drop 1 es → b2 ≡ b

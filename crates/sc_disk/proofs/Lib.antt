@@ -13,3 +13,5 @@ pub mod Evictions
 pub mod Tidying
 pub mod Sizes
 pub mod Placing
+pub mod Reopening
+pub mod Wholes

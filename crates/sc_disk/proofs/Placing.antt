@@ -1,7 +1,7 @@
 -- The steps of a commit one after another.
 use Rattle.std.proofs.Common.{◌≡◌, ◌⊎◌, inl, inr, ℕ, zero, suc, ◌+◌, ◌-◌, ◌<◌, ◌≤◌, ◌^◌, min, max, Bool, true, false, List, [], ◌∷◌, ◌++◌, drop, Option, Some, None, Result, Ok, Err, IfErr, refl, sym, ap, ◌∙◌, subst, arith, append_assoc}
 use Rattle.std.specs.Result.{IsErrAnd}
-use Rattle.slab.specs.Slab.{Slab, get}
+use Rattle.slab.specs.Slab.{Slab, Updates, get}
 use Rattle.std.specs.Option.{option_map_or}
 use Rattle.sc_entry.specs.Causes.{Rose}
 use Rattle.sc_lru.specs.LruCache.{total}
@@ -9,15 +9,16 @@ use Rattle.sc_disk.specs.Calls.{CommitCause, EvictsNone, Leftover, NeededFor, Pl
 use Rattle.sc_disk.specs.Disks.{DiskCause, DiskState, Does, IsSize}
 use Rattle.sc_disk.specs.Names.{temporary}
 use Rattle.sc_disk.specs.Refusals.{DiskRefusal, error_of}
-use Rattle.sc_disk.specs.Store.{AddEntry, Alters, Closes, Evicts, Fits, Needed, Store, declared, declared_at, filed, firsts, gone, indexed, others, reserved, size_of}
+use Rattle.sc_disk.specs.Store.{AddEntry, Alters, Closes, Evicts, Fits, IsTidy, Needed, Store, declared, declared_at, filed, firsts, gone, indexed, others, reserved, size_of}
 use Rattle.sc_disk.specs.declared.change.Change.{Change}
-use Rattle.sc_disk.specs.declared.change.Change.TheVariants.{Moved, Touched}
+use Rattle.sc_disk.specs.declared.change.Change.TheVariants.{Gone, Moved, Touched}
 use Rattle.sc_disk.specs.declared.disk.DiskError.{DiskError}
 use Rattle.sc_disk.specs.declared.disk.DiskError.TheVariants as disk_errors
 use Rattle.sc_disk.specs.declared.error.Error.{Error}
 use Rattle.sc_disk.specs.declared.error.Error.TheVariants.{BadKey, FileNotInCache, FileTooLarge, Io, NoMemory, Reserved}
 use Rattle.sc_disk.specs.declared.pending.Pending.{Pending}
-use Rattle.sc_disk.proofs.Doing.{does-after}
+use Rattle.sc_disk.proofs.Doing.{does-after, does-then}
+use Rattle.sc_disk.proofs.Tidying.{quiet-append, quiet-gone, quiet-touched, tidy-discarded}
 
 -- what holds of a refusal holds where there is one
 pub if_err_and : {T E : Type 0} (r : Result T E) (Q P : E → Type 0) → IsErrAnd r Q → ((e : E) → Q e → P e) → IfErr r P
@@ -43,7 +44,7 @@ evicts_by_disk NoMemory before now n h = tt
 pub rose_since : (a b c d : ℕ) → a ≤ b → c ≤ d → Rose b c → Rose a d
 rose_since a b c d p q h = omega (arith, p, q, h)
 
-pub commit_by_disk : (refused : Error) (path : List ℕ) (held : ℕ) (old new : Store) (before now : ℕ) → old.disk.faults ≤ before → now ≤ new.disk.faults → DiskRefusal before now refused → CommitCause refused path held old new
+pub commit_by_disk : (refused : Error) (path : List ℕ) (held : ℕ) (old new : Store) (before now : ℕ) → old.disk.faults ≤ before → now ≤ new.disk.faults → DiskRefusal before now refused → CommitCause refused path held old new.disk.faults
 commit_by_disk BadKey path held old new before now p q h = absurd h
 commit_by_disk FileTooLarge path held old new before now p q h = absurd h
 commit_by_disk Reserved path held old new before now p q h = absurd h
@@ -95,7 +96,7 @@ made_room e p r n unreserved wanted old b d a size fits free is k needed =
     }
 
 -- nothing was done yet
-pub refused_early : (refused : Error) (e : AddEntry) (p : Pending) (now : ℕ) (old new : Store) → CommitCause refused (temporary e.number) (reserved old) old new → Alters [] old new → RefusesPlace refused e p now 0 false old new
+pub refused_early : (refused : Error) (e : AddEntry) (p : Pending) (now : ℕ) (old new : Store) → CommitCause refused (temporary e.number) (reserved old) old new.disk.faults → Alters [] old new → RefusesPlace refused e p now 0 false old new
 refused_early refused e p now old new cause a = record { cause = cause; none = evicts_none refused; evicted = inl refl; index = a.index; pending = a.pending; capacity = a.capacity; disk = a.disk }
 
 -- evictions were made
@@ -157,34 +158,21 @@ declared_is old n p was = ap (λ slot. option_map_or (λ e. e.size) slot 0) was
 others_are : (e : AddEntry) (p : Pending) (old mid : Store) → Closes e p old mid → reserved mid ≡ others old e.number
 others_are e p old mid k = omega (arith, k.closed.reserved)
 
-cause_since : (refused : Error) (path : List ℕ) (held held2 : ℕ) (a b c d : Store) → held ≡ held2 → a.disk ≡ c.disk → a.capacity ≡ c.capacity → b.disk.faults ≤ d.disk.faults → CommitCause refused path held a b → CommitCause refused path held2 c d
-cause_since BadKey path held held2 a b c d h s k f cause = cause
-cause_since FileTooLarge path held held2 a b c d h s k f cause = (cause.0, subst (λ w. IsSize path cause.0 w) s cause.1, omega (arith, k, cause.2))
-cause_since Reserved path held held2 a b c d h s k f cause = (cause.0, subst (λ w. IsSize path cause.0 w) s cause.1, omega (arith, k, cause.2), omega (arith, h, k, cause.3))
-cause_since FileNotInCache path held held2 a b c d h s k f cause = cause
-cause_since Io path held held2 a b c d h s k f cause = rose_since c.disk.faults a.disk.faults b.disk.faults d.disk.faults (omega (arith, ap (λ w. w.faults) s)) f cause
-cause_since NoMemory path held held2 a b c d h s k f cause = tt
+cause_since : (refused : Error) (path : List ℕ) (held held2 : ℕ) (a c : Store) (by_then : ℕ) → held ≡ held2 → a.disk ≡ c.disk → a.capacity ≡ c.capacity → CommitCause refused path held a by_then → CommitCause refused path held2 c by_then
+cause_since BadKey path held held2 a c t h s k cause = cause
+cause_since FileTooLarge path held held2 a c t h s k cause = (cause.0, subst (λ w. IsSize path cause.0 w) s cause.1, omega (arith, k, cause.2))
+cause_since Reserved path held held2 a c t h s k cause = (cause.0, subst (λ w. IsSize path cause.0 w) s cause.1, omega (arith, k, cause.2), omega (arith, h, k, cause.3))
+cause_since FileNotInCache path held held2 a c t h s k cause = cause
+cause_since Io path held held2 a c t h s k cause = rose_since c.disk.faults a.disk.faults t t (omega (arith, ap (λ w. w.faults) s)) (omega arith) cause
+cause_since NoMemory path held held2 a c t h s k cause = tt
 
-cause_told : (refused told : Error) (path : List ℕ) (held : ℕ) (old new : Store) → (told ≡ refused) ⊎ (told ≡ NoMemory) → CommitCause refused path held old new → CommitCause told path held old new
-cause_told refused told path held old new (inl same) cause = subst (λ r. CommitCause r path held old new) (sym same) cause
-cause_told refused told path held old new (inr none) cause = subst (λ r. CommitCause r path held old new) (sym none) tt
+cause_told : (refused told : Error) (path : List ℕ) (held : ℕ) (old : Store) (by_then : ℕ) → (told ≡ refused) ⊎ (told ≡ NoMemory) → CommitCause refused path held old by_then → CommitCause told path held old by_then
+cause_told refused told path held old t (inl same) cause = subst (λ r. CommitCause r path held old t) (sym same) cause
+cause_told refused told path held old t (inr none) cause = subst (λ r. CommitCause r path held old t) (sym none) tt
 
 none_told : (refused told : Error) (n : ℕ) → (told ≡ refused) ⊎ (told ≡ NoMemory) → EvictsNone refused n → EvictsNone told n
 none_told refused told n (inl same) h = subst (λ r. EvictsNone r n) (sym same) h
 none_told refused told n (inr none) h = subst (λ r. EvictsNone r n) (sym none) tt
-
-leftover_since : (refused : Error) (removes : Bool) (a b c : ℕ) → a ≤ b → Leftover refused removes b c → Leftover refused removes a c
-leftover_since BadKey true a b c p h = tt
-leftover_since BadKey false a b c p h = rose_since a b c c p (omega arith) h
-leftover_since FileTooLarge true a b c p h = tt
-leftover_since FileTooLarge false a b c p h = rose_since a b c c p (omega arith) h
-leftover_since Reserved true a b c p h = tt
-leftover_since Reserved false a b c p h = rose_since a b c c p (omega arith) h
-leftover_since FileNotInCache true a b c p h = tt
-leftover_since FileNotInCache false a b c p h = rose_since a b c c p (omega arith) h
-leftover_since Io true a b c p h = tt
-leftover_since Io false a b c p h = rose_since a b c c p (omega arith) h
-leftover_since NoMemory removes a b c p h = tt
 
 needed_for : (path : List ℕ) (held held2 size size2 n : ℕ) (a c : Store) → held ≡ held2 → size ≡ size2 → a.disk ≡ c.disk → a.capacity ≡ c.capacity → a.index ≡ c.index → NeededFor path held size n a → NeededFor path held2 size2 n c
 needed_for path held held2 size size2 n a c h z s k i (inl none) = inl none
@@ -195,21 +183,32 @@ needed_for path held held2 size size2 n a c h z s k i (inr q) = inr (
   subst (λ l. Needed (c.capacity - (held2 + max q.0 size2)) n l) i (subst (λ b. Needed b n a.index) (λ j. k j - (h j + max q.0 (z j))) q.3),
 )
 
+-- a removed temporary leaves no stray
+tidy_removed : (old mid late new : Store) (e : AddEntry) (p : Pending) (now n : ℕ) (touches removes : Bool) → removes ≡ true → Closes e p old mid → late.pending ≡ mid.pending
+    → Does (touched_by touches (temporary e.number) now ++ gone (firsts n mid.index)) mid.disk late.disk → Alters (removed_by removes (temporary e.number)) late new → IsTidy old → IsTidy new
+tidy_removed old mid late new e p now n touches false t k same did u h = cc
+tidy_removed old mid late new e p now n touches true t k same did u h = tidy-discarded old.pending new.pending old.disk new.disk e.number (touched_by touches (temporary e.number) now ++ gone (firsts n mid.index))
+    (subst (λ (q : Slab Pending). Updates old.pending q e.number None) (sym (u.pending ∙ same)) k.closed.entry)
+    (quiet-append (touched_by touches (temporary e.number) now) (gone (firsts n mid.index)) (quiet-touched touches (temporary e.number) now) (quiet-gone (firsts n mid.index)))
+    (subst (λ (w : DiskState). Does (Gone (temporary e.number) ∷ (touched_by touches (temporary e.number) now ++ gone (firsts n mid.index))) w new.disk) k.disk
+    (does-then mid.disk late.disk new.disk (touched_by touches (temporary e.number) now ++ gone (firsts n mid.index)) (Gone (temporary e.number)) did u.disk)) h
+
 pub refused_commit : (refused told : Error) (e : AddEntry) (p : Pending) (now n : ℕ) (touches removes : Bool) (old mid late new : Store) → Closes e p old mid → RefusesPlace refused e p now n touches mid late → Undoes refused told removes e late new
     → RefusesCommit told e now n touches removes old new
 refused_commit refused told e p now n touches removes old mid late new k r u =
     let held = others_are e p old mid k in let size : p.size ≡ declared_at old e.number = sym (declared_is old e.number p k.was) in
-    let later : mid.disk.faults ≤ late.disk.faults = r.disk.faults in
     record {
-      cause = cause_told refused told (temporary e.number) (others old e.number) old new u.answer
-          (cause_since refused (temporary e.number) (reserved mid) (others old e.number) mid late old new held k.disk k.capacity u.alters.disk.faults r.cause);
+      by_then = late.disk.faults;
+      cause = cause_told refused told (temporary e.number) (others old e.number) old late.disk.faults u.answer
+          (cause_since refused (temporary e.number) (reserved mid) (others old e.number) mid old late.disk.faults held k.disk k.capacity r.cause);
       none = none_told refused told n u.answer r.none;
       evicted = needed_for (temporary e.number) (reserved mid) (others old e.number) p.size (declared_at old e.number) n mid old held size k.disk k.capacity k.index r.evicted;
       index = u.alters.index ∙ r.index ∙ ap (drop n) k.index;
-      removal = leftover_since told removes old.disk.faults late.disk.faults new.disk.faults (omega (arith, later, ap (λ w. w.faults) k.disk)) u.removal;
+      removal = u.removal;
       disk = subst (λ es. Does (removed_by removes (temporary e.number) ++ (touched_by touches (temporary e.number) now ++ gone (firsts n es))) old.disk new.disk) k.index
           (subst (λ w. Does (removed_by removes (temporary e.number) ++ (touched_by touches (temporary e.number) now ++ gone (firsts n mid.index))) w new.disk) k.disk
           (does-after mid.disk late.disk new.disk (touched_by touches (temporary e.number) now ++ gone (firsts n mid.index)) (removed_by removes (temporary e.number)) r.disk u.alters.disk));
+      tidy = λ t h. tidy_removed old mid late new e p now n touches removes t k r.pending r.disk u.alters h;
     }
 
 -- a disk's refusal, as the store answers it

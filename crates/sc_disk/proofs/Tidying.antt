@@ -3,7 +3,7 @@ use Rattle.std.proofs.Common.{◌≡◌, ◌≢◌, ◌⊎◌, inl, inr, ℕ, Bo
 use Rattle.std.specs.FinMap as map
 use Rattle.slab.specs.Slab.{Slab, Updates, get}
 use Rattle.sc_entry.specs.Causes.{IfTold}
-use Rattle.sc_disk.specs.Disks.{DiskFiles, DiskState, Does, DoesPart, change, disk_file, disk_file_at, files_now, replay, with_disk_file}
+use Rattle.sc_disk.specs.Disks.{AdoptsPart, DiskFiles, DiskState, Does, DoesPart, change, disk_file, disk_file_at, files_now, replay, with_disk_file}
 use Rattle.sc_disk.specs.Names.{is_temporary_path, temporary}
 use Rattle.sc_disk.specs.Store.{Alters, IsTidy, NoStray, Store, gone}
 use Rattle.sc_disk.specs.Calls.{touched_by}
@@ -70,6 +70,10 @@ tidy-quiet slots old new xs a is h = told-all old new xs (NoStray slots) (NoStra
 pub tidy-part : (slots : Slots) (old new : DiskState) (path bytes : List ℕ) → DoesPart path bytes old new → IfTold old.told (λ r. NoStray slots (files_now r)) → IfTold new.told (λ r. NoStray slots (files_now r))
 tidy-part slots old new path bytes (inl same) h = tidy-quiet slots old new [] tt same h
 tidy-part slots old new path bytes (inr part) h = tidy-quiet slots old new (Added path (take part.0 bytes) ∷ []) (tt, tt) part.1 h
+
+pub tidy-adopted : (slots : Slots) (old new : DiskState) (outside path : List ℕ) → AdoptsPart outside path old new → IfTold old.told (λ r. NoStray slots (files_now r)) → IfTold new.told (λ r. NoStray slots (files_now r))
+tidy-adopted slots old new outside path (inl same) h = tidy-quiet slots old new [] tt same h
+tidy-adopted slots old new outside path (inr part) h = tidy-part slots old new path part.0 part.2 h
 
 stray-made : (old new : Slab Pending) (n : ℕ) (e : Pending) (now : ℕ) (f : DiskFiles) → get old n ≡ None → Updates old new n (Some e) → NoStray old.slots f → NoStray new.slots (change (Made (temporary n) now) f)
 stray-made old new n e now f free u h = λ q t some. by q t (bytes_eq q (temporary n)) refl (ap is_some (sym (at-insert f (temporary n) (disk_file now []) q)) ∙ some)

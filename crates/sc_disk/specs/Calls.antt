@@ -7,7 +7,7 @@ use Rattle.sc_lru.specs.Order.{touched}
 use Rattle.sc_disk.specs.Disks.{Does, HasBytes, IsSize}
 use Rattle.sc_disk.specs.Names.{temporary}
 use Rattle.sc_disk.specs.Refusals.{AddCause, DiskRefusal, GetCause, RemoveCause}
-use Rattle.sc_disk.specs.Store.{AddEntry, Alters, Fits, Needed, Opened, Store, declared_at, filed, firsts, gone, others, reserved}
+use Rattle.sc_disk.specs.Store.{AddEntry, Alters, Fits, IsTidy, Needed, Opened, Store, declared_at, filed, firsts, gone, others, reserved}
 use Rattle.sc_disk.specs.declared.change.Change.{Change}
 use Rattle.sc_disk.specs.declared.change.Change.TheVariants.{Made, Added, Touched, Moved, Gone}
 use Rattle.sc_disk.specs.declared.pending.Pending.{Pending}
@@ -66,14 +66,14 @@ pub record Commits (e : AddEntry) (r now n : ℕ) (old new : Store) : Type 0 whe
   pub index : new.index ≡ filed e.key r (drop n old.index)
   pub disk : Does (Moved (temporary e.number) e.key ∷ Touched (temporary e.number) now ∷ gone (firsts n old.index)) old.disk new.disk
 
--- why an entry isn't committed
-abbrev pub CommitCause : Error → List ℕ → ℕ → Store → Store → Type 0
-CommitCause BadKey path held old new = ⊥
-CommitCause FileTooLarge path held old new = (r : ℕ) × IsSize path r old.disk × (old.capacity < r)
-CommitCause Reserved path held old new = (r : ℕ) × IsSize path r old.disk × (r ≤ old.capacity) × (old.capacity < r + held)
-CommitCause FileNotInCache path held old new = ⊥
-CommitCause Io path held old new = Rose old.disk.faults new.disk.faults
-CommitCause NoMemory path held old new = Unit {0}
+-- why an entry isn't committed, where the disk had failed so often by then
+abbrev pub CommitCause : Error → List ℕ → ℕ → Store → ℕ → Type 0
+CommitCause BadKey path held old by_then = ⊥
+CommitCause FileTooLarge path held old by_then = (r : ℕ) × IsSize path r old.disk × (old.capacity < r)
+CommitCause Reserved path held old by_then = (r : ℕ) × IsSize path r old.disk × (r ≤ old.capacity) × (old.capacity < r + held)
+CommitCause FileNotInCache path held old by_then = ⊥
+CommitCause Io path held old by_then = Rose old.disk.faults by_then
+CommitCause NoMemory path held old by_then = Unit {0}
 
 -- evictions for a temporary that was measured, beside what others have declared and at least this size
 abbrev pub NeededFor : List ℕ → ℕ → ℕ → ℕ → Store → Type 0
@@ -85,14 +85,18 @@ Leftover NoMemory removed before now = Unit {0}
 Leftover refused true before now = Unit {0}
 Leftover refused false before now = Rose before now
 
--- An entry isn't committed: evictions may have been made, and its temporary may have got its moment; it is removed.
+-- An entry isn't committed: evictions may have been made, and its temporary may have got its moment. It is removed then,
+-- which may fail once more.
 pub record RefusesCommit (refused : Error) (e : AddEntry) (now n : ℕ) (touches removes : Bool) (old new : Store) : Type 0 where
-  pub cause : CommitCause refused (temporary e.number) (others old e.number) old new
+  -- how often the disk had failed when it was refused
+  pub by_then : ℕ
+  pub cause : CommitCause refused (temporary e.number) (others old e.number) old by_then
   pub none : EvictsNone refused n
   pub evicted : NeededFor (temporary e.number) (others old e.number) (declared_at old e.number) n old
   pub index : new.index ≡ drop n old.index
-  pub removal : Leftover refused removes old.disk.faults new.disk.faults
+  pub removal : Leftover refused removes by_then new.disk.faults
   pub disk : Does (removed_by removes (temporary e.number) ++ (touched_by touches (temporary e.number) now ++ gone (firsts n old.index))) old.disk new.disk
+  pub tidy : removes ≡ true → IsTidy old → IsTidy new
 
 -- what private steps of a commit do: the temporary gets its moment and the key's place
 pub record Settles (e : AddEntry) (k : List ℕ) (r now : ℕ) (old new : Store) : Type 0 where
@@ -113,7 +117,7 @@ pub record Places (e : AddEntry) (p : Pending) (r now n : ℕ) (old new : Store)
   pub disk : Does (Moved (temporary e.number) p.key ∷ Touched (temporary e.number) now ∷ gone (firsts n old.index)) old.disk new.disk
 
 pub record RefusesPlace (refused : Error) (e : AddEntry) (p : Pending) (now n : ℕ) (touches : Bool) (old new : Store) : Type 0 where
-  pub cause : CommitCause refused (temporary e.number) (reserved old) old new
+  pub cause : CommitCause refused (temporary e.number) (reserved old) old new.disk.faults
   pub none : EvictsNone refused n
   pub evicted : NeededFor (temporary e.number) (reserved old) p.size n old
   pub index : new.index ≡ drop n old.index

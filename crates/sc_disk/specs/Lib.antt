@@ -1,7 +1,9 @@
 pub mod Calls
 pub mod Codes
 pub mod Disks
+pub mod Inserting
 pub mod Memory
 pub mod Names
+pub mod Opening
 pub mod Refusals
 pub mod Store

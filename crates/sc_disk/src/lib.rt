@@ -10,9 +10,11 @@ mod file_key;
 mod file_name;
 mod file_size;
 mod file_table;
+mod inserting;
 mod key_path;
 mod lru_disk_cache;
 mod mem_disk;
+mod opening;
 mod pending;
 mod reading;
 
@@ -25,3 +27,4 @@ pub use file_key::FileKey;
 pub use key_path::{make_key_path, normalize_key};
 pub use lru_disk_cache::LruDiskCache;
 pub use mem_disk::MemDisk;
+pub use opening::OpenError;

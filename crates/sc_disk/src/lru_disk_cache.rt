@@ -111,6 +111,13 @@ impl<D: Disk> LruDiskCache<D> {
         self.disk.root()
     }
 
+    /// The disk of the files.
+    pub fn disk(&self) -> &D
+        ensures { D.state result.now ≡ self.now.disk }
+    {
+        &self.disk
+    }
+
     /// Whether an entry is open in this store.
     pub fn is_open(&self, entry: &LruDiskCacheAddEntry) -> bool
         ensures { result ≡ is_open self.now entry.now }
@@ -212,7 +219,7 @@ impl<D: Disk> LruDiskCache<D> {
     }
 
     // Takes an open entry out, and its reservation.
-    fn close(&mut self, entry: &LruDiskCacheAddEntry) -> Pending
+    pub(crate) fn close(&mut self, entry: &LruDiskCacheAddEntry) -> Pending
         requires { IsOpen self.old entry.now }
         ensures { Closes entry.now result self.old self.new }
     {
@@ -247,6 +254,7 @@ impl<D: Disk> LruDiskCache<D> {
         now: u64,
     ) -> Result<LruDiskCacheAddEntry, Error>
         ensures ok { IfOk result (λ e. (n : ℕ) × Prepares e key.now size now n self.old self.new) }
+        ensures opened { IfOk result (λ e. IsOpen self.new e) }
         ensures err { IfErr result (λ refused. (n : ℕ) × RefusesAdd refused key.now size n self.old self.new) }
         ensures tidy { IsTidy self.old → IsTidy self.new }
     {
@@ -269,6 +277,7 @@ impl<D: Disk> LruDiskCache<D> {
     /// Adds bytes at the end of an open entry's temporary. A refused call may leave a front of them there.
     pub fn fill(&mut self, entry: &LruDiskCacheAddEntry, bytes: &[u8]) -> Result<(), Error>
         requires { IsOpen self.old entry.now }
+        ensures opened { IsOpen self.new entry.now }
         ensures ok { OnOk result (Does (Added (temporary entry.now.number) bytes.now ∷ []) self.old.disk self.new.disk) }
         ensures err { OnErr result (DoesPart (temporary entry.now.number) bytes.now self.old.disk self.new.disk) }
         ensures cause { IfErr result (DiskRefusal self.old.disk.faults self.new.disk.faults) }
@@ -303,14 +312,15 @@ impl<D: Disk> LruDiskCache<D> {
     fn measure(&mut self, entry: &LruDiskCacheAddEntry) -> Result<u64, Error>
         ensures size { IfOk result (λ r. IsSize (temporary entry.now.number) r self.old.disk) }
         ensures fits { IfOk result (λ r. r + reserved self.old ≤ self.old.capacity) }
-        ensures cause { IfErr result (λ refused. CommitCause refused (temporary entry.now.number) (reserved self.old) self.old self.new) }
+        ensures cause { IfErr result (λ refused. CommitCause refused (temporary entry.now.number) (reserved self.old) self.old self.new.disk.faults) }
         ensures alters { Alters [] self.old self.new }
     {
+        let capacity = self.capacity;
         let size = self.disk.len(&entry.path)?;
-        if size > self.capacity {
+        if size > capacity {
             return Err(Error::FileTooLarge);
         }
-        if size > self.capacity - self.held {
+        if size > capacity - self.held {
             return Err(Error::Reserved);
         }
         Ok(size)
@@ -393,7 +403,7 @@ impl<D: Disk> LruDiskCache<D> {
     }
 
     // Removes the temporary of an entry that isn't committed. Want of memory takes the place of the cause.
-    fn undo(&mut self, entry: &LruDiskCacheAddEntry, refused: Error) -> Error
+    pub(crate) fn undo(&mut self, entry: &LruDiskCacheAddEntry, refused: Error) -> Error
         requires { get self.old.pending entry.now.number ≡ None }
         ensures { (removes : Bool) × Undoes refused result removes entry.now self.old self.new }
     {

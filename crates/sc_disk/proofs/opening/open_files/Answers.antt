@@ -1,0 +1,26 @@
+use Rattle.std.proofs.Common.{◌≡◌, List, ℕ, sym, ap, subst, ◌∙◌, arith}
+use Rattle.sc_disk.specs.Disks.{IsListing}
+use Rattle.sc_disk.specs.declared.disk.Listed.{Listed}
+use Rattle.sc_disk.proofs.Keeping.{on_err}
+use Rattle.sc_disk.proofs.Reopening.{good_sorted, refused_indexing, refused_sorting, reopened}
+use Rattle.sc_disk.proofs.opening.open_files.Goals as goal
+
+pub returns-in_err-sort-clause-err : goal.returns-in_err-sort-clause-err
+returns-in_err-sort-clause-err g c = let state = g.D.Disk.state in let cap = c.args.capacity in let all = c.into_vec-all.result.items in
+    on_err c.from_residual-in_err-sort.result _ (refused_sorting cap all (state c.args.disk.now) (state c.list.new.self) (state c.keep_files.new.disk) c.in_ok-list.ensures.same
+    (subst (λ (l : List Listed). IsListing l (state c.args.disk.now)) (sym c.into_vec-all.ensures) c.in_ok-list.ensures.listed) c.in_ok-files.ensures.ok)
+
+pub index_files-requires : goal.index_files-requires
+index_files-requires g c = good_sorted c.args.capacity c.into_vec-all.result.items c.in_ok-files.files.items c.sort.new.self.items c.in_ok-files.ensures.kept c.in_ok-sort.ensures.permutation
+
+pub returns-in_err-index-clause-err : goal.returns-in_err-index-clause-err
+returns-in_err-index-clause-err g c = let state = g.D.Disk.state in let cap = c.args.capacity in let all = c.into_vec-all.result.items in let i = c.in_err-index.ensures.err in
+    on_err c.from_residual-in_err-index.result _ (refused_indexing cap all c.in_ok-files.files.items c.sort.new.self.items i.0 (state c.args.disk.now) (state c.list.new.self) (state c.keep_files.new.disk) (state c.index_files.new.disk)
+    c.in_ok-list.ensures.same (subst (λ (l : List Listed). IsListing l (state c.args.disk.now)) (sym c.into_vec-all.ensures) c.in_ok-list.ensures.listed) c.in_ok-files.ensures.kept c.in_ok-files.ensures.ok
+    c.in_ok-sort.ensures.permutation c.in_ok-sort.ensures.sorted i.1 i.2)
+
+pub returns-clause-ok : goal.returns-clause-ok
+returns-clause-ok g c = let state = g.D.Disk.state in let cap = c.args.capacity in let all = c.into_vec-all.result.items in let i = c.in_ok-index.ensures.ok in
+    reopened cap all c.in_ok-files.files.items c.sort.new.self.items c.in_ok-index.index.entries i.0 (state c.args.disk.now) (state c.list.new.self) (state c.keep_files.new.disk) (state c.index_files.new.disk)
+    c.in_ok-list.ensures.same (subst (λ (l : List Listed). IsListing l (state c.args.disk.now)) (sym c.into_vec-all.ensures) c.in_ok-list.ensures.listed) c.in_ok-files.ensures.kept c.in_ok-files.ensures.ok
+    c.in_ok-sort.ensures.permutation c.in_ok-sort.ensures.sorted (omega (arith, c.size-within.ensures.size, c.size-within.ensures.within, c.in_ok-index.ensures.capacity)) i.1 i.2
