@@ -407,12 +407,15 @@ opened_tidy : (es : Index) (f : DiskFiles) → AreKeys es → AreFiles es f → 
 opened_tidy es f keys w = λ q t some. absurd (none_some (disk_file_at f q) (w.same q ∙ keys q t) some)
 
 pub told_files : (capacity : ℕ) (es : Index) (old new : DiskState) → Reopens capacity es old new → IfTold new.told (λ r. HasFiles es [] (files_now r))
+unfolding Reopens
 told_files capacity es old new o = told-all old new (gone o.0) (Indexes capacity es o.0) (HasFiles es []) o.1 (λ f i. opened_files es (replay f (gone o.0)) (files_indexed capacity es o.0 f i)) o.2
 
 pub told_tidy : (capacity : ℕ) (es : Index) (old new : DiskState) → AreKeys es → Reopens capacity es old new → IfTold new.told (λ r. NoStray [] (files_now r))
+unfolding Reopens
 told_tidy capacity es old new keys o = told-all old new (gone o.0) (Indexes capacity es o.0) (NoStray []) o.1 (λ f i. opened_tidy es (replay f (gone o.0)) keys (files_indexed capacity es o.0 f i)) o.2
 
 pub told_reopened : (capacity : ℕ) (es : Index) (old new : DiskState) → Reopens capacity es old new → IfTold old.told (λ r. IsReopened capacity (files_now r) es)
+unfolding IsReopened Reopens
 told_reopened capacity es old new o = told-map old (Indexes capacity es o.0) (λ f. IsReopened capacity f es) (λ f i. (i.order, i.ordered, i.index ∙ needed_suffix capacity i.n (pairs_of i.order) i.evicted.0 i.evicted.1)) o.2
 
 distinct_order : (capacity : ℕ) (f : DiskFiles) (order : List Listed) → IsPermutation (kept_of capacity (listing f)) order → IsDistinct bytes_eq (keys_of (pairs_of order))
@@ -423,6 +426,7 @@ distinct_order capacity f order p =
 -- what the steps of an opening come to
 pub reopened : (capacity : ℕ) (all kept order : List Listed) (es : Index) (removed : List (List ℕ)) (a b c d : DiskState) → Does [] a b → IsListing all a → kept ≡ kept_of capacity all → Does (gone (paths_of (dropped_of capacity all))) b c
     → IsPermutation kept order → IsSorted use_cmp order → total size_of es ≤ capacity → Does (gone removed) c d → Indexed capacity order order es removed → Reopens capacity es a d
+unfolding Reopens
 reopened capacity all kept order es removed a b c d still listed is dropped p s fits evicted indexed = (
   paths_of (dropped_of capacity all) ++ removed,
   gone-after a c d (paths_of (dropped_of capacity all)) removed (subst (λ (xs : List Change). Does xs a c) (list-nil (gone (paths_of (dropped_of capacity all)))) (does-after a b c [] (gone (paths_of (dropped_of capacity all))) still dropped)) evicted,
@@ -440,6 +444,7 @@ reopened capacity all kept order es removed a b c d still listed is dropped p s 
 )
 
 pub refused_listing : (capacity : ℕ) (a b : DiskState) → Does [] a b → RefusesOpening capacity a b
+unfolding RefusesOpening
 refused_listing capacity a b still = ([], still, begun a.told)
   where
     begun : (o : Option DiskRecord) → IfTold o (λ r. Begins capacity [] (files_now r))
@@ -447,6 +452,7 @@ refused_listing capacity a b still = ([], still, begun a.told)
     begun (Some r) = inl (paths_of (dropped_of capacity (listing (files_now r))), refl)
 
 pub refused_dropping : (capacity : ℕ) (all : List Listed) (removed rest : List (List ℕ)) (a b c : DiskState) → Does [] a b → IsListing all a → removed ++ rest ≡ paths_of (dropped_of capacity all) → Does (gone removed) b c → RefusesOpening capacity a c
+unfolding RefusesOpening
 refused_dropping capacity all removed rest a b c still listed front dropped = (
   removed,
   subst (λ (xs : List Change). Does xs a c) (list-nil (gone removed)) (does-after a b c [] (gone removed) still dropped),
@@ -458,6 +464,7 @@ refused_sorting capacity all a b c still listed dropped = refused_dropping capac
 
 pub refused_indexing : (capacity : ℕ) (all kept order : List Listed) (removed : List (List ℕ)) (a b c d : DiskState) → Does [] a b → IsListing all a → kept ≡ kept_of capacity all → Does (gone (paths_of (dropped_of capacity all))) b c
     → IsPermutation kept order → IsSorted use_cmp order → Does (gone removed) c d → (IsDistinct bytes_eq (keys_of (pairs_of order)) → (n : ℕ) × Needed capacity n (pairs_of order) × (removed ≡ firsts n (pairs_of order))) → RefusesOpening capacity a d
+unfolding RefusesOpening
 refused_indexing capacity all kept order removed a b c d still listed is dropped p s evicted indexed = (
   paths_of (dropped_of capacity all) ++ removed,
   gone-after a c d (paths_of (dropped_of capacity all)) removed (subst (λ (xs : List Change). Does xs a c) (list-nil (gone (paths_of (dropped_of capacity all)))) (does-after a b c [] (gone (paths_of (dropped_of capacity all))) still dropped)) evicted,

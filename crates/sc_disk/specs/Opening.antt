@@ -43,7 +43,7 @@ pub record IsUseOrder (capacity : ℕ) (files : DiskFiles) (order : List Listed)
 
 -- The index of a store that is opened on these files: those that are kept, in the order of their use, without the first
 -- ones where all take more than the capacity.
-abbrev pub IsReopened : ℕ → DiskFiles → List (List ℕ × ℕ) → Type 0
+unfoldable pub IsReopened : ℕ → DiskFiles → List (List ℕ × ℕ) → Type 0
 IsReopened capacity files index = (order : List Listed) × IsUseOrder capacity files order × (index ≡ suffix_within size_of capacity (pairs_of order))
 
 -- The files that an opening has removed, the first of them first: those that it doesn't keep, by their paths, and then the
@@ -63,11 +63,11 @@ Begins capacity removed files =
     ⊎ ((order : List Listed) × (n : ℕ) × IsUseOrder capacity files order × Needed capacity n (pairs_of order) × (removed ≡ paths_of (dropped_of capacity (listing files)) ++ firsts n (pairs_of order)))
 
 -- A disk's files were indexed, and the others removed.
-abbrev pub Reopens : ℕ → List (List ℕ × ℕ) → DiskState → DiskState → Type 0
+unfoldable pub Reopens : ℕ → List (List ℕ × ℕ) → DiskState → DiskState → Type 0
 Reopens capacity index old new = (removed : List (List ℕ)) × Does (gone removed) old new × IfTold old.told (λ r. Indexes capacity index removed (files_now r))
 
 -- An opening was refused on the way.
-abbrev pub RefusesOpening : ℕ → DiskState → DiskState → Type 0
+unfoldable pub RefusesOpening : ℕ → DiskState → DiskState → Type 0
 RefusesOpening capacity old new = (removed : List (List ℕ)) × Does (gone removed) old new × IfTold old.told (λ r. Begins capacity removed (files_now r))
 
 -- what private steps of an opening do: the first n files go, and their pairs

@@ -2,7 +2,7 @@ use Rattle.std.proofs.Common.{◌≡◌, List, ℕ, sym, ap, subst, ◌∙◌, a
 use Rattle.sc_disk.specs.Disks.{IsListing}
 use Rattle.sc_disk.specs.declared.disk.Listed.{Listed}
 use Rattle.sc_disk.proofs.Keeping.{on_err}
-use Rattle.sc_disk.proofs.Reopening.{good_sorted, refused_indexing, refused_sorting, reopened}
+use Rattle.sc_disk.proofs.Reopening.{good_sorted, refused_dropping, refused_indexing, refused_listing, refused_sorting, reopened}
 use Rattle.sc_disk.proofs.opening.open_files.Goals as goal
 
 pub returns-in_err-sort-clause-err : goal.returns-in_err-sort-clause-err
@@ -24,3 +24,11 @@ returns-clause-ok g c = let state = g.D.Disk.state in let cap = c.args.capacity 
     reopened cap all c.in_ok-files.files.items c.sort.new.self.items c.in_ok-index.index.entries i.0 (state c.args.disk.now) (state c.list.new.self) (state c.keep_files.new.disk) (state c.index_files.new.disk)
     c.in_ok-list.ensures.same (subst (λ (l : List Listed). IsListing l (state c.args.disk.now)) (sym c.into_vec-all.ensures) c.in_ok-list.ensures.listed) c.in_ok-files.ensures.kept c.in_ok-files.ensures.ok
     c.in_ok-sort.ensures.permutation c.in_ok-sort.ensures.sorted (omega (arith, c.size-within.ensures.size, c.size-within.ensures.within, c.in_ok-index.ensures.capacity)) i.1 i.2
+
+pub returns-in_err-list-clause-err : goal.returns-in_err-list-clause-err
+returns-in_err-list-clause-err g c = on_err c.from_residual.result _ (refused_listing c.args.capacity (g.D.Disk.state c.args.disk.now) (g.D.Disk.state c.list.new.self) c.in_err-list.ensures.same)
+
+pub returns-in_err-files-clause-err : goal.returns-in_err-files-clause-err
+returns-in_err-files-clause-err g c = let state = g.D.Disk.state in let all = c.into_vec-all.result.items in let k = c.in_err-files.ensures.err in
+    on_err c.from_residual-in_err-files.result _ (refused_dropping c.args.capacity all k.0 k.1 (state c.args.disk.now) (state c.list.new.self) (state c.keep_files.new.disk) c.in_ok-list.ensures.same
+    (subst (λ (l : List Listed). IsListing l (state c.args.disk.now)) (sym c.into_vec-all.ensures) c.in_ok-list.ensures.listed) k.2 k.3)
