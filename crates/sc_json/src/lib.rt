@@ -1,4 +1,4 @@
-//! The JSON of the daemon's statistics.
+//! The JSON of the daemon's statistics, with the types that have one.
 #![tactic(auto)]
 
 mod dist;
@@ -14,3 +14,4 @@ mod text;
 
 pub use dist::DistInfoJson;
 pub use info::ServerInfoJson;
+pub use sc_stats::{DistInfo, ServerInfo};

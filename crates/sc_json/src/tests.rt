@@ -1,232 +1,149 @@
-ghost use Rattle.std.specs.Prelude.{◌≡◌, [], ◌∷◌, codes, None, Some, true};
-
-use crate::expected::{BY_COMPILER, FULL_JSON};
+use crate::expected::{FULL, NOTHING};
 use crate::{DistInfoJson, ServerInfoJson};
-use sc_entry::{ByteText, Counts, Items, NoMemory, Text};
-use sc_stats::{
-    DistInfo, LevelStats, ServerInfo, ServerStats, ServerStatsWriter, Span, StoreFacts,
-};
+use sc_entry::{Counts, Items, Text};
+use sc_stats::{DistInfo, LevelStats, PerLanguageCount, ServerInfo, ServerStats, Span};
 use serde_json::Value;
 use std::alloc::Global;
 use std::test::Fail;
 
-/// Keeps printed lines, each ended by a line feed.
-#[derive(Drop)]
-struct Page {
-    text: String,
+fn text(alloc: Global, text: &str) -> Result<Text, Fail> {
+    Ok(Text::from_str(alloc, text)?)
 }
 
-impl ServerStatsWriter for Page {
-    ghost writes = { λ old text new. new ≡ new };
-
-    fn write(&mut self, text: &str) {
-        let _kept = self.text.push_str(text);
-        let _ended = self.text.push('\n');
-    }
+fn counts(alloc: Global, key: &str, count: u64) -> Result<Counts, Fail> {
+    let key = text(alloc, key)?;
+    let mut counts = Counts::new(alloc);
+    counts.add(&key, count)?;
+    Ok(counts)
 }
 
-/// A store over levels.
-#[derive(Drop)]
-struct Levels {
-    levels: Items<LevelStats>,
-    basedirs: Items<ByteText>,
-}
-
-impl StoreFacts for Levels {
-    ghost facts = { λ s. record { location = codes "Local disk: \"/x\""; current_size = Some 1536; max_size = Some 2560; levels = Some s.levels; use_preprocessor_cache_mode = true; basedirs = s.basedirs } };
-
-    fn location(&self, alloc: Global) -> Result<Text, NoMemory> {
-        Text::from_str(alloc, "Local disk: \"/x\"")
-    }
-
-    fn current_size(&self) -> Option<u64> {
-        Some(1536)
-    }
-
-    fn max_size(&self) -> Option<u64> {
-        Some(2560)
-    }
-
-    fn multilevel_stats(&self, _alloc: Global) -> Result<Option<Items<LevelStats>>, NoMemory> {
-        Ok(Some(self.levels.clone()?))
-    }
-
-    fn use_preprocessor_cache_mode(&self) -> bool {
-        true
-    }
-
-    fn basedirs(&self) -> &[ByteText] {
-        self.basedirs.as_slice()
-    }
-}
-
-fn count(counts: &mut Counts, alloc: Global, text: &str, n: u64) -> Result<(), Fail> {
-    let text = Text::from_str(alloc, text)?;
-    counts.add(&text, n)?;
-    Ok(())
-}
-
-fn fill_requests(stats: &mut ServerStats) {
-    stats.compile_requests = u64::MAX;
-    stats.requests_unsupported_compiler = 2;
-    stats.requests_not_compile = 3;
-    stats.requests_not_cacheable = 4;
-    stats.requests_executed = 5;
-    stats.cache_timeouts = 6;
-    stats.cache_read_errors = 7;
-    stats.non_cacheable_compilations = 8;
-    stats.forced_recaches = 9;
-}
-
-fn fill_writes(stats: &mut ServerStats) {
-    stats.cache_write_errors = 10;
-    stats.cache_writes = 4_294_967_296;
-    stats.cache_write_duration = Span::new(4_294_967_296, 0);
-    stats.cache_read_hit_duration = Span::new(3, 2);
-    stats.compilations = 1;
-    stats.compiler_write_duration = Span::new(0, 1_999_999);
-    stats.compile_fails = 16;
-    stats.dist_errors = 17;
-}
-
-fn fill_languages(stats: &mut ServerStats, alloc: Global) -> Result<(), Fail> {
-    count(&mut stats.cache_hits.counts, alloc, "Größenwahnsinn", 2)?;
-    count(&mut stats.cache_hits.counts, alloc, "C/C++", 1)?;
-    let hits = &mut stats.cache_hits.adv_counts;
-    count(hits, alloc, "größenwahnsinn [gcc]", 2)?;
-    count(hits, alloc, "c [gcc]", 1)?;
-    count(&mut stats.cache_misses.counts, alloc, "C/C++", 799)?;
-    count(&mut stats.cache_misses.adv_counts, alloc, "c [gcc]", 799)?;
-    count(&mut stats.cache_errors.counts, alloc, "Rust", 4)?;
-    count(&mut stats.cache_errors.adv_counts, alloc, "rust", 4)?;
-    Ok(())
-}
-
-fn fill_texts(stats: &mut ServerStats, alloc: Global) -> Result<(), Fail> {
-    count(&mut stats.not_cached, alloc, "b", 2)?;
-    count(&mut stats.not_cached, alloc, "a", 2)?;
-    count(&mut stats.not_cached, alloc, "-", 2)?;
-    count(&mut stats.not_cached, alloc, "é", 3)?;
-    count(&mut stats.dist_compiles, alloc, "one", 1)?;
-    count(&mut stats.dist_compiles, alloc, "zwölf", 12)?;
-    Ok(())
+fn languages(
+    alloc: Global,
+    kind: &str,
+    compiler: &str,
+    count: u64,
+) -> Result<PerLanguageCount, Fail> {
+    Ok(PerLanguageCount {
+        counts: counts(alloc, kind, count)?,
+        adv_counts: counts(alloc, compiler, count)?,
+    })
 }
 
 fn two_levels(alloc: Global) -> Result<Items<LevelStats>, Fail> {
-    let name = Text::from_str(alloc, "L0 (disk)")?;
-    let mut disk = LevelStats::named(name, Text::from_str(alloc, "/ö")?);
-    disk.hits = 1;
-    disk.misses = 3;
-    disk.writes = 2;
-    disk.write_failures = 5;
-    disk.backfills_from = 6;
-    disk.backfills_to = 7;
-    disk.hit_duration = Span::from_nanoseconds(5);
-    disk.write_duration = Span::new(3, 0);
     let mut levels = Items::new(alloc);
-    levels.push(disk)?;
-    let name = Text::from_str(alloc, "Lé")?;
-    levels.push(LevelStats::named(name, Text::from_str(alloc, "redis")?))?;
+    levels.push(LevelStats {
+        name: text(alloc, "L0 (disk)")?,
+        location: text(alloc, "/ö")?,
+        hits: 26,
+        misses: 27,
+        writes: 28,
+        write_failures: 29,
+        backfills_from: 30,
+        backfills_to: 31,
+        hit_duration: Span::from_nanoseconds(32),
+        write_duration: Span::new(33, 0),
+    })?;
+    levels.push(LevelStats::named(text(alloc, "Lé")?, Text::new(alloc)))?;
     Ok(levels)
 }
 
 fn full_stats(alloc: Global) -> Result<ServerStats, Fail> {
-    let levels = two_levels(alloc)?;
-    let mut stats = ServerStats::new(alloc);
-    fill_requests(&mut stats);
-    fill_writes(&mut stats);
-    fill_languages(&mut stats, alloc)?;
-    fill_texts(&mut stats, alloc)?;
-    stats.multi_level = Some(levels);
-    Ok(stats)
+    let mut not_cached = counts(alloc, "b", 22)?;
+    not_cached.add(&text(alloc, "a")?, 23)?;
+    Ok(ServerStats {
+        compile_requests: u64::MAX,
+        requests_unsupported_compiler: 2,
+        requests_not_compile: 3,
+        requests_not_cacheable: 4,
+        requests_executed: 5,
+        cache_errors: languages(alloc, "Rust", "rust", 6)?,
+        cache_hits: languages(alloc, "C/C++", "c [gcc]", 7)?,
+        cache_misses: languages(alloc, "Größe", "größe", 8)?,
+        cache_timeouts: 9,
+        cache_read_errors: 10,
+        non_cacheable_compilations: 11,
+        forced_recaches: 12,
+        cache_write_errors: 13,
+        cache_writes: 14,
+        cache_write_duration: Span::new(15, 16),
+        cache_read_hit_duration: Span::new(17, 18),
+        compilations: 19,
+        compiler_write_duration: Span::new(20, 999_999_999),
+        compile_fails: 21,
+        not_cached,
+        dist_compiles: counts(alloc, "é", 24)?,
+        dist_errors: 25,
+        multi_level: Some(two_levels(alloc)?),
+    })
+}
+
+fn info(alloc: Global, stats: ServerStats) -> Result<ServerInfo, Fail> {
+    Ok(ServerInfo {
+        stats,
+        cache_location: Text::new(alloc),
+        cache_size: None,
+        max_cache_size: None,
+        use_preprocessor_cache_mode: false,
+        version: text(alloc, "0.19.0")?,
+        basedirs: Items::new(alloc),
+    })
 }
 
 fn full_info(alloc: Global) -> Result<ServerInfo, Fail> {
-    let mut basedirs = Items::new(alloc);
-    basedirs.push(ByteText::from_slice(alloc, b"/a")?)?;
-    basedirs.push(ByteText::from_slice(alloc, b"/\xff")?)?;
-    let levels = two_levels(alloc)?;
-    let store = Levels { levels, basedirs };
-    let stats = full_stats(alloc)?;
-    Ok(ServerInfo::new(alloc, stats, Some(&store))?)
+    let mut info = info(alloc, full_stats(alloc)?)?;
+    info.cache_location = text(alloc, "Local disk: \"/x\"")?;
+    info.cache_size = Some(1536);
+    info.max_cache_size = Some(2560);
+    info.use_preprocessor_cache_mode = true;
+    info.basedirs.push(text(alloc, "/a")?)?;
+    info.basedirs.push(text(alloc, "/ö")?)?;
+    Ok(info)
 }
 
 #[test]
-fn all_that_a_daemon_tells(rt: HostRuntime) -> Result<(), Fail> {
+fn json_of_nothing(rt: HostRuntime) -> Result<(), Fail> {
     let alloc = rt.alloc();
-    let info = full_info(alloc)?;
-    let mut page = Page {
-        text: String::new(alloc),
-    };
-    info.print(alloc, &mut page, true, Some("ReadOnly"))?;
-    assert_eq!(rt; page.text.as_str(), BY_COMPILER);
+    let info = info(alloc, ServerStats::new(alloc))?;
+    assert_eq!(rt; info.json_text(alloc, None)?.as_str(), NOTHING);
     Ok(())
 }
 
 #[test]
-fn counters_stop_at_their_end(rt: HostRuntime) -> Result<(), Fail> {
-    let alloc = rt.alloc();
-    let mut one = ServerStats::new(alloc);
-    one.compile_requests = 1;
-    count(&mut one.cache_hits.counts, alloc, "Rust", 1)?;
-    let mut stats = ServerStats::new(alloc);
-    stats.compile_requests = u64::MAX;
-    count(&mut stats.cache_hits.counts, alloc, "Rust", u64::MAX)?;
-    stats.add_assign(&one)?;
-    assert_eq!(rt; stats.compile_requests, u64::MAX);
-    assert_eq!(rt; stats.cache_hits.all(), u64::MAX);
-    let mut longest = Span::new(u64::MAX, 999_999_999);
-    longest.add_assign(&Span::from_nanoseconds(1));
-    assert_eq!(rt; longest.as_secs(), u64::MAX);
-    assert_eq!(rt; longest.subsec_nanos(), 999_999_999);
-    Ok(())
-}
-
-#[test]
-fn reasons_are_counted(rt: HostRuntime) -> Result<(), Fail> {
-    let alloc = rt.alloc();
-    let mut stats = ServerStats::new(alloc);
-    stats.record_not_cacheable(alloc, "-E", None)?;
-    stats.record_not_cacheable(alloc, "-E", Some("foo"))?;
-    stats.record_not_cacheable(alloc, "crate-type", Some("dylib"))?;
-    let absent = Some("no crate-type passed");
-    stats.record_not_cacheable(alloc, "crate-type", absent)?;
-    assert_eq!(rt; stats.requests_not_cacheable, 4);
-    let preprocess = Text::from_str(alloc, "-E")?;
-    assert_eq!(rt; stats.not_cached.get(&preprocess), 2);
-    let dylib = Text::from_str(alloc, "crate-type (dylib)")?;
-    assert_eq!(rt; stats.not_cached.get(&dylib), 1);
-    let bare = Text::from_str(alloc, "crate-type")?;
-    assert_eq!(rt; stats.not_cached.get(&bare), 1);
-    Ok(())
-}
-
-#[test]
-fn json_of_all(rt: HostRuntime) -> Result<(), Fail> {
+fn ample_json_text(rt: HostRuntime) -> Result<(), Fail> {
     let info = full_info(rt.alloc())?;
     let text = info.json_text(rt.alloc(), Some("ReadOnly"))?;
-    assert_eq!(rt; text.as_str(), FULL_JSON);
-    let value = info.to_json(rt.alloc(), None)?;
-    let seconds = value.pointer("/stats/cache_write_duration/secs");
-    assert_eq!(rt; seconds.and_then(Value::as_u64), Some(4_294_967_296));
+    assert_eq!(rt; text.as_str(), FULL);
     Ok(())
 }
 
 #[test]
-fn json_of_distribution(rt: HostRuntime) -> Result<(), Fail> {
+fn ample_to_json(rt: HostRuntime) -> Result<(), Fail> {
+    let info = full_info(rt.alloc())?;
+    let value = info.to_json(rt.alloc(), None)?;
+    let requests = value.pointer("/stats/compile_requests");
+    assert_eq!(rt; requests.and_then(Value::as_u64), Some(u64::MAX));
+    let mode = value.pointer("/effective_cache_mode");
+    assert_eq!(rt; mode.map(Value::is_null), Some(true));
+    Ok(())
+}
+
+#[test]
+fn json_without_distribution(rt: HostRuntime) -> Result<(), Fail> {
     let alloc = rt.alloc();
-    let off = DistInfo::Disabled(Text::from_str(alloc, "disabled")?);
-    assert_eq!(rt;
-        off.json_text(alloc)?.as_str(),
-        r#"{"Disabled":"disabled"}"#
-    );
-    let away = DistInfo::NotConnected(None, Text::from_str(alloc, "x")?);
-    assert_eq!(rt;
-        away.json_text(alloc)?.as_str(),
-        r#"{"NotConnected":[null,"x"]}"#
-    );
+    let off = DistInfo::Disabled(text(alloc, "disabled")?);
+    let off = off.json_text(alloc)?;
+    assert_eq!(rt; off.as_str(), r#"{"Disabled":"disabled"}"#);
+    let away = DistInfo::NotConnected(None, text(alloc, "x")?);
+    let away = away.json_text(alloc)?;
+    assert_eq!(rt; away.as_str(), r#"{"NotConnected":[null,"x"]}"#);
+    Ok(())
+}
+
+#[test]
+fn json_of_a_scheduler(rt: HostRuntime) -> Result<(), Fail> {
+    let alloc = rt.alloc();
     let on = DistInfo::SchedulerStatus {
-        url: Some(Text::from_str(alloc, "http://s")?),
+        url: Some(text(alloc, "http://s")?),
         num_servers: 1,
         num_cpus: 8,
         in_progress: 3,

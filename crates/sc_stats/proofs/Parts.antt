@@ -1,12 +1,13 @@
 -- Parts of sums, and sums of levels place by place.
-use Rattle.std.proofs.Common.{◌≡◌, ℕ, zero, suc, ◌<◌, ◌≤◌, List, [], ◌∷◌, ◌++◌, length, take, get_or, Option, Some, None, refl, ap, sym, ◌∙◌, arith}
+use Rattle.std.proofs.Common.{◌≡◌, ℕ, zero, suc, ◌<◌, ◌≤◌, List, [], ◌∷◌, ◌++◌, length, take, drop, get_or, Option, Some, None, refl, ap, sym, ◌∙◌, arith}
+use Rattle.std.proofs.Math.Seq.{drop-length, take-length}
 use Rattle.std.proofs.lemmas.List.{append-nil}
 use Rattle.std.proofs.Math.ListN.{set}
 use Rattle.std.specs.FinMap.{empty, entries}
 use Rattle.sc_entry.specs.Tally.{IsPartSum, Tally, add_counts, add_each}
 use Rattle.sc_entry.proofs.Tallies.{entries_empty}
 use Rattle.sc_stats.specs.Parts.{HasNumbersAlone, IsPartOfLanguages, IsPartOfMulti, with_counts}
-use Rattle.sc_stats.specs.Sums.{add_languages, add_level, add_levels, add_multi, no_counts, sum}
+use Rattle.sc_stats.specs.Sums.{add_languages, add_level, add_levels, add_multi, no_counts, places_of, sum}
 use Rattle.sc_stats.specs.declared.counters.ServerStats.{ServerStats}
 use Rattle.sc_stats.specs.declared.counters.LevelStats.{LevelStats}
 use Rattle.sc_stats.specs.declared.counters.PerLanguageCount.{PerLanguageCount}
@@ -46,6 +47,18 @@ add_levels-longer [] (b ∷ bs) zero e past in_b = refl
 add_levels-longer [] (b ∷ bs) (suc i) e past in_b = ap (λ ls. b ∷ ls) (add_levels-longer [] bs i e (omega arith) (omega arith))
 add_levels-longer (a ∷ as') (b ∷ bs) zero e past in_b = absurd (omega arith)
 add_levels-longer (a ∷ as') (b ∷ bs) (suc i) e past in_b = ap (λ ls. add_level a b ∷ ls) (add_levels-longer as' bs i e (omega arith) (omega arith))
+
+-- levels keep their places where others are added
+pub places_stay : (as' bs : List LevelStats) → places_of (take (length as') (add_levels as' bs)) ≡ places_of as'
+places_stay [] bs = refl
+places_stay (a ∷ as') [] = ap places_of (take-length (a ∷ as'))
+places_stay (a ∷ as') (b ∷ bs) = ap (λ ps. (a.name, a.location) ∷ ps) (places_stay as' bs)
+
+-- what others have more stands after them
+pub surplus_stays : (as' bs : List LevelStats) → drop (length as') (add_levels as' bs) ≡ drop (length as') bs
+surplus_stays [] bs = refl
+surplus_stays (a ∷ as') [] = drop-length as'
+surplus_stays (a ∷ as') (b ∷ bs) = surplus_stays as' bs
 
 pub no_multi : (a b : Option (List LevelStats)) → IsPartOfMulti a b a
 no_multi None b = refl

@@ -1,5 +1,5 @@
 -- Statistics added: each number stops at its type's end, counts by text are added text by text, levels by place.
-use Rattle.std.specs.Prelude.{ℕ, ◌+◌, ◌-◌, ◌^◌, min, List, [], ◌∷◌, Option, Some, None}
+use Rattle.std.specs.Prelude.{ℕ, ◌+◌, ◌-◌, ◌^◌, min, List, [], ◌∷◌, map, Option, Some, None}
 use Rattle.std.specs.FinMap.{empty as empty_map}
 use Rattle.sc_entry.specs.Tally.{Tally, counted}
 pub use Rattle.sc_entry.specs.Tally.{add_each, add_counts}
@@ -37,6 +37,10 @@ abbrev pub add_levels : List LevelStats → List LevelStats → List LevelStats
 add_levels [] bs = bs
 add_levels (a ∷ as') [] = a ∷ as'
 add_levels (a ∷ as') (b ∷ bs) = add_level a b ∷ add_levels as' bs
+
+-- the names and locations of levels, in their order
+abbrev pub places_of : List LevelStats → List (List ℕ × List ℕ)
+places_of levels = map (λ l. (l.name, l.location)) levels
 
 abbrev pub add_multi : Option (List LevelStats) → Option (List LevelStats) → Option (List LevelStats)
 add_multi None b = b

@@ -155,3 +155,52 @@ impl Clone for ServerStats {
         })
     }
 }
+
+impl Clone for ServerInfo {
+    ghost is_clone = { λ original copy. copy ≡ original };
+
+    fn clone(&self) -> Result<ServerInfo, AllocError> {
+        Ok(ServerInfo {
+            stats: self.stats.clone()?,
+            cache_location: self.cache_location.clone()?,
+            cache_size: self.cache_size,
+            max_cache_size: self.max_cache_size,
+            use_preprocessor_cache_mode: self.use_preprocessor_cache_mode,
+            version: self.version.clone()?,
+            basedirs: self.basedirs.clone()?,
+        })
+    }
+}
+
+fn copy_of_text(text: &Option<Text>) -> Result<Option<Text>, AllocError>
+    ensures { IfOk result (λ copy. copy ≡ text.now) }
+{
+    match text {
+        Some(text) => Ok(Some(text.clone()?)),
+        None => Ok(None),
+    }
+}
+
+impl Clone for DistInfo {
+    ghost is_clone = { λ original copy. copy ≡ original };
+
+    fn clone(&self) -> Result<DistInfo, AllocError> {
+        match self {
+            DistInfo::Disabled(text) => Ok(DistInfo::Disabled(text.clone()?)),
+            DistInfo::NotConnected(url, text) => {
+                Ok(DistInfo::NotConnected(copy_of_text(url)?, text.clone()?))
+            }
+            DistInfo::SchedulerStatus {
+                url,
+                num_servers,
+                num_cpus,
+                in_progress,
+            } => Ok(DistInfo::SchedulerStatus {
+                url: copy_of_text(url)?,
+                num_servers: *num_servers,
+                num_cpus: *num_cpus,
+                in_progress: *in_progress,
+            }),
+        }
+    }
+}

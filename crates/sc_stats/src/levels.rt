@@ -1,11 +1,11 @@
-ghost use Rattle.std.specs.Prelude.{◌≡◌, ◌∷◌, ◌++◌, [], OnOk, OnErr};
-ghost use Rattle.sc_stats.specs.Sums.{add_level, add_levels, no_level_stats};
+ghost use Rattle.std.specs.Prelude.{◌≡◌, ◌∷◌, ◌++◌, [], OnOk, OnErr, length, take, drop};
+ghost use Rattle.sc_stats.specs.Sums.{add_level, add_levels, no_level_stats, places_of};
 ghost use Rattle.sc_stats.specs.Parts.{IsPartOfLevels};
 
 use crate::counters::LevelStats;
 use crate::span::Span;
 use sc_entry::{Items, NoMemory, Text};
-use std::alloc::Global;
+use std::alloc::{AllocError, Global};
 use std::marker::Model;
 
 impl LevelStats {
@@ -65,6 +65,15 @@ impl Model for MultiLevelStats {
 }
 
 impl MultiLevelStats {
+    /// No level.
+    pub fn new(alloc: Global) -> MultiLevelStats
+        ensures { result ≡ [] }
+    {
+        MultiLevelStats {
+            levels: Vec::new(alloc),
+        }
+    }
+
     pub fn from_levels(levels: Items<LevelStats>) -> MultiLevelStats
         ensures { result ≡ levels }
     {
@@ -88,7 +97,18 @@ impl MultiLevelStats {
 
     /// Adds the levels of another, place by place. Names and locations stay, and what the other has more
     /// is appended. Without memory a front part of the other's levels is added.
-    pub fn add_assign(&mut self, other: &[LevelStats]) -> Result<(), NoMemory>
+    pub fn add_assign(&mut self, other: &MultiLevelStats) -> Result<(), NoMemory>
+        ensures ok { OnOk result (self.new ≡ add_levels self.old other.now) }
+        ensures places { OnOk result (places_of (take (length self.old) self.new) ≡ places_of self.old) }
+        ensures surplus { OnOk result (drop (length self.old) self.new ≡ drop (length self.old) other.now) }
+        ensures err { OnErr result (IsPartOfLevels self.old other.now self.new) }
+    {
+        self.add_levels(other.as_slice())?;
+        Ok(())
+    }
+
+    /// Adds levels, place by place.
+    pub(crate) fn add_levels(&mut self, other: &[LevelStats]) -> Result<(), NoMemory>
         ensures ok { OnOk result (self.new ≡ add_levels self.old other.now) }
         ensures err { OnErr result (IsPartOfLevels self.old other.now self.new) }
     {
@@ -100,5 +120,15 @@ impl MultiLevelStats {
             }
         }
         Ok(())
+    }
+}
+
+impl Clone for MultiLevelStats {
+    ghost is_clone = { λ levels copy. copy ≡ levels };
+
+    fn clone(&self) -> Result<MultiLevelStats, AllocError> {
+        Ok(MultiLevelStats {
+            levels: self.levels.clone()?,
+        })
     }
 }

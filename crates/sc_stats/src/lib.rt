@@ -2,6 +2,8 @@
 #![tactic(auto)]
 
 mod counters;
+#[cfg(test)]
+mod expected;
 mod figures;
 mod info;
 mod languages;
@@ -13,6 +15,8 @@ mod reasons;
 mod rows;
 mod span;
 mod store_facts;
+#[cfg(test)]
+mod tests;
 mod totals;
 mod writer;
 

@@ -143,7 +143,7 @@ fn add_level_lists(
     match own.take() {
         Some(levels) => {
             let mut both = MultiLevelStats::from_levels(levels);
-            let added = both.add_assign(more.as_slice());
+            let added = both.add_levels(more.as_slice());
             *own = Some(both.into_levels());
             added
         }
