@@ -1,6 +1,6 @@
 -- A served event that was counted.
 use Rattle.std.proofs.Common.{◌≡◌, ℕ, ◌+◌, ◌≤◌, ◌++◌, true, false, length, Result, Ok, Err, refl, sym, ap, ◌∙◌, subst, arith}
-use Rattle.std.specs.Prelude.{IfOk, IsOk}
+use Rattle.std.specs.Prelude.{IfOk, IsOk, OnOk}
 use Rattle.sc_daemon.specs.Daemons.{Kept, ServesEvent, kept_after}
 use Rattle.sc_daemon.specs.Lines.{Line, conn_of}
 use Rattle.sc_daemon.specs.Turns.{Serves_one}
@@ -23,6 +23,11 @@ pub if_both : {A B E F : Type 0} {P R : A → Type 0} {Q : Type 0} (r : Result A
 if_both (Ok a) (Ok b) p both q f = f a p q
 if_both (Ok a) (Err e) p both q f = absurd (err_ok (both refl))
 if_both (Err e) q p both h f = tt
+
+pub if_both_on : {A B E F : Type 0} {P R : A → Type 0} {Q : Type 0} (r : Result A E) (q : Result B F) → IfOk r P → (IsOk r → IsOk q) → OnOk q Q → ((a : A) → P a → Q → R a) → IfOk r R
+if_both_on (Ok a) (Ok b) p both q f = f a p q
+if_both_on (Ok a) (Err e) p both q f = absurd (err_ok (both refl))
+if_both_on (Err e) q p both h f = tt
 
 pub if_any : {A E : Type 0} {Q : Type 0} (r : Result A E) → Q → IfOk r (λ x. Q)
 if_any (Ok a) q = q

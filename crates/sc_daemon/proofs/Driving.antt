@@ -167,3 +167,7 @@ goes_by d0 d d2 inputs steps left rest p events events2 lines lines2 is_left bef
 pub if_four : {A E : Type 0} {P Q R S U : A → Type 0} (r : Result A E) → IfOk r P → IfOk r Q → IfOk r R → IfOk r S → ((a : A) → P a → Q a → R a → S a → U a) → IfOk r U
 if_four (Ok a) p q r s f = f a p q r s
 if_four (Err e) p q r s f = tt
+
+-- the writes that are left, where they were listed
+pub if_left_of : {E : Type 0} {A : Type 0} {all : A} (r : Result A E) (left : A) → r ≡ Ok left → IfOk r (λ a. a ≡ all) → left ≡ all
+if_left_of {all = all} r left is listed = subst (λ x. IfOk x (λ a. a ≡ all)) is listed

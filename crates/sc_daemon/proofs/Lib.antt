@@ -2,6 +2,7 @@ pub mod Beginning
 pub mod Counted
 pub mod Driving
 pub mod Firsts
+pub mod Handing
 pub mod Machines
 pub mod Plain
 pub mod Serving

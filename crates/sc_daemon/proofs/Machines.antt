@@ -209,7 +209,7 @@ backed_by d d2 lines i p e does =
       world = d2.state.world;
     }
 
-pending_is : (n i : ℕ) (ps : List Pending) (p : Pending) → pending_at i ps ≡ Some p → ArePending n ps → IsPending n p
+pub pending_is : (n i : ℕ) (ps : List Pending) (p : Pending) → pending_at i ps ≡ Some p → ArePending n ps → IsPending n p
 pending_is n i [] p e are = absurd (cc)
 pending_is n zero (q ∷ ps) p e are = let same : q ≡ p = cc in subst (IsPending n) same are.0
 pending_is n (suc i) (q ∷ ps) p e are = pending_is n i ps p e are.1

@@ -65,27 +65,27 @@ drop_served (r ∷ w) served = served.1
 
 -- where the first stands after a phase of its, and the next behind one that is over
 settle_rests : (k : Config) (c : Conn) (p : Phase) (r : Request) (rest : List Request) → c.queue ≡ r ∷ rest → AreServed c.queue → Stands k p r → Rests k (settle c p).phase (settle c p).queue
-settle_rests k c AtBegin r rest e served stands = rests_with k AtBegin r rest c.queue e served stands
-settle_rests k c (AtSend a) r rest e served stands = rests_with k (AtSend a) r rest c.queue e served stands
-settle_rests k c (AtStarted a) r rest e served stands = rests_with k (AtStarted a) r rest c.queue e served stands
-settle_rests k c (AtKey a b) r rest e served stands = rests_with k (AtKey a b) r rest c.queue e served stands
-settle_rests k c (AtAsk a b) r rest e served stands = rests_with k (AtAsk a b) r rest c.queue e served stands
-settle_rests k c (AtPlace a b d) r rest e served stands = rests_with k (AtPlace a b d) r rest c.queue e served stands
-settle_rests k c (AtDist a) r rest e served stands = rests_with k (AtDist a) r rest c.queue e served stands
-settle_rests k c (AtTake a) r rest e served stands = rests_with k (AtTake a) r rest c.queue e served stands
-settle_rests k c (AtRun a) r rest e served stands = rests_with k (AtRun a) r rest c.queue e served stands
-settle_rests k c (AtEnd a b d) r rest e served stands = rests_with k (AtEnd a b d) r rest c.queue e served stands
-settle_rests k c (AtStore a b d e) r rest e served stands = rests_with k (AtStore a b d e) r rest c.queue e served stands
-settle_rests k c (AtWrite a b d e) r rest e served stands = rests_with k (AtWrite a b d e) r rest c.queue e served stands
-settle_rests k c (AtFill a b d e f) r rest e served stands = rests_with k (AtFill a b d e f) r rest c.queue e served stands
-settle_rests k c (AtCommit a b d e f) r rest e served stands = rests_with k (AtCommit a b d e f) r rest c.queue e served stands
-settle_rests k c (AtFinish a b) r rest e served stands = rests_with k (AtFinish a b) r rest c.queue e served stands
-settle_rests k c (RawAsk a b) r rest e served stands = rests_with k (RawAsk a b) r rest c.queue e served stands
-settle_rests k c (PathAsk a) r rest e served stands = rests_with k (PathAsk a) r rest c.queue e served stands
-settle_rests k c (PreAsk a b) r rest e served stands = rests_with k (PreAsk a b) r rest c.queue e served stands
-settle_rests k c (PrePut a b d) r rest e served stands = rests_with k (PrePut a b d) r rest c.queue e served stands
-settle_rests k c (SizeAsk a b d) r rest e served stands = rests_with k (SizeAsk a b d) r rest c.queue e served stands
-settle_rests k c (AtEnded a) r rest e served stands = rests_with k (AtEnded a) r rest c.queue e served stands
+settle_rests k c AtBegin r rest is served stands = rests_with k AtBegin r rest c.queue is served stands
+settle_rests k c (AtSend a) r rest is served stands = rests_with k (AtSend a) r rest c.queue is served stands
+settle_rests k c (AtStarted a) r rest is served stands = rests_with k (AtStarted a) r rest c.queue is served stands
+settle_rests k c (AtKey a b) r rest is served stands = rests_with k (AtKey a b) r rest c.queue is served stands
+settle_rests k c (AtAsk a b) r rest is served stands = rests_with k (AtAsk a b) r rest c.queue is served stands
+settle_rests k c (AtPlace a b d) r rest is served stands = rests_with k (AtPlace a b d) r rest c.queue is served stands
+settle_rests k c (AtDist a) r rest is served stands = rests_with k (AtDist a) r rest c.queue is served stands
+settle_rests k c (AtTake a) r rest is served stands = rests_with k (AtTake a) r rest c.queue is served stands
+settle_rests k c (AtRun a) r rest is served stands = rests_with k (AtRun a) r rest c.queue is served stands
+settle_rests k c (AtEnd a b d) r rest is served stands = rests_with k (AtEnd a b d) r rest c.queue is served stands
+settle_rests k c (AtStore a b d e) r rest is served stands = rests_with k (AtStore a b d e) r rest c.queue is served stands
+settle_rests k c (AtWrite a b d e) r rest is served stands = rests_with k (AtWrite a b d e) r rest c.queue is served stands
+settle_rests k c (AtFill a b d e f) r rest is served stands = rests_with k (AtFill a b d e f) r rest c.queue is served stands
+settle_rests k c (AtCommit a b d e f) r rest is served stands = rests_with k (AtCommit a b d e f) r rest c.queue is served stands
+settle_rests k c (AtFinish a b) r rest is served stands = rests_with k (AtFinish a b) r rest c.queue is served stands
+settle_rests k c (RawAsk a b) r rest is served stands = rests_with k (RawAsk a b) r rest c.queue is served stands
+settle_rests k c (PathAsk a) r rest is served stands = rests_with k (PathAsk a) r rest c.queue is served stands
+settle_rests k c (PreAsk a b) r rest is served stands = rests_with k (PreAsk a b) r rest c.queue is served stands
+settle_rests k c (PrePut a b d) r rest is served stands = rests_with k (PrePut a b d) r rest c.queue is served stands
+settle_rests k c (SizeAsk a b d) r rest is served stands = rests_with k (SizeAsk a b d) r rest c.queue is served stands
+settle_rests k c (AtEnded a) r rest is served stands = rests_with k (AtEnded a) r rest c.queue is served stands
 settle_rests k c AtOver r rest e served stands = begin_rests k (drop 1 c.queue) (drop_served c.queue served)
 
 -- more came behind

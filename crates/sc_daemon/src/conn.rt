@@ -288,10 +288,10 @@ impl Conn {
         }
     }
 
-    /// The bytes that were sent.
-    pub fn into_sent(self) -> ByteText
-        ensures { result ≡ self.out }
+    /// Takes out the bytes that were sent.
+    pub fn take_sent(&mut self, alloc: Global) -> ByteText
+        ensures { result ≡ self.old.out }
     {
-        ByteText::from_vec(self.out)
+        ByteText::from_vec(std::mem::replace(&mut self.out, Vec::new(alloc)))
     }
 }

@@ -3,7 +3,9 @@ ghost use Rattle.std.specs.Prelude.{◌≡◌, ◌↔◌, ◌+◌, ◌<◌, ◌�
 ghost use Rattle.sc_daemon.specs.Backlogs.{ArePending, IsPending};
 ghost use Rattle.sc_daemon.specs.Daemons.{BacksEvent, DoesPending, IsIdleDaemon, ReadsEvent, ServesEvent, WritesHanded, anew, kept_after, new_daemon, no_levels, passed};
 ghost use Rattle.sc_daemon.specs.Standings.{Rests};
+ghost use Rattle.sc_job.specs.LevelRows.{origin_of};
 ghost use Rattle.sc_model.specs.Machine as machine;
+ghost use Rattle.sc_model.specs.Rows.{by_backfill, level_row};
 ghost use Rattle.sc_model.specs.Trace.{hands};
 
 use crate::backlog::{Backlog, handed_count};
@@ -49,6 +51,17 @@ fn free_after(free: u64, what: &What) -> u64
         What::TokenTaken => free.saturating_sub(1),
         What::Ran(_) => free + 1,
         _ => free,
+    }
+}
+
+/// Whose a handed write is, which was handed on at this moment.
+fn handed_origin(backfill: bool, at: u64) -> Origin
+    ensures { origin_of result ≡ by_backfill backfill at }
+{
+    if backfill {
+        Origin::Backfill
+    } else {
+        Origin::FromPut(at)
     }
 }
 
@@ -224,23 +237,38 @@ impl<P: Parts> Daemon<P> {
         Ok(())
     }
 
-    /// Keeps what an event of a request counts at a level, which tokens it takes or gives back, and the writes that it hands
-    /// on. `last` is the moment of the request's event before.
-    fn keep(&mut self, alloc: Global, last: u64, moment: u64, what: &What) -> Result<(), NoMemory>
-        requires { self.old.free + 1 < 2 ^ 64 }
-        ensures { OnOk result (self.new ≡ kept_after self.old last moment what.now) }
+    /// Adds what an event counts at the level that it names, where levels are counted.
+    fn count(
+        &mut self,
+        alloc: Global,
+        origin: Origin,
+        last: u64,
+        since: u64,
+        moment: u64,
+        what: &What,
+    )
+        ensures { self.new ≡ record self.old { levels = machine.counted_level self.old.state.config.policy (level_row (origin_of origin) last since moment what.now) what.now self.old.levels } }
     {
         let single = self.owned.is_single();
         count_level(
             alloc,
             &mut self.levels,
             single,
-            Origin::Direct,
+            origin,
             last,
-            0,
+            since,
             moment,
             what,
         );
+    }
+
+    /// Keeps what an event of a request counts at a level, which tokens it takes or gives back, and the writes that it hands
+    /// on. `last` is the moment of the request's event before.
+    fn keep(&mut self, alloc: Global, last: u64, moment: u64, what: &What) -> Result<(), NoMemory>
+        requires { self.old.free + 1 < 2 ^ 64 }
+        ensures { OnOk result (self.new ≡ kept_after self.old last moment what.now) }
+    {
+        self.count(alloc, Origin::Direct, last, 0, moment, what);
         self.free = free_after(self.free, what);
         self.keep_handed(moment, what)
     }
@@ -317,7 +345,6 @@ impl<P: Parts> Daemon<P> {
         ensures { IfOk result (λ event. DoesPending pending event self.old self.new) }
     {
         let moment = self.now();
-        let single = self.owned.is_single();
         let Pending {
             number,
             handed,
@@ -326,22 +353,9 @@ impl<P: Parts> Daemon<P> {
             since,
             ..
         } = pending;
-        let origin = if backfill {
-            Origin::Backfill
-        } else {
-            Origin::FromPut(at)
-        };
         let what = self.write(alloc, handed)?;
-        count_level(
-            alloc,
-            &mut self.levels,
-            single,
-            origin,
-            0,
-            since,
-            moment,
-            &what,
-        );
+        let origin = handed_origin(backfill, at);
+        self.count(alloc, origin, 0, since, moment, &what);
         Ok(Event {
             moment,
             owner: Owner::Write(number),

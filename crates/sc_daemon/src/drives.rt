@@ -1,8 +1,8 @@
 //! Drives of any steps over any bytes on any connections.
-ghost use Rattle.std.specs.Prelude.{◌≡◌, [], true, Ok, IfOk, map, reverse};
+ghost use Rattle.std.specs.Prelude.{◌≡◌, [], true, Ok, IfOk, IsOk, length, map, reverse};
 ghost use Rattle.sc_conn.specs.Ends.{end_of};
 ghost use Rattle.sc_daemon.specs.Daemons.{IsIdleDaemon, anew, script_of};
-ghost use Rattle.sc_daemon.specs.Drives.{Progress, line_end, result_of};
+ghost use Rattle.sc_daemon.specs.Drives.{Progress, line_end, lines_of, result_of};
 ghost use Rattle.sc_model.specs.Headline.{Headline};
 
 use crate::backlog::Backlog;
@@ -15,16 +15,21 @@ use sc_model::{Event, Handed, Step, every_run};
 use sc_owned::Parts;
 use std::alloc::Global;
 
+/// Drops a connection in a call of its own: dropped where it is used it takes the check minutes.
+fn discard_conn(conn: Conn) {
+    drop(conn);
+}
+
 /// What a connection came to.
-fn driven_conn(conn: Conn) -> DrivenConn
+fn driven_conn(alloc: Global, conn: Conn) -> DrivenConn
     ensures end { end_of result.end ≡ line_end conn }
     ensures sent { result.sent ≡ conn.out }
 {
+    let mut conn = conn;
     let end = conn.end();
-    DrivenConn {
-        end,
-        sent: conn.into_sent(),
-    }
+    let sent = conn.take_sent(alloc);
+    discard_conn(conn);
+    DrivenConn { end, sent }
 }
 
 fn driven_conns(alloc: Global, conns: Vec<Conn>) -> Result<Items<DrivenConn>, NoMemory>
@@ -33,7 +38,7 @@ fn driven_conns(alloc: Global, conns: Vec<Conn>) -> Result<Items<DrivenConn>, No
 {
     let mut driven = Items::new(alloc);
     for conn in conns {
-        driven.push(driven_conn(conn))?;
+        driven.push(driven_conn(alloc, conn))?;
     }
     Ok(driven)
 }
@@ -44,9 +49,10 @@ fn writes_left(alloc: Global, background: &Backlog) -> Result<Items<Handed>, NoM
 {
     let mut left = Items::new(alloc);
     for place in 0..background.len() {
-        if let Some(pending) = background.get(place) {
-            left.push(pending.handed.clone()?)?;
-        }
+        let Some(pending) = background.get(place) else {
+            return Ok(left);
+        };
+        left.push(pending.handed.clone()?)?;
     }
     Ok(left)
 }
@@ -116,7 +122,43 @@ fn if_left(
     }
 }
 
-/// Does all steps, from the first on.
+/// Does all steps of a drive that begins, from the first on.
+fn step_all<P: Parts>(
+    alloc: Global,
+    driver: &mut Driver,
+    daemon: &mut Daemon<P>,
+    inputs: &[ByteText],
+    steps: &[Step],
+) -> Result<(), NoMemory>
+    requires idle { IsIdleDaemon daemon.old }
+    requires told { daemon.old.state.told ≡ true }
+    requires handed { daemon.old.handed ≡ 0 }
+    requires conns { driver.old.conns.items ≡ lines_of daemon.old.state.config.limit (length inputs.now) }
+    requires events { driver.old.events.items ≡ [] }
+    ensures { IfOk result (λ _. Progress daemon.old daemon.new inputs.now steps.now [] driver.new.events.items driver.new.conns.items) }
+{
+    every_run();
+    for step in steps {
+        driver.step(alloc, daemon, inputs, step)?;
+    }
+    Ok(())
+}
+
+/// The drive, once all its steps are done.
+fn if_stepped(stepped: Result<(), NoMemory>, driver: Driver) -> Result<Driver, NoMemory>
+    ensures driver { IfOk result (λ d. d ≡ driver) }
+    ensures stepped { IsOk result → IsOk stepped }
+{
+    match stepped {
+        Ok(()) => Ok(driver),
+        Err(refused) => {
+            discard_driver(driver);
+            Err(refused)
+        }
+    }
+}
+
+/// Does all steps, over connections that nothing came over.
 fn all_steps<P: Parts>(
     alloc: Global,
     daemon: &mut Daemon<P>,
@@ -127,13 +169,10 @@ fn all_steps<P: Parts>(
     requires told { daemon.old.state.told ≡ true }
     ensures { IfOk result (λ driver. Progress (anew daemon.old) daemon.new inputs.now steps.now [] driver.events.items driver.conns.items) }
 {
-    every_run();
     daemon.number_anew();
     let mut driver = Driver::new(alloc, inputs.len(), daemon.limit())?;
-    for step in steps {
-        driver.step(alloc, daemon, inputs, step)?;
-    }
-    Ok(driver)
+    let stepped = step_all(alloc, &mut driver, daemon, inputs, steps);
+    if_stepped(stepped, driver)
 }
 
 /// Drives a daemon: each step is one atomic step, over these bytes on each connection. What it answers is what happened,

@@ -24,6 +24,11 @@ impl Model for Waiting {
 
     ghost Value = { List Request };
 
+    ghost use Rattle.std.specs.Coded.{coded_list};
+    ghost use Rattle.sc_model.specs.contracts.message.Request as request_type;
+
+    ghost coded = { coded_list request_type.the_row.coded };
+
     ghost view = { λ w. listed w.served ++ w.rest };
 
     ghost invariant = { λ w. IsFirst w.served w.rest };

@@ -6,11 +6,10 @@ use Rattle.sc_model.specs.Devices.{calls_failing}
 use Rattle.sc_model.specs.World.{Files, World, no_files}
 use Rattle.sc_model.specs.declared.event.RunAnswer.{RunAnswer}
 use Rattle.sc_model.specs.declared.level.Container.TheVariants.{Disabled}
-use Rattle.sc_model.specs.declared.level.Policy.TheVariants.{Single}
-use Rattle.sc_entry.specs.declared.cache_mode.CacheMode.TheVariants.{ReadWrite}
+use Rattle.sc_script.specs.declared.level_rule.LevelRule.{LevelRule}
 use Rattle.sc_script.specs.declared.run_rule.RunRule.{RunRule}
 use Rattle.sc_script.specs.declared.script.Script.{Script}
-use Rattle.sc_store.specs.Held.{Held, held_of, held_remote}
+use Rattle.sc_store.specs.Held.{Held, HeldLevel, held_of, held_remote}
 use Rattle.sc_store.specs.Paths.{put_all}
 
 -- what is held under keys, at the paths of the keys
@@ -34,15 +33,22 @@ abbrev pub AreLines : Option (List RunLine) → List RunRule → Type 0
 AreLines None runs = ⊥
 AreLines (Some lines) runs = told_lines lines ≡ told_runs runs
 
--- one remote level that may be written, as a single store
-abbrev pub first_levels : List (List ℕ × List ℕ) → List ℕ → Held
-first_levels holds fails = held_of (held_remote ReadWrite (Some (first_files holds)) 0 0 (Some (calls_failing fails)) ∷ []) Single
+-- a remote level, as a script says it
+abbrev pub first_held : LevelRule → HeldLevel
+first_held rule = held_remote rule.mode (Some (first_files rule.holds)) 0 0 (Some (calls_failing rule.fails))
+
+abbrev pub held_first : List LevelRule → List HeldLevel
+held_first rules = map first_held rules
+
+-- all levels of a script
+abbrev pub first_levels : Script → Held
+first_levels script = held_of (held_first script.levels) script.policy
 
 -- nothing was run, placed or refused
 abbrev pub first_world : Script → World
 first_world script = record {
   moment = 0;
-  levels = (first_levels script.holds script.fails).levels;
+  levels = (first_levels script).levels;
   runs = Some [];
   placings = Some [];
   shop_faults = 0;

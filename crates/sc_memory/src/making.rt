@@ -1,20 +1,18 @@
 //! Makes a daemon of what a script says.
-ghost use Rattle.std.specs.Prelude.{◌≡◌, ℕ, true, Some, [], ◌∷◌, IfOk};
+ghost use Rattle.std.specs.Prelude.{◌≡◌, true, Some, IfOk, map};
 ghost use Rattle.sc_compile.specs.Shop.{new_shop};
-ghost use Rattle.sc_memory.specs.Making.{AreLines, first_files, first_world, placed, told_lines, told_runs};
-ghost use Rattle.sc_model.specs.declared.level.Policy.TheVariants.{Single};
-ghost use Rattle.sc_entry.specs.declared.cache_mode.CacheMode.TheVariants.{ReadWrite};
-ghost use Rattle.sc_script.specs.Goods.{IsGood, are_good_runs, are_store_keys};
+ghost use Rattle.sc_memory.specs.Making.{AreLines, first_files, first_held, first_levels, first_world, held_first, placed, told_lines, told_runs};
+ghost use Rattle.sc_script.specs.Goods.{IsGood, are_good_levels, are_good_runs, are_store_keys};
 ghost use Rattle.sc_model.specs.Devices.{calls_failing};
 ghost use Rattle.sc_store.specs.Devices.{calls_of};
-ghost use Rattle.sc_store.specs.Held.{held_of, held_remote, remote_facts};
+ghost use Rattle.sc_store.specs.Levels.{held_level};
 
 use crate::memory::Memory;
 use sc_compile::{RunLine, ScriptWorkshop, ToolTable};
-use sc_entry::{ByteText, CacheMode, Items, NoMemory, Text};
-use sc_model::{Policy, Step};
+use sc_entry::{ByteText, Items, NoMemory, Text};
+use sc_model::Step;
 use sc_owned::Owned;
-use sc_script::{RunRule, Script};
+use sc_script::{LevelRule, RunRule, Script};
 use sc_store::{Level, Levels, MemRemote, RemoteStorage, normalize_key};
 use std::alloc::Global;
 
@@ -59,14 +57,25 @@ fn device(
     Ok(remote)
 }
 
-/// One remote level that may be written, as a single store.
-fn levels_over(alloc: Global, remote: MemRemote) -> Result<Levels<MemRemote>, NoMemory>
-    requires { remote.calls.faults ≡ 0 }
-    ensures { IfOk result (λ levels. levels ≡ held_of (held_remote ReadWrite (Some remote.files) 0 0 (Some (calls_of remote.calls)) ∷ []) Single) }
+/// A remote level, over a device in memory.
+fn level(alloc: Global, rule: LevelRule) -> Result<Level<MemRemote>, NoMemory>
+    requires { are_store_keys rule.holds ≡ true }
+    ensures { IfOk result (λ level. held_level level ≡ first_held rule) }
 {
-    let store = RemoteStorage::new(remote, CacheMode::ReadWrite);
-    let levels = vec![in alloc; Level::Remote(store)]?;
-    Ok(Levels::new(levels, Policy::Single))
+    let remote = device(alloc, rule.holds, rule.fails)?;
+    let store = RemoteStorage::new(remote, rule.mode);
+    Ok(Level::Remote(store))
+}
+
+fn levels_of(alloc: Global, rules: Items<LevelRule>) -> Result<Vec<Level<MemRemote>>, NoMemory>
+    requires { are_good_levels rules ≡ true }
+    ensures { IfOk result (λ levels. map held_level levels.items ≡ held_first rules) }
+{
+    let mut levels = Vec::new(alloc);
+    for rule in rules.into_vec() {
+        levels.push(level(alloc, rule)?)?;
+    }
+    Ok(levels)
 }
 
 /// The lines of a workshop that say what the rules say.
@@ -98,8 +107,8 @@ fn shop(alloc: Global, runs: Items<RunRule>) -> Result<ScriptWorkshop, NoMemory>
 /// and the steps. Every script that is read is good.
 pub fn make(alloc: Global, script: Script) -> Result<Made, NoMemory>
     requires good { IsGood script }
-    ensures levels { IfOk result (λ made. made.owned.config.levels ≡ remote_facts ReadWrite ∷ []) }
-    ensures policy { IfOk result (λ made. made.owned.config.policy ≡ Single) }
+    ensures levels { IfOk result (λ made. made.owned.config.levels ≡ (first_levels script).facts) }
+    ensures policy { IfOk result (λ made. made.owned.config.policy ≡ script.policy) }
     ensures tokens { IfOk result (λ made. made.owned.config.tokens ≡ script.tokens) }
     ensures limit { IfOk result (λ made. made.owned.config.limit ≡ script.limit) }
     ensures table { IfOk result (λ made. made.owned.config.table ≡ Some script.tools) }
@@ -109,8 +118,8 @@ pub fn make(alloc: Global, script: Script) -> Result<Made, NoMemory>
     ensures inputs { IfOk result (λ made. made.inputs ≡ script.inputs) }
     ensures steps { IfOk result (λ made. made.steps ≡ script.steps) }
 {
-    let remote = device(alloc, script.holds, script.fails)?;
-    let levels = levels_over(alloc, remote)?;
+    let levels = levels_of(alloc, script.levels)?;
+    let levels = Levels::new(levels, script.policy);
     let shop = shop(alloc, script.runs)?;
     let finder = ToolTable::new(script.tools.into_vec());
     let owned = Owned::new(levels, shop, finder, script.tokens, script.limit as u32);

@@ -8,6 +8,7 @@ use sc_model::{
 };
 use sc_store::{Level, Levels, MemRemote, RemoteStorage};
 use std::alloc::Global;
+use std::process::Abort;
 use std::test::Fail;
 
 /// An entry that holds nothing.
@@ -115,20 +116,32 @@ fn told_placing(placing: &Placing) -> &[u8] {
     }
 }
 
-/// Asks level 0 of any hold.
-fn ask_first<H: Hold>(alloc: Global, hold: &mut H, key: &Text) -> Result<Answer, Fail> {
-    let lookup = hold.ask(alloc, 0, key, Mode::Whole)?;
+/// Asks the first level.
+fn ask_first(
+    rt: &impl Abort,
+    alloc: Global,
+    daemon: &mut Owned<Memory>,
+    key: &Text,
+) -> Result<Answer, Fail> {
+    assert!(rt; daemon.levels().len() > 0);
+    let lookup = daemon.ask(alloc, 0, key, Mode::Whole)?;
     Ok(lookup.answer)
 }
 
-/// Puts an entry at level 0 of any hold.
-fn write_first<H: Hold>(alloc: Global, hold: &mut H, key: &str) -> Result<Written, Fail> {
+/// Puts an entry at the first level.
+fn write_first(
+    rt: &impl Abort,
+    alloc: Global,
+    daemon: &mut Owned<Memory>,
+    key: &str,
+) -> Result<Written, Fail> {
+    assert!(rt; daemon.levels().len() > 0);
     let put = Bytes {
         key: text(alloc, key)?,
         bytes: bytes(alloc, ENTRY)?,
         run: true,
     };
-    Ok(hold.write(alloc, 0, &put)?)
+    Ok(daemon.write(alloc, 0, &put)?)
 }
 
 #[test]
@@ -136,11 +149,11 @@ fn stored_entry_hits(rt: HostRuntime) -> Result<(), Fail> {
     let alloc = rt.alloc();
     let mut daemon = owned(alloc, 0)?;
     let key = text(alloc, "abc")?;
-    let missed = ask_first(alloc, &mut daemon, &key)?;
+    let missed = ask_first(&rt, alloc, &mut daemon, &key)?;
     assert_eq!(rt; told_answer(&missed), b"miss".as_slice());
-    let written = write_first(alloc, &mut daemon, "abc")?;
+    let written = write_first(&rt, alloc, &mut daemon, "abc")?;
     assert!(rt; matches!(written, Written::Done));
-    let hit = ask_first(alloc, &mut daemon, &key)?;
+    let hit = ask_first(&rt, alloc, &mut daemon, &key)?;
     assert_eq!(rt; told_answer(&hit), ENTRY);
     Ok(())
 }
@@ -149,9 +162,9 @@ fn stored_entry_hits(rt: HostRuntime) -> Result<(), Fail> {
 fn refused_write(rt: HostRuntime) -> Result<(), Fail> {
     let alloc = rt.alloc();
     let mut daemon = owned(alloc, 1)?;
-    let written = write_first(alloc, &mut daemon, "abc")?;
+    let written = write_first(&rt, alloc, &mut daemon, "abc")?;
     assert!(rt; matches!(written, Written::Refused(_)));
-    let bad = write_first(alloc, &mut daemon, "no key")?;
+    let bad = write_first(&rt, alloc, &mut daemon, "no key")?;
     assert!(rt; matches!(bad, Written::Refused(_)));
     Ok(())
 }

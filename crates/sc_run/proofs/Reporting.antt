@@ -6,6 +6,7 @@ use Rattle.sc_daemon.specs.Drives.{result_of}
 use Rattle.sc_daemon.specs.declared.driven.Driven.{Driven}
 use Rattle.sc_memory.specs.Sizes.{sizes_of}
 use Rattle.sc_model.specs.Headline.{Headline}
+use Rattle.sc_model.specs.Machine.{shown_levels}
 use Rattle.sc_model.specs.declared.event.Step.{Step}
 use Rattle.sc_report.specs.Report.{report_of}
 use Rattle.sc_run.specs.Scripted.{Begins, Reports}
@@ -13,7 +14,7 @@ use Rattle.sc_script.specs.declared.script.Script.{Script}
 
 pub reports : (s : Script) (text : List ℕ) (first last : Kept) (driven : Driven) (inputs : List (List ℕ)) (steps : List Step) → Begins s first → inputs ≡ s.inputs → steps ≡ s.steps
     → Headline (given_of first inputs) first.state.world (reverse steps) (reverse driven.trace) last.state.world (result_of last driven)
-    → text ≡ report_of (map (λ c. c.end) driven.conns) driven.trace (sizes_of last.state.world.levels) (length driven.background) last.free last.stats → Reports s text
+    → text ≡ report_of (map (λ c. c.end) driven.conns) driven.trace (sizes_of last.state.world.levels) (shown_levels last.state.config.policy last.levels) (length driven.background) last.free last.stats → Reports s text
 reports s text first last driven inputs steps begins same_inputs same_steps headline report = record {
   first = first;
   last = last;

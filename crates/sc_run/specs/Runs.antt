@@ -1,5 +1,8 @@
 -- How the program ends, by its words.
-use Rattle.std.specs.Prelude.{◌≡◌, ℕ, List, Option, Some, None, Result, Ok, Err, pos}
+use Rattle.std.specs.Prelude.{◌≡◌, ◌⊎◌, ℕ, List, Option, Some, None, Result, Ok, Err, pos}
+use Rattle.sc_entry.specs.Causes.{Told}
+use Rattle.sc_entry.specs.Streams.{WritesAll}
+use Rattle.sc_report.specs.Ending.{error_line}
 use Rattle.sc_report.specs.Words.{help_lines, version_line}
 use Rattle.sc_report.specs.declared.ended.Ended.{Ended}
 use Rattle.sc_report.specs.declared.ended.Ended.TheVariants.{BadScript, NoMemory, ReadFault, Status, Usage, WriteFault}
@@ -47,11 +50,10 @@ UsageEnds write_rose NoMemory = Unit {0}
 UsageEnds write_rose WriteFault = write_rose
 UsageEnds write_rose _ = ⊥
 
--- The words are that command, or none, which is the one refusal beside want of memory.
+-- The words are that command, or none, which is the one refusal.
 abbrev pub Parses : Option Command → Result Command Ended → Type 0
 Parses command (Ok c) = command ≡ Some c
 Parses command (Err Usage) = command ≡ None
-Parses command (Err NoMemory) = Unit {0}
 Parses command (Err _) = ⊥
 
 -- Usage is the end exactly where the words are no command.
@@ -60,3 +62,21 @@ RunEnds None read wrote read_rose write_rose ended = UsageEnds write_rose ended
 RunEnds (Some Drive) read wrote read_rose write_rose ended = DriveEnds read wrote read_rose write_rose ended
 RunEnds (Some Help) read wrote read_rose write_rose ended = TextEnds (wrote help_lines) write_rose ended
 RunEnds (Some Version) read wrote read_rose write_rose ended = TextEnds (wrote version_line) write_rose ended
+
+-- An end that is told has exactly its line on standard error, which for a command that was done is none. Where memory ran
+-- out or a write was refused, less may stand there.
+abbrev pub TellsLine : Ended → Option (List ℕ) → Option (List ℕ) → Type 0
+TellsLine NoMemory old new = Unit {0}
+TellsLine WriteFault old new = Unit {0}
+TellsLine ended old new = Told (WritesAll (error_line ended)) old new
+
+-- Nothing was written where nothing was to be: the words are no command, the input is no script or could not be read.
+abbrev pub LeavesOut : {O : Type 0} → Ended → O → O → Type 0
+LeavesOut Usage old new = new ≡ old
+LeavesOut (BadScript line) old new = new ≡ old
+LeavesOut ReadFault old new = new ≡ old
+LeavesOut _ old new = Unit {0}
+
+-- An end is told as it is, unless memory runs out or its line is refused.
+abbrev pub TellsEnd : Ended → Ended → Type 0 → Option (List ℕ) → Option (List ℕ) → Type 0
+TellsEnd ended result rose old new = ((result ≡ ended) × TellsLine ended old new) ⊎ ((result ≡ NoMemory) ⊎ ((result ≡ WriteFault) × rose))

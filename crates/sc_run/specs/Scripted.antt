@@ -1,34 +1,37 @@
 -- What a program that drives by a script prints.
-use Rattle.std.specs.Prelude.{◌≡◌, ℕ, true, List, [], ◌∷◌, length, map, reverse, Some, None, Result, Ok, Err}
+use Rattle.std.specs.Prelude.{◌≡◌, ℕ, true, List, length, map, reverse, Some, None, Result, Ok, Err}
 use Rattle.std.specs.Global.{Vec}
-use Rattle.sc_daemon.specs.Daemons.{Kept, script_of as given_of}
+use Rattle.sc_daemon.specs.Daemons.{Kept, new_daemon, script_of as given_of}
 use Rattle.sc_daemon.specs.Drives.{result_of}
 use Rattle.sc_daemon.specs.declared.driven.Driven.{Driven}
-use Rattle.sc_memory.specs.Making.{AreLines, first_world}
+use Rattle.sc_memory.specs.Making.{AreLines, first_levels, first_world}
 use Rattle.sc_memory.specs.Sizes.{sizes_of}
 use Rattle.sc_model.specs.Headline.{Headline}
-use Rattle.sc_model.specs.declared.level.Policy.TheVariants.{Single}
-use Rattle.sc_entry.specs.declared.cache_mode.CacheMode.TheVariants.{ReadWrite}
+use Rattle.sc_model.specs.Machine.{shown_levels}
+use Rattle.sc_model.specs.declared.event.Step.{Step}
 use Rattle.sc_report.specs.Report.{report_of}
 use Rattle.sc_script.specs.Scripts.{first_bad, script_of}
 use Rattle.sc_script.specs.declared.script.Script.{Script}
 use Rattle.sc_script.specs.declared.script.ScriptError.{ScriptError}
 use Rattle.sc_script.specs.declared.script.ScriptError.TheVariants.{Bad, Memory}
-use Rattle.sc_stats.specs.Sums.{no_stats}
-use Rattle.sc_store.specs.Held.{remote_facts}
 
 -- the daemon that a script is for, before its first step
 pub record Begins (s : Script) (d : Kept) : Type 0 where
-  pub levels : d.state.config.levels ≡ remote_facts ReadWrite ∷ []
-  pub policy : d.state.config.policy ≡ Single
+  pub levels : d.state.config.levels ≡ (first_levels s).facts
+  pub policy : d.state.config.policy ≡ s.policy
   pub tokens : d.state.config.tokens ≡ s.tokens
   pub limit : d.state.config.limit ≡ s.limit
   pub table : d.state.config.table ≡ Some s.tools
   pub lines : AreLines d.state.config.lines s.runs
   pub told : d.state.told ≡ true
   pub world : d.state.world ≡ first_world s
-  pub stats : d.stats ≡ no_stats
-  pub free : d.free ≡ s.tokens
+  pub new : d ≡ new_daemon d.state
+
+-- The text is the report of a drive from the one daemon to the other that the headline holds of.
+pub record ReportsDrive (first last : Kept) (inputs : List (List ℕ)) (steps : List Step) (text : List ℕ) : Type 0 where
+  pub driven : Driven
+  pub headline : Headline (given_of first inputs) first.state.world (reverse steps) (reverse driven.trace) last.state.world (result_of last driven)
+  pub report : text ≡ report_of (map (λ c. c.end) driven.conns) driven.trace (sizes_of last.state.world.levels) (shown_levels last.state.config.policy last.levels) (length driven.background) last.free last.stats
 
 -- The text is the report of a drive by the script that the headline holds of.
 pub record Reports (s : Script) (text : List ℕ) : Type 0 where
@@ -37,7 +40,7 @@ pub record Reports (s : Script) (text : List ℕ) : Type 0 where
   pub driven : Driven
   pub begins : Begins s first
   pub headline : Headline (given_of first s.inputs) first.state.world (reverse s.steps) (reverse driven.trace) last.state.world (result_of last driven)
-  pub report : text ≡ report_of (map (λ c. c.end) driven.conns) driven.trace (sizes_of last.state.world.levels) (length driven.background) last.free last.stats
+  pub report : text ≡ report_of (map (λ c. c.end) driven.conns) driven.trace (sizes_of last.state.world.levels) (shown_levels last.state.config.policy last.levels) (length driven.background) last.free last.stats
 
 -- Bytes that are a script are driven by, and others refused with their first bad line; want of memory is free.
 abbrev pub DrivesScript : List ℕ → Result (Vec ℕ) ScriptError → Type 0

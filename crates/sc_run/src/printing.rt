@@ -1,13 +1,16 @@
 //! The report of a drive over memory.
 ghost use Rattle.std.specs.Prelude.{◌≡◌, IfOk, length, map};
 ghost use Rattle.sc_memory.specs.Sizes.{sizes_of};
+ghost use Rattle.sc_model.specs.Machine.{shown_levels};
 ghost use Rattle.sc_report.specs.Report.{report_of};
 
 use sc_conn::End;
 use sc_daemon::{Daemon, Driven, DrivenConn};
 use sc_entry::NoMemory;
+use sc_hold::Hold;
 use sc_memory::{Memory, level_sizes};
 use sc_report::{Report, put_report};
+use sc_stats::LevelStats;
 use std::alloc::Global;
 
 fn ends_of(alloc: Global, conns: &[DrivenConn]) -> Result<Vec<End>, NoMemory>
@@ -22,9 +25,20 @@ fn ends_of(alloc: Global, conns: &[DrivenConn]) -> Result<Vec<End>, NoMemory>
     Ok(ends)
 }
 
+/// What was counted of each level, which a store that stands alone doesn't show.
+fn shown_counters(daemon: &Daemon<Memory>) -> &[LevelStats]
+    ensures { result.now ≡ shown_levels daemon.now.state.config.policy daemon.now.levels }
+{
+    if daemon.owned().is_single() {
+        &[]
+    } else {
+        daemon.level_stats()
+    }
+}
+
 /// The report of what a drive came to.
 pub fn printed(alloc: Global, daemon: &Daemon<Memory>, driven: &Driven) -> Result<Vec<u8>, NoMemory>
-    ensures { IfOk result (λ text. text.items ≡ report_of (map (λ c. c.end) driven.now.conns) driven.now.trace (sizes_of daemon.now.state.world.levels) (length driven.now.background) daemon.now.free daemon.now.stats) }
+    ensures { IfOk result (λ text. text.items ≡ report_of (map (λ c. c.end) driven.now.conns) driven.now.trace (sizes_of daemon.now.state.world.levels) (shown_levels daemon.now.state.config.policy daemon.now.levels) (length driven.now.background) daemon.now.free daemon.now.stats) }
 {
     let ends = ends_of(alloc, driven.conns.as_slice())?;
     let levels = level_sizes(alloc, daemon.owned())?;
@@ -33,6 +47,7 @@ pub fn printed(alloc: Global, daemon: &Daemon<Memory>, driven: &Driven) -> Resul
         ends: &ends,
         events: driven.trace.as_slice(),
         levels: &levels,
+        counters: shown_counters(daemon),
         background: driven.background.len() as u64,
         tokens: daemon.free(),
         stats: daemon.stats(),

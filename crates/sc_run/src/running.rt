@@ -3,7 +3,7 @@ ghost use Rattle.std.specs.Prelude.{◌≡◌, ◌≤◌, ◌⊎◌, pos, Some};
 ghost use Rattle.sc_entry.specs.Causes.{Rose, Told};
 ghost use Rattle.sc_entry.specs.Streams.{ReadsToEnd, WritesAll};
 ghost use Rattle.sc_report.specs.Words.{help_lines, version_line};
-ghost use Rattle.sc_run.specs.Runs.{DriveEnds, Parses, RunEnds, TextEnds};
+ghost use Rattle.sc_run.specs.Runs.{DriveEnds, LeavesOut, Parses, RunEnds, TellsEnd, TellsLine, TextEnds};
 ghost use Rattle.sc_script.specs.Commands.{command_of};
 ghost use Rattle.sc_script.specs.declared.words.Command.TheVariants as commands;
 
@@ -30,7 +30,8 @@ fn write_text<O: Sink>(out: &mut O, text: &[u8]) -> Ended
 
 /// Reads a script, drives a daemon by it, and writes the report.
 fn run_drive<S: Source, O: Sink>(alloc: Global, input: &mut S, out: &mut O) -> Ended
-    ensures { DriveEnds (λ bytes. Told (ReadsToEnd 67108864 bytes) (S.left input.old) (S.left input.new)) (λ text. Told (WritesAll text) (O.written out.old) (O.written out.new)) (Rose (S.fault_count input.old) (S.fault_count input.new)) (Rose (O.fault_count out.old) (O.fault_count out.new)) result }
+    ensures untouched { LeavesOut result out.old out.new }
+    ensures ends { DriveEnds (λ bytes. Told (ReadsToEnd 67108864 bytes) (S.left input.old) (S.left input.new)) (λ text. Told (WritesAll text) (O.written out.old) (O.written out.new)) (Rose (S.fault_count input.old) (S.fault_count input.new)) (Rose (O.fault_count out.old) (O.fault_count out.new)) result }
 {
     match read_to_end(alloc, input, MOST) {
         Ok(bytes) => match drive_script(alloc, bytes.as_slice()) {
@@ -65,7 +66,7 @@ fn run_version<O: Sink>(alloc: Global, out: &mut O) -> Ended
 
 /// Writes the line that an end has on standard error; where that is refused, the end is `WriteFault`.
 fn told<E: Sink>(alloc: Global, err: &mut E, ended: Ended) -> Ended
-    ensures { (result ≡ ended) ⊎ ((result ≡ Ended.NoMemory) ⊎ ((result ≡ Ended.WriteFault) × Rose (E.fault_count err.old) (E.fault_count err.new))) }
+    ensures { TellsEnd ended result (Rose (E.fault_count err.old) (E.fault_count err.new)) (E.written err.old) (E.written err.new) }
 {
     let mut line = Vec::new(alloc);
     match put_error(alloc, &mut line, &ended) {
@@ -94,7 +95,8 @@ pub fn parse_words(words: &[ByteText]) -> Result<Command, Ended>
 
 /// Does a command, and writes nothing to standard error.
 fn done<S: Source, O: Sink>(alloc: Global, command: Command, input: &mut S, out: &mut O) -> Ended
-    ensures { RunEnds (Some command) (λ bytes. Told (ReadsToEnd 67108864 bytes) (S.left input.old) (S.left input.new)) (λ text. Told (WritesAll text) (O.written out.old) (O.written out.new)) (Rose (S.fault_count input.old) (S.fault_count input.new)) (Rose (O.fault_count out.old) (O.fault_count out.new)) result }
+    ensures untouched { LeavesOut result out.old out.new }
+    ensures ends { RunEnds (Some command) (λ bytes. Told (ReadsToEnd 67108864 bytes) (S.left input.old) (S.left input.new)) (λ text. Told (WritesAll text) (O.written out.old) (O.written out.new)) (Rose (S.fault_count input.old) (S.fault_count input.new)) (Rose (O.fault_count out.old) (O.fault_count out.new)) result }
 {
     match command {
         Command::Drive => run_drive(alloc, input, out),
@@ -104,7 +106,8 @@ fn done<S: Source, O: Sink>(alloc: Global, command: Command, input: &mut S, out:
 }
 
 /// Does a command: `drive` reads a script of at most 67,108,864 bytes, drives a daemon by it and writes the report; `--help`
-/// and `--version` write a text. An end other than `Status` writes one line to `err`. Each end has its cause.
+/// and `--version` write a text. An end other than `Status` writes one line to `err`, and leaves `out` as it was but where
+/// memory ran out or a write was refused. Each end has its cause.
 pub fn run_command<S: Source, O: Sink, E: Sink, X: Outside>(
     command: Command,
     input: &mut S,
@@ -112,14 +115,17 @@ pub fn run_command<S: Source, O: Sink, E: Sink, X: Outside>(
     err: &mut E,
     outside: &mut X,
 ) -> Ended
-    ensures { RunEnds (Some command) (λ bytes. Told (ReadsToEnd 67108864 bytes) (S.left input.old) (S.left input.new)) (λ text. Told (WritesAll text) (O.written out.old) (O.written out.new)) (Rose (S.fault_count input.old) (S.fault_count input.new)) (Rose (O.fault_count out.old) (O.fault_count out.new) ⊎ Rose (E.fault_count err.old) (E.fault_count err.new)) result }
+    ensures told { TellsLine result (E.written err.old) (E.written err.new) }
+    ensures untouched { LeavesOut result out.old out.new }
+    ensures ends { RunEnds (Some command) (λ bytes. Told (ReadsToEnd 67108864 bytes) (S.left input.old) (S.left input.new)) (λ text. Told (WritesAll text) (O.written out.old) (O.written out.new)) (Rose (S.fault_count input.old) (S.fault_count input.new)) (Rose (O.fault_count out.old) (O.fault_count out.new) ⊎ Rose (E.fault_count err.old) (E.fault_count err.new)) result }
 {
     let alloc = outside.alloc();
     let ended = done(alloc, command, input, out);
     told(alloc, err, ended)
 }
 
-/// Does what the words say. Where they are no command the end is `Usage`. Each end has its cause.
+/// Does what the words say. Where they are no command the end is `Usage`. Each end has its cause, an end other than `Status`
+/// writes one line to `err`, and leaves `out` as it was but where memory ran out or a write was refused.
 pub fn run<S: Source, O: Sink, E: Sink, X: Outside>(
     words: &[ByteText],
     input: &mut S,
@@ -127,7 +133,9 @@ pub fn run<S: Source, O: Sink, E: Sink, X: Outside>(
     err: &mut E,
     outside: &mut X,
 ) -> Ended
-    ensures { RunEnds (command_of words.now) (λ bytes. Told (ReadsToEnd 67108864 bytes) (S.left input.old) (S.left input.new)) (λ text. Told (WritesAll text) (O.written out.old) (O.written out.new)) (Rose (S.fault_count input.old) (S.fault_count input.new)) (Rose (O.fault_count out.old) (O.fault_count out.new) ⊎ Rose (E.fault_count err.old) (E.fault_count err.new)) result }
+    ensures told { TellsLine result (E.written err.old) (E.written err.new) }
+    ensures untouched { LeavesOut result out.old out.new }
+    ensures ends { RunEnds (command_of words.now) (λ bytes. Told (ReadsToEnd 67108864 bytes) (S.left input.old) (S.left input.new)) (λ text. Told (WritesAll text) (O.written out.old) (O.written out.new)) (Rose (S.fault_count input.old) (S.fault_count input.new)) (Rose (O.fault_count out.old) (O.fault_count out.new) ⊎ Rose (E.fault_count err.old) (E.fault_count err.new)) result }
 {
     match parse_words(words) {
         Ok(command) => run_command(command, input, out, err, outside),

@@ -1,19 +1,43 @@
 //! A drive by a script.
-ghost use Rattle.std.specs.Prelude.{◌≡◌, IfOk};
-ghost use Rattle.sc_run.specs.Scripted.{DrivesScript, Reports};
+ghost use Rattle.std.specs.Prelude.{◌≡◌, true, IfOk};
+ghost use Rattle.sc_daemon.specs.Daemons.{IsIdleDaemon};
+ghost use Rattle.sc_run.specs.Scripted.{DrivesScript, Reports, ReportsDrive};
 ghost use Rattle.sc_script.specs.Goods.{IsGood};
 ghost use Rattle.sc_script.specs.declared.script.Script.{Script as ScriptRead};
 
 use crate::printing::printed;
 use sc_daemon::{Daemon, Driven, drive};
-use sc_entry::NoMemory;
-use sc_memory::{Made, make};
+use sc_entry::{ByteText, NoMemory};
+use sc_memory::{Made, Memory, make};
+use sc_model::Step;
 use sc_script::{Script, ScriptError, read_script, read_scripts_are_good};
 use std::alloc::Global;
 
 /// Drops what a drive came to in a call of its own: dropped at the end of a branch it takes the check minutes.
 fn discard(driven: Driven) {
     drop(driven);
+}
+
+/// Drops a daemon in a call of its own: dropped where it is used it takes the check minutes.
+fn discard_daemon(daemon: Daemon<Memory>) {
+    drop(daemon);
+}
+
+/// Drives a daemon, and reports.
+fn reported(
+    alloc: Global,
+    daemon: &mut Daemon<Memory>,
+    inputs: &[ByteText],
+    steps: &[Step],
+) -> Result<Vec<u8>, NoMemory>
+    requires idle { IsIdleDaemon daemon.old }
+    requires told { daemon.old.state.told ≡ true }
+    ensures { IfOk result (λ text. ReportsDrive daemon.old daemon.new inputs.now steps.now text.items) }
+{
+    let driven = drive(alloc, daemon, inputs, steps)?;
+    let text = printed(alloc, daemon, &driven);
+    discard(driven);
+    text
 }
 
 /// Drives a daemon made of what a script says, and reports.
@@ -27,10 +51,9 @@ fn driven_by(alloc: Global, script: Script) -> Result<Vec<u8>, NoMemory>
         inputs,
         steps,
     } = made;
-    let mut daemon = Daemon::new(alloc, owned);
-    let driven = drive(alloc, &mut daemon, inputs.as_slice(), steps.as_slice())?;
-    let text = printed(alloc, &daemon, &driven);
-    discard(driven);
+    let mut daemon = Daemon::new(alloc, owned)?;
+    let text = reported(alloc, &mut daemon, inputs.as_slice(), steps.as_slice());
+    discard_daemon(daemon);
     text
 }
 

@@ -1,15 +1,27 @@
-use Rattle.std.proofs.Common.{drop, sym, ap, subst}
+use Rattle.std.proofs.Common.{ℕ, Option, drop, sym, ap, ◌≡◌, ◌∙◌, subst}
 use Rattle.sc_action.specs.Acts.{Acts}
+use Rattle.sc_action.specs.Serves.{Serves}
+use Rattle.sc_action.specs.declared.acted.Acted.{Acted}
 use Rattle.sc_daemon.specs.Lines.{Line, conn_of}
-use Rattle.sc_daemon.specs.Turns.{ActsFirst}
+use Rattle.sc_daemon.specs.Turns.{ActsFirst, ActsFirst_or_none, CountsFirst, MovesFirst}
 use Rattle.sc_daemon.specs.contracts.conn.Conn.{the_view}
+use Rattle.sc_daemon.proofs.Counted.{if_both, if_map}
 use Rattle.sc_daemon.proofs.Firsts.{current_is, first_rest}
 use Rattle.sc_job.specs.Setups.{setup}
 use Rattle.sc_model.specs.Machine.{current, need_at}
+use Rattle.sc_model.specs.Rows.{count, row, zeroes}
 use Rattle.sc_model.specs.declared.message.Request.{Request}
-use Rattle.sc_model.specs.declared.message.Request.TheVariants.{Compile as CompileOf}
 use Rattle.sc_model.specs.declared.phase.Phase.{Phase}
 use Rattle.sc_daemon.proofs.conn.Conn.act_first.Goals as goal
+
+pub act-requires : goal.act-requires
+act-requires g c =
+    let k = g.H.Hold.config c.args.hold.now in
+    let i = c.self.inside in
+    let here = current_is (the_view i) c.in-Some.request.now (drop 1 i.waiting) (first_rest i.waiting c.in-Some.request.now c.in-Some.ensures) in
+    subst (λ (p : Phase). Serves k p c.in-Some.request.now) (sym c.replace-phase.ensures.value)
+    (subst (λ (r : Request). Serves k i.phase r) here
+    (subst (λ (l : Line). Serves k l.phase (current (conn_of l))) (sym c.self.view_is) c.requires))
 
 pub returns-clause-acts : goal.returns-clause-acts
 returns-clause-acts g c =
@@ -17,7 +29,7 @@ returns-clause-acts g c =
     let m = g.H.Hold.moment c.args.hold.now in
     let acted = c.in_ok-acted.acted in
     let after : Phase → Line = λ (p : Phase). the_view record { inbox = c.self.inside.inbox; waiting = c.self.inside.waiting; at = c.self.inside.at; phase = p; last = c.self.inside.last; outcome = c.self.inside.outcome; out = c.act.new.out; long = c.self.inside.long } in
-    subst (λ (l : Line). ActsFirst k m acted l (after c.replace-phase.new.dest)) c.self.view_is
+    let first : ActsFirst k m acted c.args.self.now (after c.replace-phase.new.dest) = subst (λ (l : Line). ActsFirst k m acted l (after c.replace-phase.new.dest)) c.self.view_is
     record {
       request = c.in-Some.request.now;
       rest = drop 1 c.self.inside.waiting;
@@ -25,14 +37,34 @@ returns-clause-acts g c =
       acts = subst (λ (p : Phase). Acts k c.in-Some.request.now p m acted) c.replace-phase.ensures.value c.in_ok-acted.ensures.acts;
       same = ap after c.replace-phase.ensures.after;
       out = c.in_ok-acted.ensures.sent;
-    }
+    } in
+    if_map c.if_counted.result c.if_counted.ensures.acted
+    (λ a e. subst (λ (o : Option Acted). ActsFirst_or_none k m o c.args.self.now (after c.replace-phase.new.dest)) (sym e) first)
 
 pub returns-clause-moves : goal.returns-clause-moves
 returns-clause-moves g c =
     let k = g.H.Hold.config c.args.hold.now in
     let what = c.in_ok-acted.acted.what in
     let at : Line = the_view c.self.inside in
-    subst (λ (l : Line). g.H.Hold.moves c.args.hold.now (need_at (setup k) (current (conn_of l)) l.phase) what c.act.new.hold) c.self.view_is
+    let moved = subst (λ (l : Line). g.H.Hold.moves c.args.hold.now (need_at (setup k) (current (conn_of l)) l.phase) what c.act.new.hold) c.self.view_is
     (subst (λ (r : Request). g.H.Hold.moves c.args.hold.now (need_at (setup k) r c.self.inside.phase) what c.act.new.hold)
     (sym (current_is at c.in-Some.request.now (drop 1 c.self.inside.waiting) (first_rest c.self.inside.waiting c.in-Some.request.now c.in-Some.ensures)))
-    (subst (λ (p : Phase). g.H.Hold.moves c.args.hold.now (need_at (setup k) (CompileOf c.in-Some.request.now) p) what c.act.new.hold) c.replace-phase.ensures.value c.in_ok-acted.ensures.moves))
+    (subst (λ (p : Phase). g.H.Hold.moves c.args.hold.now (need_at (setup k) c.in-Some.request.now p) what c.act.new.hold) c.replace-phase.ensures.value c.in_ok-acted.ensures.moves)) in
+    if_map c.if_counted.result c.if_counted.ensures.acted
+    (λ a e. subst (λ (o : Option Acted). MovesFirst g.H.Hold.moves (need_at (setup k) (current (conn_of c.args.self.now)) c.args.self.now.phase) o c.args.hold.now c.act.new.hold) (sym e) moved)
+
+pub returns-clause-counts : goal.returns-clause-counts
+returns-clause-counts g c =
+    let k = g.H.Hold.config c.args.hold.now in
+    let m = g.H.Hold.moment c.args.hold.now in
+    let what = c.in_ok-acted.acted.what in
+    let at : Line = the_view c.self.inside in
+    let here : current (conn_of at) ≡ c.in-Some.request.now = current_is at c.in-Some.request.now (drop 1 c.self.inside.waiting) (first_rest c.self.inside.waiting c.in-Some.request.now c.in-Some.ensures) in
+    let old = c.args.stats.now in
+    let new = c.count_event-counted.new.stats in
+    if_both c.if_counted.result c.count_event-counted.result c.if_counted.ensures.acted c.if_counted.ensures.counted c.count_event-counted.ensures
+    (λ a e counted. subst (λ (o : Option Acted). CountsFirst k m o c.args.self.now old new) (sym e)
+    (subst (λ (l : Line). new ≡ count (zeroes what) old (row (setup k) (current (conn_of l)) l.outcome m what)) c.self.view_is
+    (counted k
+    ∙ ap (λ (r : Request). count (zeroes what) old (row (setup k) r c.self.inside.outcome c.now-now.result what)) (sym here)
+    ∙ ap (λ (n : ℕ). count (zeroes what) old (row (setup k) (current (conn_of at)) c.self.inside.outcome n what)) c.now-now.ensures)))

@@ -1,0 +1,17 @@
+use Rattle.std.proofs.Common.{◌≡◌, List, true, sym, ap, ◌∙◌, subst}
+use Rattle.sc_memory.proofs.Firsts.{firsts_tell, good_levels}
+use Rattle.sc_owned.specs.State.{is_good}
+use Rattle.sc_store.specs.Held.{Held, HeldLevel, held_of}
+use Rattle.sc_memory.proofs.making.make.Goals as goal
+
+pub new-owned-requires-clause-levels : goal.new-owned-requires-clause-levels
+new-owned-requires-clause-levels c =
+    let s = c.args.script in
+    let same = c.new-levels.ensures ∙ ap (λ (ls : List HeldLevel). held_of ls s.policy) c.in_ok-levels.ensures in
+    subst (λ (h : Held). is_good h.policy h.facts ≡ true) (sym same) (good_levels s c.requires.good)
+
+pub returns-clause-told : goal.returns-clause-told
+returns-clause-told c =
+    let s = c.args.script in
+    let same = c.new-levels.ensures ∙ ap (λ (ls : List HeldLevel). held_of ls s.policy) c.in_ok-levels.ensures in
+    c.new-owned.ensures.told ∙ ap (λ (h : Held). h.told) same ∙ firsts_tell s.levels
