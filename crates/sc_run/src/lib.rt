@@ -1,6 +1,8 @@
 //! What the program does with its words and its input, whatever its streams are.
 #![tactic(auto)]
 
+#[cfg(test)]
+mod level_tests;
 mod outside;
 mod printing;
 mod running;

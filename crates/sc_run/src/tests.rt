@@ -50,7 +50,7 @@ read 0 1000
 read 1 1000
 ";
 
-fn joined(alloc: Global, parts: &[&[u8]]) -> Result<Vec<u8>, Fail> {
+pub(crate) fn joined(alloc: Global, parts: &[&[u8]]) -> Result<Vec<u8>, Fail> {
     let mut all = Vec::new(alloc);
     for part in parts {
         all.extend_from_slice(part)?;
@@ -59,7 +59,7 @@ fn joined(alloc: Global, parts: &[&[u8]]) -> Result<Vec<u8>, Fail> {
 }
 
 /// The report of a drive by a script; nothing where it is none.
-fn reported(alloc: Global, parts: &[&[u8]]) -> Result<Vec<u8>, Fail> {
+pub(crate) fn reported(alloc: Global, parts: &[&[u8]]) -> Result<Vec<u8>, Fail> {
     let script = joined(alloc, parts)?;
     match drive_script(alloc, script.as_slice()) {
         Ok(text) => Ok(text),
