@@ -7,7 +7,7 @@ use Rattle.sc_daemon.specs.Daemons.{BacksEvent, DoesPending, Kept, ReadsWhat, Se
 use Rattle.sc_daemon.specs.Lines.{IsDone, Line, conn_of}
 use Rattle.sc_daemon.specs.Turns.{IsIdleLine, TakesMore}
 use Rattle.sc_daemon.proofs.Plain.{due_ended, due_takes, ended_due, reserves_nothing, says_nothing, takes_due, ticked_plain}
-use Rattle.sc_job.specs.Setups.{Config, setup}
+use Rattle.sc_job.specs.Setups.{setup}
 use Rattle.sc_model.specs.Follows.{Due, Fits, ToTake, ToWrite, bytes_in, kind_at}
 use Rattle.sc_model.specs.Machine.{Conn, DoesBack, DoesRead, DoesServe, Machine, Says, advanced, backed, conn, counted_level, current, due_at, due_pending, due_stage, free_after, more, need_at, new_conn, pend, pending_after, pending_at}
 use Rattle.sc_model.specs.Next.{Ended, at_moment, ticked}

@@ -1,4 +1,4 @@
-use Rattle.std.proofs.Common.{◌++◌, ◌∷◌, [], ℕ, ◌+◌, ◌∙◌, ap, drop, map, List}
+use Rattle.std.proofs.Common.{◌++◌, ◌∷◌, [], ◌+◌, ◌∙◌, ap, drop, map, List}
 use Rattle.sc_daemon.proofs.Handing.{one_listed}
 use Rattle.sc_model.specs.declared.level.Handed.{Handed}
 use Rattle.sc_model.specs.declared.phase.Pending.{Pending}

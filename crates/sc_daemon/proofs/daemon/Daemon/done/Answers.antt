@@ -1,7 +1,5 @@
-use Rattle.std.proofs.Common.{ap, sym, ◌∙◌, subst}
-use Rattle.sc_daemon.specs.Daemons.{Kept}
+use Rattle.std.proofs.Common.{ap, ◌∙◌}
 use Rattle.sc_daemon.proofs.Handing.{pending_done}
-use Rattle.sc_job.specs.LevelRows.{origin_of}
 use Rattle.sc_model.specs.Machine.{counted_level}
 use Rattle.sc_model.specs.Rows.{Origin_of_put, level_row}
 use Rattle.sc_daemon.proofs.daemon.Daemon.done.Goals as goal
