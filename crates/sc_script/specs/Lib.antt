@@ -2,6 +2,7 @@ pub mod Reading
 pub mod Parts
 pub mod Fields
 pub mod Readers
+pub mod Records
 pub mod Requests
 pub mod Lines
 pub mod Inputs

@@ -1,12 +1,13 @@
 -- The requests that a line may ask.
 use Rattle.std.specs.Prelude.{ℕ, List, [], ◌∷◌, ◌++◌, Option, Some, None, if◌then◌else◌, codes, bytes_eq}
 use Rattle.sc_model.specs.declared.message.Request.{Request}
-use Rattle.sc_model.specs.declared.message.Request.TheVariants.{Compile, StorageGetRaw, StoragePutRaw}
+use Rattle.sc_model.specs.declared.message.Request.TheVariants.{Compile, GetStats, StorageGetRaw, StorageHandshake, StoragePutRaw, ZeroStats}
 use Rattle.sc_model.specs.declared.message.Variable.{Variable}
 use Rattle.sc_script.specs.Reading.{Reader}
 use Rattle.sc_script.specs.Reading.{◌>>=◌ as ◌then◌}
 use Rattle.sc_script.specs.Readers.{◌>>=◌, gives, field}
 use Rattle.sc_script.specs.Fields.{bytes_of_token, text_of_token, variable_of}
+use Rattle.sc_script.specs.Records.{record_request}
 use Rattle.sc_script.specs.declared.requests.RequestKind.{RequestKind}
 use Rattle.sc_script.specs.declared.requests.RequestKind.TheVariants as kind
 
@@ -50,12 +51,21 @@ request_kind w =
     if bytes_eq w (codes "compile") then Some kind.Compile
     else if bytes_eq w (codes "get-raw") then Some kind.GetRaw
     else if bytes_eq w (codes "put-raw") then Some kind.PutRaw
+    else if bytes_eq w (codes "zero-stats") then Some kind.ZeroStats
+    else if bytes_eq w (codes "get-stats") then Some kind.GetStats
+    else if bytes_eq w (codes "handshake") then Some kind.Handshake
+    else if bytes_eq w (codes "record") then Some kind.Record
     else None
 
 unfoldable pub request_body : RequestKind → Reader Request
 request_body kind.Compile = compile_request
 request_body kind.GetRaw = get_raw_request
 request_body kind.PutRaw = put_raw_request
+-- zero-stats, get-stats and handshake have no further word
+request_body kind.ZeroStats = gives ZeroStats
+request_body kind.GetStats = gives GetStats
+request_body kind.Handshake = gives StorageHandshake
+request_body kind.Record = record_request
 
 unfoldable pub request_words : Reader Request
 request_words = do

@@ -19,6 +19,7 @@ mod lines;
 mod parts;
 mod policies;
 mod reading;
+mod records;
 mod replies;
 mod requests;
 mod run_rule;

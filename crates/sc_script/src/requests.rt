@@ -6,6 +6,7 @@ ghost use Rattle.sc_script.specs.Requests.{tokens_onto, variables_onto, compile_
 use crate::fault::LineError;
 use crate::fields::{text_token, token, variable};
 use crate::parts::Words;
+use crate::records::record_request;
 use sc_entry::{ByteText, Items};
 use sc_model::{Compile, Request, Variable};
 use std::alloc::Global;
@@ -16,6 +17,10 @@ pub enum RequestKind {
     Compile,
     GetRaw,
     PutRaw,
+    ZeroStats,
+    GetStats,
+    Handshake,
+    Record,
 }
 
 fn tokens(alloc: Global, words: &mut Words<'_>) -> Result<Items<ByteText>, LineError>
@@ -87,6 +92,18 @@ fn request_kind(word: &[u8]) -> Result<RequestKind, LineError>
     if word == b"put-raw".as_slice() {
         return Ok(RequestKind::PutRaw);
     }
+    if word == b"zero-stats".as_slice() {
+        return Ok(RequestKind::ZeroStats);
+    }
+    if word == b"get-stats".as_slice() {
+        return Ok(RequestKind::GetStats);
+    }
+    if word == b"handshake".as_slice() {
+        return Ok(RequestKind::Handshake);
+    }
+    if word == b"record".as_slice() {
+        return Ok(RequestKind::Record);
+    }
     Err(LineError::Bad)
 }
 
@@ -102,6 +119,10 @@ fn request_body(
         RequestKind::Compile => compile_request(alloc, words),
         RequestKind::GetRaw => get_raw_request(alloc, words),
         RequestKind::PutRaw => put_raw_request(alloc, words),
+        RequestKind::ZeroStats => Ok(Request::ZeroStats),
+        RequestKind::GetStats => Ok(Request::GetStats),
+        RequestKind::Handshake => Ok(Request::StorageHandshake),
+        RequestKind::Record => record_request(alloc, words),
     }
 }
 
