@@ -1,2 +1,4 @@
 pub mod Misses
 pub mod Requests
+pub mod Plains
+pub mod Sizes

@@ -4,3 +4,5 @@ pub mod Misses
 pub mod Ran
 pub mod Sends
 pub mod Serves
+pub mod Sizes
+pub mod Telling

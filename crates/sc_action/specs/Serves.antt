@@ -5,15 +5,19 @@ use Rattle.sc_wire.specs.Requests.{IsServed}
 use Rattle.sc_hold.specs.Quiet.{IsQuietVerdict}
 use Rattle.sc_job.specs.Setups.{Config}
 use Rattle.sc_model.specs.declared.message.Request.{Request}
-use Rattle.sc_model.specs.declared.message.Request.TheVariants.{Compile, StorageGetRaw, StoragePutRaw}
+use Rattle.sc_model.specs.declared.message.Request.TheVariants.{Compile, GetStats, StorageGetRaw, StoragePutRaw}
 use Rattle.sc_model.specs.declared.phase.Ending.{Ending}
 use Rattle.sc_model.specs.declared.phase.Job.{Job}
 use Rattle.sc_model.specs.declared.phase.Phase.{Phase}
-use Rattle.sc_model.specs.declared.phase.Phase.TheVariants.{AtAsk, AtBegin, AtEnd, AtEnded, AtFinish, AtKey, AtOver, AtPlace, AtRun, AtSend, AtStarted, AtStore, AtTake, AtWrite, RawAsk}
+use Rattle.sc_model.specs.declared.phase.Phase.TheVariants.{AtAsk, AtBegin, AtEnd, AtEnded, AtFinish, AtKey, AtOver, AtPlace, AtRun, AtSend, AtStarted, AtStore, AtTake, AtWrite, RawAsk, SizeAsk}
 
 abbrev pub IsCompile : Request → Type 0
 IsCompile (Compile c) = Unit {0}
 IsCompile _ = ⊥
+
+abbrev pub IsGetStats : Request → Type 0
+IsGetStats GetStats = Unit {0}
+IsGetStats _ = ⊥
 
 abbrev pub IsGetRaw : Request → Type 0
 IsGetRaw (StorageGetRaw k) = Unit {0}
@@ -44,6 +48,7 @@ Serves k (AtStore v task b ending) r = IsCompile r × IsQuietVerdict v
 Serves k (AtWrite b ls f ending) r = AreLevels (length k.levels) ls × IsWriter r ending
 Serves k (AtFinish ns last) r = IsCompile r
 Serves k (RawAsk l key) r = IsGetRaw r × (l < length k.levels)
+Serves k (SizeAsk l stats zs) r = IsGetStats r × (l < length k.levels)
 Serves k _ r = ⊥
 
 -- What a connection may stand at: also where a reply was too long.

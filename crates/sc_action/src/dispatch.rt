@@ -1,12 +1,17 @@
 //! One action of a request.
-ghost use Rattle.std.specs.Prelude.{◌≡◌, IfOk};
+ghost use Rattle.std.specs.Prelude.{◌≡◌, List, IfOk};
 ghost use Rattle.sc_action.specs.Acts.{Acts};
 ghost use Rattle.sc_action.specs.Sends.{Adds};
 ghost use Rattle.sc_action.specs.Serves.{Serves};
+ghost use Rattle.sc_action.specs.Telling.{ActsFor, SaysCounted};
 ghost use Rattle.sc_job.specs.Setups.{Config, setup};
 ghost use Rattle.sc_model.specs.Machine.{need_at};
 ghost use Rattle.sc_model.specs.Trace.{sent_by};
 ghost use Rattle.sc_model.specs.declared.message.Request.TheVariants.{Compile as CompileOf, StorageGetRaw, StoragePutRaw};
+ghost use Rattle.sc_model.specs.declared.message.Request.TheVariants as requests;
+ghost use Rattle.sc_model.specs.declared.level.Policy.{Policy as PolicyType};
+ghost use Rattle.sc_stats.specs.declared.counters.LevelStats.{LevelStats as Counters};
+ghost use Rattle.sc_stats.specs.declared.counters.ServerStats.{ServerStats as Stats};
 
 use crate::acted::Acted;
 use crate::early::{act_begin, act_key};
@@ -15,9 +20,11 @@ use crate::raw::{act_begin_get, act_begin_put, act_put, act_raw_ask};
 use crate::running::{act_run, act_take};
 use crate::sending::{act_finish, act_send, act_started};
 use crate::storing::{act_end, act_store, act_write};
+use crate::telling::{act_begin_stats, act_handshake, act_record, act_size_ask, act_zero};
 use sc_entry::{ByteText, NoMemory, Text};
 use sc_hold::Hold;
 use sc_model::{Compile, Phase, Request};
+use sc_stats::{LevelStats, ServerStats};
 use std::alloc::Global;
 
 /// Does the action that is due of a compile.
@@ -104,17 +111,111 @@ fn act_put_raw<H: Hold>(
     }
 }
 
+/// Does the action that is due of a request for statistics.
+fn act_get_stats<H: Hold>(
+    alloc: Global,
+    hold: &mut H,
+    stats: &ServerStats,
+    levels: &[LevelStats],
+    phase: Phase,
+    out: &mut Vec<u8>,
+) -> Result<Acted, NoMemory>
+    requires { Serves (H.config hold.old) phase requests.GetStats }
+    ensures acts { IfOk result (λ a. ActsFor (H.config hold.old) requests.GetStats phase (H.moment hold.old) a) }
+    ensures says { IfOk result (λ a. SaysCounted (H.config hold.old).policy stats.now levels.now a.what) }
+    ensures moves { IfOk result (λ a. H.moves hold.old (need_at (setup (H.config hold.old)) requests.GetStats phase) a.what hold.new) }
+    ensures same { IfOk result (λ a. H.config hold.new ≡ H.config hold.old) }
+    ensures sent { IfOk result (λ a. Adds (H.config hold.old) (sent_by a.what) out.old.items out.new.items) }
+{
+    match phase {
+        Phase::AtBegin => act_begin_stats(alloc, hold, stats),
+        Phase::SizeAsk(level, told, sizes) => {
+            act_size_ask(alloc, hold, levels, level, told, sizes)
+        }
+        Phase::AtSend(reply) => act_send(alloc, hold, reply, out),
+        _ => unreachable!(),
+    }
+}
+
+/// Does the action that is due of a request that all counters start anew.
+fn act_zero_stats<H: Hold>(
+    alloc: Global,
+    hold: &mut H,
+    phase: Phase,
+    out: &mut Vec<u8>,
+) -> Result<Acted, NoMemory>
+    requires { Serves (H.config hold.old) phase requests.ZeroStats }
+    ensures acts { IfOk result (λ a. ActsFor (H.config hold.old) requests.ZeroStats phase (H.moment hold.old) a) }
+    ensures says { IfOk result (λ a. (p : PolicyType) (stats : Stats) (levels : List Counters) → SaysCounted p stats levels a.what) }
+    ensures moves { IfOk result (λ a. H.moves hold.old (need_at (setup (H.config hold.old)) requests.ZeroStats phase) a.what hold.new) }
+    ensures same { IfOk result (λ a. H.config hold.new ≡ H.config hold.old) }
+    ensures sent { IfOk result (λ a. Adds (H.config hold.old) (sent_by a.what) out.old.items out.new.items) }
+{
+    match phase {
+        Phase::AtBegin => act_zero(alloc, hold),
+        Phase::AtSend(reply) => act_send(alloc, hold, reply, out),
+        _ => unreachable!(),
+    }
+}
+
+/// Does the action that is due of a request that counters are added.
+fn act_record_stats<H: Hold>(
+    alloc: Global,
+    hold: &mut H,
+    delta: &ServerStats,
+    phase: Phase,
+    out: &mut Vec<u8>,
+) -> Result<Acted, NoMemory>
+    requires { Serves (H.config hold.old) phase (requests.RecordStats delta.now) }
+    ensures acts { IfOk result (λ a. ActsFor (H.config hold.old) (requests.RecordStats delta.now) phase (H.moment hold.old) a) }
+    ensures says { IfOk result (λ a. (p : PolicyType) (stats : Stats) (levels : List Counters) → SaysCounted p stats levels a.what) }
+    ensures moves { IfOk result (λ a. H.moves hold.old (need_at (setup (H.config hold.old)) (requests.RecordStats delta.now) phase) a.what hold.new) }
+    ensures same { IfOk result (λ a. H.config hold.new ≡ H.config hold.old) }
+    ensures sent { IfOk result (λ a. Adds (H.config hold.old) (sent_by a.what) out.old.items out.new.items) }
+{
+    match phase {
+        Phase::AtBegin => act_record(alloc, hold, delta),
+        Phase::AtSend(reply) => act_send(alloc, hold, reply, out),
+        _ => unreachable!(),
+    }
+}
+
+/// Does the action that is due of a handshake with the store.
+fn act_storage_handshake<H: Hold>(
+    alloc: Global,
+    hold: &mut H,
+    phase: Phase,
+    out: &mut Vec<u8>,
+) -> Result<Acted, NoMemory>
+    requires { Serves (H.config hold.old) phase requests.StorageHandshake }
+    ensures acts { IfOk result (λ a. ActsFor (H.config hold.old) requests.StorageHandshake phase (H.moment hold.old) a) }
+    ensures says { IfOk result (λ a. (p : PolicyType) (stats : Stats) (levels : List Counters) → SaysCounted p stats levels a.what) }
+    ensures moves { IfOk result (λ a. H.moves hold.old (need_at (setup (H.config hold.old)) requests.StorageHandshake phase) a.what hold.new) }
+    ensures same { IfOk result (λ a. H.config hold.new ≡ H.config hold.old) }
+    ensures sent { IfOk result (λ a. Adds (H.config hold.old) (sent_by a.what) out.old.items out.new.items) }
+{
+    match phase {
+        Phase::AtBegin => act_handshake(alloc, hold),
+        Phase::AtSend(reply) => act_send(alloc, hold, reply, out),
+        _ => unreachable!(),
+    }
+}
+
 /// Does the action that is due of a request at this phase: its event, and the phase after it. What it sends goes behind
-/// `out`. It waits for nothing: a token is there where one is taken.
+/// `out`. It waits for nothing: a token is there where one is taken. `stats` is what the daemon has counted, and `levels`
+/// what it has counted of each level; a request for statistics tells these.
 pub fn act<H: Hold>(
     alloc: Global,
     hold: &mut H,
+    stats: &ServerStats,
+    levels: &[LevelStats],
     request: &Request,
     phase: Phase,
     out: &mut Vec<u8>,
 ) -> Result<Acted, NoMemory>
     requires { Serves (H.config hold.old) phase request.now }
-    ensures acts { IfOk result (λ a. Acts (H.config hold.old) request.now phase (H.moment hold.old) a) }
+    ensures acts { IfOk result (λ a. ActsFor (H.config hold.old) request.now phase (H.moment hold.old) a) }
+    ensures says { IfOk result (λ a. SaysCounted (H.config hold.old).policy stats.now levels.now a.what) }
     ensures moves { IfOk result (λ a. H.moves hold.old (need_at (setup (H.config hold.old)) request.now phase) a.what hold.new) }
     ensures same { IfOk result (λ a. H.config hold.new ≡ H.config hold.old) }
     ensures sent { IfOk result (λ a. Adds (H.config hold.old) (sent_by a.what) out.old.items out.new.items) }
@@ -123,6 +224,10 @@ pub fn act<H: Hold>(
         Request::Compile(compile) => act_compile(alloc, hold, compile, phase, out),
         Request::StorageGetRaw(key) => act_get_raw(alloc, hold, key, phase, out),
         Request::StoragePutRaw(key, put) => act_put_raw(alloc, hold, key, put, phase, out),
+        Request::GetStats => act_get_stats(alloc, hold, stats, levels, phase, out),
+        Request::ZeroStats => act_zero_stats(alloc, hold, phase, out),
+        Request::RecordStats(delta) => act_record_stats(alloc, hold, delta, phase, out),
+        Request::StorageHandshake => act_storage_handshake(alloc, hold, phase, out),
         _ => unreachable!(),
     }
 }

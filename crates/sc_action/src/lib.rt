@@ -1,5 +1,5 @@
 //! What a daemon does for a request, one action at a time, over any hold: of a compile begin, find the key, ask the levels,
-//! place a hit, wait for a token, run, store, and send each reply; of others ask, put and send.
+//! place a hit, wait for a token, run, store, and send each reply; of others ask, put, tell and send.
 #![tactic(auto)]
 
 mod acted;
@@ -11,6 +11,7 @@ mod raw;
 mod running;
 mod sending;
 mod storing;
+mod telling;
 mod texts;
 mod turn;
 

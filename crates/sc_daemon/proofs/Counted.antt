@@ -1,6 +1,7 @@
 -- A served event that was counted.
 use Rattle.std.proofs.Common.{◌≡◌, ℕ, ◌+◌, ◌≤◌, ◌++◌, true, false, length, Result, Ok, Err, refl, sym, ap, ◌∙◌, subst, arith}
 use Rattle.std.specs.Prelude.{IfOk, IsOk, OnOk}
+use Rattle.sc_action.specs.Telling.{SaysCounted}
 use Rattle.sc_daemon.specs.Daemons.{Kept, ServesEvent, kept_after}
 use Rattle.sc_daemon.specs.Lines.{Line, conn_of}
 use Rattle.sc_daemon.specs.Turns.{Serves_one}
@@ -56,12 +57,12 @@ free_most n (Sent a) = omega arith
 free_most n (TooLong a) = omega arith
 
 pub serves_event : (c j moment last : ℕ) (x : What) (d d2 : Kept) (state2 : State) (stats2 : ServerStats) (old new : Line) → j ≡ old.at → moment ≡ d.state.world.moment → last ≡ old.last
-    → Serves_one d.state.config d.state.world.moment d.free x old new
+    → Serves_one d.state.config d.state.world.moment d.free x old new → SaysCounted d.state.config.policy d.stats d.levels x
     → OwnedMoves d.state (need_at (setup d.state.config) (current (conn_of old)) old.phase) x state2 → state2.config ≡ d.state.config
     → stats2 ≡ count (zeroes x) d.stats (row (setup d.state.config) (current (conn_of old)) old.outcome d.state.world.moment x)
     → d2 ≡ kept_after (record d { state = state2; stats = stats2 }) last moment x
     → ServesEvent c (record { moment = moment; owner = OfRequest c j; what = x }) d d2 old new
-serves_event c j moment last x d d2 state2 stats2 old new number now at one moves same counted is_d2 =
+serves_event c j moment last x d d2 state2 stats2 old new number now at one says moves same counted is_d2 =
     let k = d.state.config in
     record {
       moment = now;
@@ -70,6 +71,7 @@ serves_event c j moment last x d d2 state2 stats2 old new number now at one move
         record {
           number = number;
           one = one;
+          says = says;
           moves = subst (λ (e : Kept). OwnedMoves d.state (need_at (setup k) (current (conn_of old)) old.phase) x e.state) (sym is_d2) moves;
           config = ap (λ (e : Kept). e.state.config) is_d2 ∙ same;
           free = ap (λ (e : Kept). e.free) is_d2;

@@ -6,7 +6,7 @@ use Rattle.sc_daemon.specs.Backlogs.{ArePending, IsPending, without}
 use Rattle.sc_daemon.specs.Daemons.{BacksEvent, DoesPending, Kept, ReadsWhat, ServesAt, ServesWhat, idle_event, machine_of}
 use Rattle.sc_daemon.specs.Lines.{IsDone, Line, conn_of}
 use Rattle.sc_daemon.specs.Turns.{IsIdleLine, TakesMore}
-use Rattle.sc_daemon.proofs.Plain.{due_ended, due_takes, ended_due, reserves_nothing, says_nothing, takes_due, ticked_plain}
+use Rattle.sc_daemon.proofs.Plain.{due_ended, due_takes, ended_due, reserves_nothing, says_counted, takes_due, ticked_still}
 use Rattle.sc_job.specs.Setups.{setup}
 use Rattle.sc_model.specs.Follows.{Due, Fits, ToTake, ToWrite, bytes_in, kind_at}
 use Rattle.sc_model.specs.Machine.{Conn, DoesBack, DoesRead, DoesServe, Machine, Says, advanced, backed, conn, counted_level, current, due_at, due_pending, due_stage, free_after, more, need_at, new_conn, pend, pending_after, pending_at}
@@ -60,7 +60,7 @@ left_is c j x d d2 lines old new at =
     let s = setup d.state.config in
     let z = d.state.world.moment in
     let conns = map-set conn_of lines c new ∙ ap (λ (k : Conn). set (map conn_of lines) c k) at.one.then in
-    let reserved : [] ≡ reserved_by (OfRequest c old.at) x [] = sym (reserves_nothing (OfRequest c old.at) x at.one.plain) in
+    let reserved : [] ≡ reserved_by (OfRequest c old.at) x [] = sym (reserves_nothing (OfRequest c old.at) x at.one.still) in
     λ i. record {
       conns = conns i;
       free = at.free i;
@@ -87,10 +87,10 @@ served_does c e j x d d2 lines l new lt told same at =
       at.one.some,
       at.one.fits,
       (λ due. at.one.token (due_takes s (current (conn_of old)) old.phase due)),
-      says_nothing s m x at.one.plain,
+      says_counted s m x at.says,
       (
         d2.state.world,
-        subst (λ (n : ℕ). Moves s (need_at s (current (conn_of old)) old.phase) (λ l. 0) x (at_moment d.state.world n) d2.state.world) (sym (ticked_plain d.state.world.moment x at.one.plain)) (at.moves.1 told),
+        subst (λ (n : ℕ). Moves s (need_at s (current (conn_of old)) old.phase) (λ l. 0) x (at_moment d.state.world n) d2.state.world) (sym (ticked_still d.state.world.moment x at.one.still)) (at.moves.1 told),
         left_is c j x d d2 lines old new at,
       ),
     )

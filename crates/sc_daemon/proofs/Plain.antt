@@ -1,6 +1,6 @@
 -- What a served event is, and what is due at a phase.
 use Rattle.std.proofs.Common.{◌≡◌, ℕ, List, [], ◌∷◌, refl}
-use Rattle.sc_action.specs.Acts.{IsPlain, IsPlainMode, IsPlainTold}
+use Rattle.sc_action.specs.Telling.{IsStill, SaysCounted}
 use Rattle.sc_daemon.specs.Standings.{standing_of}
 use Rattle.sc_daemon.specs.declared.standing.Standing.TheVariants.{Ended as HasEnded, Takes}
 use Rattle.sc_model.specs.Follows.{Due, ToReserve, ToTake, ToWrite, start_write}
@@ -10,6 +10,7 @@ use Rattle.sc_model.specs.Plan.{level_facts}
 use Rattle.sc_model.specs.Script.{Setup}
 use Rattle.sc_model.specs.Trace.{reserved_by}
 use Rattle.sc_model.specs.declared.event.Answer.{Answer}
+use Rattle.sc_model.specs.declared.event.Answer.TheVariants.{Found, Hit, Miss, Refused, Size as SizeIs}
 use Rattle.sc_model.specs.declared.event.Mode.{Mode}
 use Rattle.sc_model.specs.declared.event.Mode.TheVariants.{Path, Pre, Raw, Size as Sizes, Whole}
 use Rattle.sc_model.specs.declared.event.Owner.{Owner}
@@ -26,85 +27,92 @@ use Rattle.sc_model.specs.declared.phase.Phase.{Phase}
 use Rattle.sc_model.specs.declared.phase.Phase.TheVariants.{AtAsk, AtBegin, AtCommit, AtDist, AtEnd, AtEnded, AtFill, AtFinish, AtKey, AtOver, AtPlace, AtRun, AtSend, AtStarted, AtStore, AtTake, AtWrite, PathAsk, PreAsk, PrePut, RawAsk, SizeAsk}
 
 -- time stands still
-pub ticked_plain : (n : ℕ) (x : What) → IsPlain x → ticked n x ≡ n
-ticked_plain n Idle plain = refl
-ticked_plain n (Passed a) plain = absurd plain
-ticked_plain n (Taken a b) plain = refl
-ticked_plain n (Closed a) plain = refl
-ticked_plain n (Began a b) plain = refl
-ticked_plain n (Keyed a b d) plain = refl
-ticked_plain n (Asked a b d f g) plain = refl
-ticked_plain n (Placed a) plain = refl
-ticked_plain n TokenTaken plain = refl
-ticked_plain n (Ran a) plain = refl
-ticked_plain n (Dist a) plain = refl
-ticked_plain n (Outcome a b) plain = refl
-ticked_plain n (Reserved a b d f) plain = refl
-ticked_plain n (Filled a b d f g) plain = refl
-ticked_plain n (Committed a b d f) plain = refl
-ticked_plain n (Wrote a b d f g h) plain = refl
-ticked_plain n (WriteEnded a b) plain = refl
-ticked_plain n (Sent a) plain = refl
-ticked_plain n (TooLong a) plain = refl
+pub ticked_still : (n : ℕ) (x : What) → IsStill x → ticked n x ≡ n
+ticked_still n Idle still = refl
+ticked_still n (Passed a) still = absurd still
+ticked_still n (Taken a b) still = refl
+ticked_still n (Closed a) still = refl
+ticked_still n (Began a b) still = refl
+ticked_still n (Keyed a b d) still = refl
+ticked_still n (Asked a b d f g) still = refl
+ticked_still n (Placed a) still = refl
+ticked_still n TokenTaken still = refl
+ticked_still n (Ran a) still = refl
+ticked_still n (Dist a) still = refl
+ticked_still n (Outcome a b) still = refl
+ticked_still n (Reserved a b d f) still = refl
+ticked_still n (Filled a b d f g) still = refl
+ticked_still n (Committed a b d f) still = refl
+ticked_still n (Wrote a b d f g h) still = refl
+ticked_still n (WriteEnded a b) still = refl
+ticked_still n (Sent a) still = refl
+ticked_still n (TooLong a) still = refl
 
 -- nothing is reserved
-pub reserves_nothing : (o : Owner) (x : What) → IsPlain x → reserved_by o x [] ≡ []
-reserves_nothing o Idle plain = refl
-reserves_nothing o (Passed a) plain = absurd plain
-reserves_nothing o (Taken a b) plain = refl
-reserves_nothing o (Closed a) plain = refl
-reserves_nothing o (Began a b) plain = refl
-reserves_nothing o (Keyed a b d) plain = refl
-reserves_nothing o (Asked a b d f g) plain = refl
-reserves_nothing o (Placed a) plain = refl
-reserves_nothing o TokenTaken plain = refl
-reserves_nothing o (Ran a) plain = refl
-reserves_nothing o (Dist a) plain = absurd plain
-reserves_nothing o (Outcome a b) plain = refl
-reserves_nothing o (Reserved a b d f) plain = absurd plain
-reserves_nothing o (Filled a b d f g) plain = absurd plain
-reserves_nothing o (Committed a b d f) plain = absurd plain
-reserves_nothing o (Wrote a b d f g h) plain = refl
-reserves_nothing o (WriteEnded a b) plain = refl
-reserves_nothing o (Sent a) plain = refl
-reserves_nothing o (TooLong a) plain = refl
+pub reserves_nothing : (o : Owner) (x : What) → IsStill x → reserved_by o x [] ≡ []
+reserves_nothing o Idle still = refl
+reserves_nothing o (Passed a) still = absurd still
+reserves_nothing o (Taken a b) still = refl
+reserves_nothing o (Closed a) still = refl
+reserves_nothing o (Began a b) still = refl
+reserves_nothing o (Keyed a b d) still = refl
+reserves_nothing o (Asked a b d f g) still = refl
+reserves_nothing o (Placed a) still = refl
+reserves_nothing o TokenTaken still = refl
+reserves_nothing o (Ran a) still = refl
+reserves_nothing o (Dist a) still = absurd still
+reserves_nothing o (Outcome a b) still = refl
+reserves_nothing o (Reserved a b d f) still = absurd still
+reserves_nothing o (Filled a b d f g) still = absurd still
+reserves_nothing o (Committed a b d f) still = absurd still
+reserves_nothing o (Wrote a b d f g h) still = refl
+reserves_nothing o (WriteEnded a b) still = refl
+reserves_nothing o (Sent a) still = refl
+reserves_nothing o (TooLong a) still = refl
 
-says_told : (s : Setup) (m : Machine) (q : Request) (told : Told) → IsPlainTold told → Says s m (Began q told)
-says_told s m q (TellsCompile p) plain = tt
-says_told s m q (TellsStats stats) plain = absurd plain
-says_told s m q (TellsDist info) plain = tt
-says_told s m q (TellsHandshake info) plain = tt
-says_told s m q (TellsValid v) plain = tt
-says_told s m q TellsNothing plain = tt
+says_told : (s : Setup) (m : Machine) (q : Request) (told : Told) → SaysCounted s.policy m.stats m.level_stats (Began q told) → Says s m (Began q told)
+says_told s m q (TellsCompile p) says = tt
+says_told s m q (TellsStats stats) says = says
+says_told s m q (TellsDist info) says = tt
+says_told s m q (TellsHandshake info) says = tt
+says_told s m q (TellsValid v) says = tt
+says_told s m q TellsNothing says = tt
 
-says_asked : (s : Setup) (m : Machine) (l : ℕ) (k : List ℕ) (mode : Mode) (a : Answer) (hs : List Handed) → IsPlainMode mode → Says s m (Asked l k mode a hs)
-says_asked s m l k Whole a hs plain = tt
-says_asked s m l k Raw a hs plain = tt
-says_asked s m l k Path a hs plain = tt
-says_asked s m l k Pre a hs plain = tt
-says_asked s m l k Sizes a hs plain = absurd plain
+says_size : (s : Setup) (m : Machine) (l : ℕ) (k : List ℕ) (a : Answer) (hs : List Handed) → SaysCounted s.policy m.stats m.level_stats (Asked l k Sizes a hs) → Says s m (Asked l k Sizes a hs)
+says_size s m l k (Hit b mark) hs says = tt
+says_size s m l k Miss hs says = tt
+says_size s m l k (Refused c) hs says = tt
+says_size s m l k (Found p) hs says = tt
+says_size s m l k (SizeIs n c) hs says = says
 
--- nothing is told of other requests
-pub says_nothing : (s : Setup) (m : Machine) (x : What) → IsPlain x → Says s m x
-says_nothing s m Idle plain = tt
-says_nothing s m (Passed a) plain = absurd plain
-says_nothing s m (Taken a b) plain = tt
-says_nothing s m (Closed a) plain = tt
-says_nothing s m (Began q told) plain = says_told s m q told plain
-says_nothing s m (Keyed a b d) plain = tt
-says_nothing s m (Asked l k mode a hs) plain = says_asked s m l k mode a hs plain
-says_nothing s m (Placed a) plain = tt
-says_nothing s m TokenTaken plain = tt
-says_nothing s m (Ran a) plain = tt
-says_nothing s m (Dist a) plain = absurd plain
-says_nothing s m (Outcome a b) plain = tt
-says_nothing s m (Reserved a b d f) plain = absurd plain
-says_nothing s m (Filled a b d f g) plain = absurd plain
-says_nothing s m (Committed a b d f) plain = absurd plain
-says_nothing s m (Wrote a b d f g h) plain = tt
-says_nothing s m (WriteEnded a b) plain = tt
-says_nothing s m (Sent a) plain = tt
-says_nothing s m (TooLong a) plain = tt
+says_asked : (s : Setup) (m : Machine) (l : ℕ) (k : List ℕ) (mode : Mode) (a : Answer) (hs : List Handed) → SaysCounted s.policy m.stats m.level_stats (Asked l k mode a hs) → Says s m (Asked l k mode a hs)
+says_asked s m l k Whole a hs says = tt
+says_asked s m l k Raw a hs says = tt
+says_asked s m l k Path a hs says = tt
+says_asked s m l k Pre a hs says = tt
+says_asked s m l k Sizes a hs says = says_size s m l k a hs says
+
+-- what is told of others' events is what the machine has counted
+pub says_counted : (s : Setup) (m : Machine) (x : What) → SaysCounted s.policy m.stats m.level_stats x → Says s m x
+says_counted s m Idle says = tt
+says_counted s m (Passed a) says = tt
+says_counted s m (Taken a b) says = tt
+says_counted s m (Closed a) says = tt
+says_counted s m (Began q told) says = says_told s m q told says
+says_counted s m (Keyed a b d) says = tt
+says_counted s m (Asked l k mode a hs) says = says_asked s m l k mode a hs says
+says_counted s m (Placed a) says = tt
+says_counted s m TokenTaken says = tt
+says_counted s m (Ran a) says = tt
+says_counted s m (Dist a) says = tt
+says_counted s m (Outcome a b) says = tt
+says_counted s m (Reserved a b d f) says = tt
+says_counted s m (Filled a b d f g) says = tt
+says_counted s m (Committed a b d f) says = tt
+says_counted s m (Wrote a b d f g h) says = tt
+says_counted s m (WriteEnded a b) says = tt
+says_counted s m (Sent a) says = tt
+says_counted s m (TooLong a) says = tt
 
 -- what is due where a write part goes on
 starts_write : (d : Due → Type 0) (kind : LevelKind) (l : ℕ) (b : Bytes) → d (ToReserve l b) → d (ToWrite Whole l b) → d (start_write kind l b)

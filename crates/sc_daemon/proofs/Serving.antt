@@ -1,6 +1,6 @@
 -- A served request goes on.
 use Rattle.std.proofs.Common.{◌≡◌, ℕ, ◌<◌, List, [], ◌∷◌, ◌++◌, length, drop, arith, refl, sym, ap, ◌∙◌, subst}
-use Rattle.sc_action.specs.Acts.{IsPlain}
+use Rattle.sc_action.specs.Telling.{IsStill}
 use Rattle.sc_action.specs.Serves.{Serves, Stands}
 use Rattle.sc_action.specs.declared.acted.Acted.{Acted}
 use Rattle.sc_daemon.specs.Lines.{Line, conn_of}
@@ -127,26 +127,26 @@ settle_phase c q (AtEnded a) = refl
 settle_phase c q AtOver = refl
 
 -- nothing is reserved
-none_reserved : (m : ℕ) (x : What) → IsPlain x → reserved_after 0 m x ≡ 0
-none_reserved m Idle plain = refl
-none_reserved m (Passed a) plain = refl
-none_reserved m (Taken a b) plain = refl
-none_reserved m (Closed a) plain = refl
-none_reserved m (Began a b) plain = refl
-none_reserved m (Keyed a b d) plain = refl
-none_reserved m (Asked a b d e f) plain = refl
-none_reserved m (Placed a) plain = refl
-none_reserved m TokenTaken plain = refl
-none_reserved m (Ran a) plain = refl
-none_reserved m (Dist a) plain = refl
-none_reserved m (Outcome a b) plain = refl
-none_reserved m (Reserved a b d e) plain = absurd plain
-none_reserved m (Filled a b d e f) plain = refl
-none_reserved m (Committed a b d e) plain = refl
-none_reserved m (Wrote a b d e f g) plain = refl
-none_reserved m (WriteEnded a b) plain = refl
-none_reserved m (Sent a) plain = refl
-none_reserved m (TooLong a) plain = refl
+none_reserved : (m : ℕ) (x : What) → IsStill x → reserved_after 0 m x ≡ 0
+none_reserved m Idle still = refl
+none_reserved m (Passed a) still = refl
+none_reserved m (Taken a b) still = refl
+none_reserved m (Closed a) still = refl
+none_reserved m (Began a b) still = refl
+none_reserved m (Keyed a b d) still = refl
+none_reserved m (Asked a b d e f) still = refl
+none_reserved m (Placed a) still = refl
+none_reserved m TokenTaken still = refl
+none_reserved m (Ran a) still = refl
+none_reserved m (Dist a) still = refl
+none_reserved m (Outcome a b) still = refl
+none_reserved m (Reserved a b d e) still = absurd still
+none_reserved m (Filled a b d e f) still = refl
+none_reserved m (Committed a b d e) still = refl
+none_reserved m (Wrote a b d e f g) still = refl
+none_reserved m (WriteEnded a b) still = refl
+none_reserved m (Sent a) still = refl
+none_reserved m (TooLong a) still = refl
 
 -- what is kept of an event, but where the compile stands
 noted_is : (k : Config) (m : ℕ) (acted : Acted) (old mid : Line) → ActsFirst k m acted old mid
@@ -155,7 +155,7 @@ noted_is k m acted old mid acts =
     let x = acted.what in
     ap (λ (l : Line). conn_of (record l { last = m; outcome = outcome_after l.outcome m x; long = long_after l.long x })) acts.same
     ∙ ap (λ (out : List ℕ). record (conn_of old) { phase = AtOver; last = m; outcome = outcome_after old.outcome m x; long = long_after old.long x; out = out }) acts.out
-    ∙ ap (λ (n : ℕ). record (conn_of old) { phase = AtOver; last = m; outcome = outcome_after old.outcome m x; long = long_after old.long x; out = old.out ++ frame_bytes (setup k) (sent_by x); reserved = n }) (sym (none_reserved m x acts.acts.plain))
+    ∙ ap (λ (n : ℕ). record (conn_of old) { phase = AtOver; last = m; outcome = outcome_after old.outcome m x; long = long_after old.long x; out = old.out ++ frame_bytes (setup k) (sent_by x); reserved = n }) (sym (none_reserved m x acts.acts.still))
 
 pub serves_one : (k : Config) (m free : ℕ) (acted : Acted) (old mid noted new : Line) → 0 < length old.waiting → (standing_of old.phase ≡ Takes → 0 < free) → ActsFirst k m acted old mid
     → noted ≡ record mid { last = m; outcome = outcome_after mid.outcome m acted.what; long = long_after mid.long acted.what }
@@ -173,7 +173,7 @@ serves_one k m free acted old mid noted new some token acts note moved limit =
           ∙ settle_phase (told_by (setup k) (conn_of old) m x) AtOver acted.phase
           ∙ ap (λ (p : Phase). settle (told_by (setup k) (conn_of old) m x) p) acts.acts.then
           ∙ ap (λ (r : Request). settle (told_by (setup k) (conn_of old) m x) (after (setup k) r old.phase m x)) (sym here);
-      plain = acts.acts.plain;
+      still = acts.acts.still;
       there = acts.acts.there;
       limit = limit ∙ ap (λ (l : Line). l.limit) note ∙ ap (λ (l : Line). l.limit) acts.same;
     }

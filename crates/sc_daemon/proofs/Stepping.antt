@@ -8,7 +8,7 @@ use Rattle.sc_daemon.specs.Lines.{Line, conn_of, new_line}
 use Rattle.sc_daemon.specs.Standings.{Rests}
 use Rattle.sc_daemon.proofs.Machines.{back_does, read_does, serve_does}
 use Rattle.sc_daemon.proofs.Serving.{more_rests}
-use Rattle.sc_daemon.proofs.Plain.{ticked_plain}
+use Rattle.sc_daemon.proofs.Plain.{ticked_still}
 use Rattle.sc_job.specs.Setups.{Config, setup}
 use Rattle.sc_model.specs.Follows.{kind_at}
 use Rattle.sc_model.specs.Machine.{Conn, DoesBack, DoesServe, conn, new_conn, pend}
@@ -111,7 +111,7 @@ pending_serves c Nobody _ d d2 old new are serves = absurd serves
 pending_serves c (OfWrite n) x d d2 old new are serves = absurd serves
 
 ticked_serves : (c : ℕ) (o : Owner) (x : What) (n : ℕ) (d d2 : Kept) (old new : Line) → ServesWhat c o x d d2 old new → ticked n x ≡ n
-ticked_serves c (OfRequest e j) x n d d2 old new serves = ticked_plain n x serves.1.one.plain
+ticked_serves c (OfRequest e j) x n d d2 old new serves = ticked_still n x serves.1.one.still
 ticked_serves c Nobody Idle n d d2 old new serves = refl
 ticked_serves c Nobody _ n d d2 old new serves = absurd serves
 ticked_serves c (OfWrite k) x n d d2 old new serves = absurd serves

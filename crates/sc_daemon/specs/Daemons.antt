@@ -1,6 +1,7 @@
 -- A daemon: its state, what it counted, and its free tokens.
-use Rattle.std.specs.Prelude.{◌≡◌, ◌⊎◌, ℕ, zero, suc, ◌+◌, ◌≤◌, List, [], ◌∷◌, ◌++◌, length, map, Some, refl}
+use Rattle.std.specs.Prelude.{◌≡◌, ◌⊎◌, ℕ, ◌+◌, ◌≤◌, List, [], ◌++◌, length, map, Some, refl}
 use Rattle.std.specs.Coded.{Coded, code_by, coded×, coded_list, coded_ℕ}
+use Rattle.sc_action.specs.Telling.{SaysCounted}
 use Rattle.sc_daemon.specs.Backlogs.{without}
 use Rattle.sc_daemon.specs.Lines.{Line, conn_of}
 use Rattle.sc_daemon.specs.Turns.{IsIdleLine, Reads, Serves_one}
@@ -29,7 +30,7 @@ use Rattle.sc_stats.specs.contracts.counters.LevelStats as level_type
 use Rattle.sc_stats.specs.contracts.counters.ServerStats as stats_type
 use Rattle.sc_stats.specs.declared.counters.LevelStats.{LevelStats}
 use Rattle.sc_stats.specs.declared.counters.ServerStats.{ServerStats}
-use Rattle.sc_stats.specs.Sums.{no_level_stats, no_stats, sat}
+use Rattle.sc_stats.specs.Sums.{no_stats, sat}
 use Rattle.sc_wire.specs.Streams.{served_reader}
 
 pub record Kept : Type 0 where
@@ -49,14 +50,9 @@ kept_code = code_by (State × (ServerStats × (ℕ × (List LevelStats × (List 
     (λ p. record { state = p.0; stats = p.1.0; free = p.1.1.0; levels = p.1.1.1.0; background = p.1.1.1.1.0; handed = p.1.1.1.1.1 })
     (λ _. refl)
 
--- levels of which nothing is counted
-abbrev pub no_levels : ℕ → List LevelStats
-no_levels zero = []
-no_levels (suc n) = no_level_stats ∷ no_levels n
-
--- a daemon as it is made
+-- a daemon as it is made: nothing is counted, of its levels neither
 abbrev pub new_daemon : State → Kept
-new_daemon o = record { state = o; stats = no_stats; free = o.config.tokens; levels = no_levels (length o.config.levels); background = []; handed = 0 }
+new_daemon o = record { state = o; stats = no_stats; free = o.config.tokens; levels = o.config.counters; background = []; handed = 0 }
 
 -- every token is free, each level has its counters, and no handed write is left
 pub record IsIdleDaemon (d : Kept) : Type 0 where
@@ -97,6 +93,7 @@ pub record ReadsEvent (d : Kept) (c : ℕ) (input : List ℕ) (n : ℕ) (e : Eve
 pub record ServesAt (c j : ℕ) (x : What) (d d2 : Kept) (old new : Line) : Type 0 where
   pub number : j ≡ old.at
   pub one : Serves_one d.state.config d.state.world.moment d.free x old new
+  pub says : SaysCounted d.state.config.policy d.stats d.levels x
   pub moves : OwnedMoves d.state (need_at (setup d.state.config) (current (conn_of old)) old.phase) x d2.state
   pub config : d2.state.config ≡ d.state.config
   pub free : d2.free ≡ free_after d.free x

@@ -1,6 +1,6 @@
 -- What a step does to one connection.
 use Rattle.std.specs.Prelude.{◌≡◌, ℕ, ◌+◌, ◌<◌, ◌≤◌, true, List, [], ◌∷◌, ◌++◌, length, take, drop, Option, Some, None, ◌⊎◌}
-use Rattle.sc_action.specs.Acts.{Acts, IsPlain}
+use Rattle.sc_action.specs.Telling.{ActsFor, IsStill, SaysCounted}
 use Rattle.sc_action.specs.Sends.{Adds}
 use Rattle.sc_action.specs.declared.acted.Acted.{Acted}
 use Rattle.sc_daemon.specs.Lines.{IsDone, Line, conn_of}
@@ -18,6 +18,8 @@ use Rattle.sc_model.specs.declared.message.Request.{Request}
 use Rattle.sc_model.specs.declared.phase.Phase.TheVariants.{AtOver}
 use Rattle.sc_model.specs.Rows.{count, row, zeroes}
 use Rattle.sc_model.specs.There.{AreHanded, handed_in}
+use Rattle.sc_model.specs.declared.level.Policy.{Policy}
+use Rattle.sc_stats.specs.declared.counters.LevelStats.{LevelStats}
 use Rattle.sc_stats.specs.declared.counters.ServerStats.{ServerStats}
 use Rattle.sc_wire.specs.Requests.{AreServed}
 use Rattle.sc_wire.specs.Streams.{served_reader}
@@ -41,7 +43,7 @@ pub record ActsFirst (k : Config) (moment : ℕ) (acted : Acted) (old new : Line
   pub request : Request
   pub rest : List Request
   pub first : old.waiting ≡ request ∷ rest
-  pub acts : Acts k request old.phase moment acted
+  pub acts : ActsFor k request old.phase moment acted
   pub same : new ≡ record old { phase = AtOver; out = new.out }
   pub out : Adds k (sent_by acted.what) old.out new.out
 
@@ -55,7 +57,7 @@ pub record Serves_one (k : Config) (moment free : ℕ) (x : What) (old new : Lin
   pub fits : Fits (setup k) (current (conn_of old)) (due_at (setup k) (current (conn_of old)) old.phase) x
   pub token : standing_of old.phase ≡ Takes → 0 < free
   pub then : conn_of new ≡ advanced (setup k) (conn_of old) moment x
-  pub plain : IsPlain x
+  pub still : IsStill x
   pub there : AreHanded (length k.levels) (handed_in x)
   pub limit : new.limit ≡ old.limit
 
@@ -84,3 +86,12 @@ CountsFirst k moment (Some a) l old new = new ≡ count (zeroes a.what) old (row
 abbrev pub CountsLine : Config → ℕ → Option What → Line → ServerStats → ServerStats → Type 0
 CountsLine k moment None l old new = new ≡ old
 CountsLine k moment (Some x) l old new = new ≡ count (zeroes x) old (row (setup k) (current (conn_of l)) l.outcome moment x)
+
+-- what the event tells of what was counted is so, where there is one
+abbrev pub SaysFirst : Policy → ServerStats → List LevelStats → Option Acted → Type 0
+SaysFirst p stats levels None = Unit {0}
+SaysFirst p stats levels (Some a) = SaysCounted p stats levels a.what
+
+abbrev pub SaysLine : Policy → ServerStats → List LevelStats → Option What → Type 0
+SaysLine p stats levels None = Unit {0}
+SaysLine p stats levels (Some x) = SaysCounted p stats levels x

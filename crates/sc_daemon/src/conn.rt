@@ -4,7 +4,7 @@ ghost use Rattle.sc_action.specs.Serves.{Serves};
 ghost use Rattle.sc_conn.specs.Ends.{end_of};
 ghost use Rattle.sc_daemon.specs.Lines.{IsDone, conn_of, new_line};
 ghost use Rattle.sc_daemon.specs.Standings.{Rests, standing_of};
-ghost use Rattle.sc_daemon.specs.Turns.{ActsFirst_or_none, CountsFirst, CountsLine, IsIdleLine, MovesFirst, MovesHold, Reads, ServesLine, TakesMore};
+ghost use Rattle.sc_daemon.specs.Turns.{ActsFirst_or_none, CountsFirst, CountsLine, IsIdleLine, MovesFirst, MovesHold, Reads, SaysFirst, SaysLine, ServesLine, TakesMore};
 ghost use Rattle.sc_daemon.specs.declared.standing.Standing.TheVariants.{Ended, Takes};
 ghost use Rattle.sc_job.specs.Setups.{setup};
 ghost use Rattle.sc_model.specs.Machine.{current, long_after, need_at, outcome_after, settle};
@@ -20,7 +20,7 @@ use sc_entry::{ByteText, NoMemory};
 use sc_hold::Hold;
 use sc_job::count_event;
 use sc_model::{Phase, What};
-use sc_stats::ServerStats;
+use sc_stats::{LevelStats, ServerStats};
 use std::alloc::Global;
 use std::marker::Model;
 
@@ -227,17 +227,19 @@ impl Conn {
         }
     }
 
-    /// Does the action that is due of the first request, and counts it.
+    /// Does the action that is due of the first request, and counts it. `levels` is what was counted of each level.
     fn act_first<H: Hold>(
         &mut self,
         alloc: Global,
         hold: &mut H,
         stats: &mut ServerStats,
+        levels: &[LevelStats],
     ) -> Result<Option<Acted>, NoMemory>
         requires { Serves (H.config hold.old) self.old.phase (current (conn_of self.old)) }
         ensures acts { IfOk result (λ acted. ActsFirst_or_none (H.config hold.old) (H.moment hold.old) acted self.old self.new) }
         ensures moves { IfOk result (λ acted. MovesFirst H.moves (need_at (setup (H.config hold.old)) (current (conn_of self.old)) self.old.phase) acted hold.old hold.new) }
         ensures same { IfOk result (λ _. H.config hold.new ≡ H.config hold.old) }
+        ensures says { IfOk result (λ acted. SaysFirst (H.config hold.old).policy stats.old levels.now acted) }
         ensures counts { IfOk result (λ acted. CountsFirst (H.config hold.old) (H.moment hold.old) acted self.old stats.old stats.new) }
     {
         let Some(request) = self.waiting.first() else {
@@ -245,23 +247,26 @@ impl Conn {
         };
         let now = hold.now();
         let phase = std::mem::replace(&mut self.phase, Phase::AtOver);
-        let acted = act(alloc, hold, request, phase, &mut self.out)?;
+        let acted = act(alloc, hold, stats, levels, request, phase, &mut self.out)?;
         let counted = count_event(alloc, stats, request, self.outcome, now, &acted.what);
         if_counted(counted, acted)
     }
 
-    /// Does the action that is due of the served request, where one is, and counts it: its event.
+    /// Does the action that is due of the served request, where one is, and counts it: its event. `levels` is what was
+    /// counted of each level.
     pub fn serve<H: Hold>(
         &mut self,
         alloc: Global,
         hold: &mut H,
         stats: &mut ServerStats,
+        levels: &[LevelStats],
         free: u64,
     ) -> Result<Option<What>, NoMemory>
         requires { Rests (H.config hold.old) self.old.phase self.old.waiting }
         ensures serves { IfOk result (λ what. ServesLine (H.config hold.old) (H.moment hold.old) free what self.old self.new) }
         ensures moves { IfOk result (λ what. MovesHold H.moves (need_at (setup (H.config hold.old)) (current (conn_of self.old)) self.old.phase) what hold.old hold.new) }
         ensures same { IfOk result (λ _. H.config hold.new ≡ H.config hold.old) }
+        ensures says { IfOk result (λ what. SaysLine (H.config hold.old).policy stats.old levels.now what) }
         ensures counts { IfOk result (λ what. CountsLine (H.config hold.old) (H.moment hold.old) what self.old stats.old stats.new) }
         ensures rests { IfOk result (λ _. Rests (H.config hold.old) self.new.phase self.new.waiting) }
     {
@@ -269,7 +274,7 @@ impl Conn {
             return Ok(None);
         }
         let now = hold.now();
-        let Some(acted) = self.act_first(alloc, hold, stats)? else {
+        let Some(acted) = self.act_first(alloc, hold, stats, levels)? else {
             return Ok(None);
         };
         let Acted { what, phase } = acted;

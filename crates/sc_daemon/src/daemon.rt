@@ -1,7 +1,7 @@
 //! A daemon: its state, what it counted, and its tokens.
 ghost use Rattle.std.specs.Prelude.{◌≡◌, ◌↔◌, ◌+◌, ◌<◌, ◌≤◌, ◌^◌, ◌++◌, IsTrue, IfOk, IsOk, OnOk, length};
 ghost use Rattle.sc_daemon.specs.Backlogs.{ArePending, IsPending};
-ghost use Rattle.sc_daemon.specs.Daemons.{BacksEvent, DoesPending, IsIdleDaemon, ReadsEvent, ServesEvent, WritesHanded, anew, kept_after, new_daemon, no_levels, passed};
+ghost use Rattle.sc_daemon.specs.Daemons.{BacksEvent, DoesPending, IsIdleDaemon, ReadsEvent, ServesEvent, WritesHanded, anew, kept_after, new_daemon, passed};
 ghost use Rattle.sc_daemon.specs.Standings.{Rests};
 ghost use Rattle.sc_job.specs.LevelRows.{origin_of};
 ghost use Rattle.sc_model.specs.Machine as machine;
@@ -84,25 +84,13 @@ fn if_kept(kept: Result<(), NoMemory>, event: Event) -> Result<Event, NoMemory>
     }
 }
 
-/// So many levels of which nothing is counted.
-#[tactic(auto, using(crate::proofs::Beginning::levels_more))]
-fn new_levels(alloc: Global, count: usize) -> Result<Vec<LevelStats>, NoMemory>
-    ensures { IfOk result (λ levels. levels.items ≡ no_levels count) }
-{
-    let mut levels = Vec::new(alloc);
-    for _ in 0..count {
-        levels.push(LevelStats::new(alloc))?;
-    }
-    Ok(levels)
-}
-
 impl<P: Parts> Daemon<P> {
     /// A daemon that has counted nothing yet, whose tokens are all free, and which handed no write on.
     pub fn new(alloc: Global, owned: Owned<P>) -> Result<Daemon<P>, NoMemory>
         ensures { IfOk result (λ daemon. daemon ≡ new_daemon owned) }
     {
         let free = owned.tokens();
-        let levels = new_levels(alloc, owned.levels().len())?;
+        let levels = owned.new_counters(alloc)?;
         Ok(Daemon {
             owned,
             stats: ServerStats::new(alloc),
@@ -289,7 +277,13 @@ impl<P: Parts> Daemon<P> {
         let moment = self.now();
         let at = conn.at();
         let last = conn.last();
-        match conn.serve(alloc, &mut self.owned, &mut self.stats, self.free)? {
+        match conn.serve(
+            alloc,
+            &mut self.owned,
+            &mut self.stats,
+            &self.levels,
+            self.free,
+        )? {
             None => Ok(self.event(What::Idle)),
             Some(what) => {
                 let kept = self.keep(alloc, last, moment, &what);

@@ -1,22 +1,24 @@
-ghost use Rattle.std.specs.Prelude.{◌≡◌, ◌≢◌, ◌<◌, ℕ, Bool, false, length, IfOk, List};
+ghost use Rattle.std.specs.Prelude.{◌≡◌, ◌≢◌, ◌<◌, ◌&&◌, ℕ, Bool, false, not, [], length, IfOk, List, Option};
 ghost use Rattle.sc_compile.specs.Tools.{reading};
 ghost use Rattle.sc_model.specs.There.{AreLevels};
 ghost use Rattle.sc_hold.specs.Quiet.{IsQuiet};
 ghost use Rattle.sc_entry.specs.Causes.{IfTold};
 ghost use Rattle.sc_job.specs.Setups.{Config, setup};
 ghost use Rattle.sc_model.specs.Collected.{GoodAnswer};
-ghost use Rattle.sc_model.specs.Follows.{kind_at};
-ghost use Rattle.sc_model.specs.Plan.{backfills, handed_by, plan, put_answer};
+ghost use Rattle.sc_model.specs.Follows.{all_read_only, kind_at, mode_of};
+ghost use Rattle.sc_model.specs.Plan.{backfills, handed_by, is_none, plan, put_answer};
 ghost use Rattle.sc_model.specs.Script.{is_single};
 ghost use Rattle.sc_model.specs.World.{Need, keys_of};
 ghost use Rattle.sc_model.specs.declared.event.KeyStep.TheVariants.{Key};
 ghost use Rattle.sc_model.specs.declared.event.What.{What};
 ghost use Rattle.sc_model.specs.declared.event.What.TheVariants.{Asked as AskedEvent, Keyed, Placed, Ran, Wrote};
-ghost use Rattle.sc_model.specs.declared.event.Mode.TheVariants.{Path, Whole};
+ghost use Rattle.sc_model.specs.declared.event.Answer.TheVariants.{Size as SizeIs};
+ghost use Rattle.sc_model.specs.declared.event.Mode.TheVariants.{Path, Size as SizeMode, Whole};
+ghost use Rattle.sc_stats.specs.declared.counters.LevelStats.{LevelStats};
 ghost use Rattle.sc_model.specs.declared.level.LevelKind.TheVariants.{Remote};
 ghost use Rattle.sc_model.specs.declared.message.Request.TheVariants.{Compile as CompileOf};
 
-use sc_entry::{ByteText, FileObjectSource, Items, NoMemory, Queue, Text};
+use sc_entry::{ByteText, CacheMode, FileObjectSource, Items, NoMemory, Queue, Text};
 use sc_model::{
     Answer, Bytes, Compile, Handed, KeyFound, Mode, Parsed, Placing, Put, Refusal, RunAnswer,
     Written,
@@ -62,6 +64,22 @@ pub trait Hold {
     fn is_single(&self) -> bool
         ensures { result ≡ is_single (config self.now).policy };
 
+    /// Where its store is, in words.
+    fn location(&self, alloc: Global) -> Result<Text, NoMemory>
+        ensures { IfOk result (λ text. text ≡ (config self.now).store.location) };
+
+    /// What type its store has, in a word.
+    fn cache_type_name(&self) -> &str
+        ensures { result.now ≡ (config self.now).store.type_name };
+
+    /// The most bytes that its store may take, where that is known.
+    fn max_size(&self) -> Option<u64>
+        ensures { result ≡ (config self.now).store.max_size };
+
+    /// The mode of its store: read-only where there are levels and each is.
+    fn cache_mode(&self) -> CacheMode
+        ensures { result ≡ mode_of (not (is_none (config self.now).levels) && all_read_only (config self.now).levels) };
+
     /// The levels that are written before an answer.
     fn plan(&self, alloc: Global) -> Result<Queue<u64>, NoMemory>
         ensures { IfOk result (λ levels. levels ≡ plan (config self.now).policy (config self.now).levels) };
@@ -87,6 +105,13 @@ pub trait Hold {
         ensures moves { IfOk result (λ lookup. (n : Need) → moves self.old n (AskedEvent level key.now mode lookup.answer lookup.handed) self.new) }
         ensures handed { IfOk result (λ lookup. lookup.handed ≡ backfills (config self.old).policy (config self.old).levels level key.now mode lookup.answer) }
         ensures same { IfOk result (λ lookup. config self.new ≡ config self.old) };
+
+    /// The bytes that a level holds and has reserved, where that is known. Whatever was counted at the level may be told
+    /// beside it.
+    fn size(&mut self, alloc: Global, level: u64) -> Result<Option<u64>, NoMemory>
+        requires { level < length (config self.old).levels }
+        ensures moves { IfOk result (λ size. (n : Need) (counters : Option LevelStats) → moves self.old n (AskedEvent level [] SizeMode (SizeIs size counters) []) self.new) }
+        ensures same { IfOk result (λ _. config self.new ≡ config self.old) };
 
     /// Places a hit's outputs.
     fn place(

@@ -8,11 +8,20 @@ use Rattle.sc_entry.specs.Entries.{entry, objects}
 use Rattle.sc_model.specs.Script.{Codec, Setup}
 use Rattle.sc_model.specs.declared.level.LevelFacts.{LevelFacts}
 use Rattle.sc_model.specs.declared.level.Policy.{Policy}
+use Rattle.sc_stats.specs.declared.counters.LevelStats.{LevelStats}
 use Rattle.sc_wire.specs.Responses.{payload}
 
--- what a daemon is made of, as plain data: its levels, the tools that its probe finds and the lines that its workshop
--- answers by, where these are told
+-- what a store tells of itself: where it is, what type it has, and the most that it may take, where that is known
+pub record StoreTold : Type 0 where
+  pub location : List ℕ
+  pub type_name : List ℕ
+  pub max_size : Option ℕ
+
+-- what a daemon is made of, as plain data: what its store tells of itself, the counters that its levels begin with, its
+-- levels, the tools that its probe finds and the lines that its workshop answers by, where these are told
 pub record Config : Type 0 where
+  pub store : StoreTold
+  pub counters : List LevelStats
   pub levels : List LevelFacts
   pub policy : Policy
   pub tokens : ℕ
@@ -24,14 +33,15 @@ pub record Config : Type 0 where
 abbrev pub real_codec : Codec
 real_codec = record { payload = payload; entry = entry; objects = objects }
 
--- A daemon over plain compilers, without a distributed client.
+-- A daemon over plain compilers, without a distributed client. Its store has no base directories, and uses no entries of
+-- the preprocessor.
 abbrev pub setup : Config → Setup
 setup c = record {
   codec = real_codec;
   compilers = plain_compilers c.table;
   scheduler = record { url = None; retry_text = λ n. [] };
   workshop = told_answer c.lines;
-  store = record { location = []; type_name = []; basedirs = []; basedir_texts = []; flag = false; max_size = None };
+  store = record { location = c.store.location; type_name = c.store.type_name; basedirs = []; basedir_texts = []; flag = false; max_size = c.store.max_size };
   levels = c.levels;
   policy = c.policy;
   tokens = c.tokens;

@@ -9,7 +9,7 @@ use Rattle.sc_model.specs.declared.level.Container.TheVariants.{Disabled}
 use Rattle.sc_script.specs.declared.level_rule.LevelRule.{LevelRule}
 use Rattle.sc_script.specs.declared.run_rule.RunRule.{RunRule}
 use Rattle.sc_script.specs.declared.script.Script.{Script}
-use Rattle.sc_store.specs.Held.{Held, HeldLevel, held_of, held_remote}
+use Rattle.sc_store.specs.Held.{Held, HeldLevel, held_of, held_remote, memory_names}
 use Rattle.sc_store.specs.Paths.{put_all}
 
 -- what is held under keys, at the paths of the keys
@@ -35,7 +35,7 @@ AreLines (Some lines) runs = told_lines lines ≡ told_runs runs
 
 -- a remote level, as a script says it
 abbrev pub first_held : LevelRule → HeldLevel
-first_held rule = held_remote rule.mode (Some (first_files rule.holds)) 0 0 (Some (calls_failing rule.fails))
+first_held rule = held_remote memory_names rule.mode (Some (first_files rule.holds)) 0 0 (Some (calls_failing rule.fails))
 
 abbrev pub held_first : List LevelRule → List HeldLevel
 held_first rules = map first_held rules

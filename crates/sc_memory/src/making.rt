@@ -5,7 +5,9 @@ ghost use Rattle.sc_memory.specs.Making.{AreLines, first_files, first_held, firs
 ghost use Rattle.sc_script.specs.Goods.{IsGood, are_good_levels, are_good_runs, are_store_keys};
 ghost use Rattle.sc_model.specs.Devices.{calls_failing};
 ghost use Rattle.sc_store.specs.Devices.{calls_of};
+ghost use Rattle.sc_owned.specs.State.{store_of};
 ghost use Rattle.sc_store.specs.Levels.{held_level};
+ghost use Rattle.sc_store.specs.Telling.{new_counters};
 
 use crate::memory::Memory;
 use sc_compile::{RunLine, ScriptWorkshop, ToolTable};
@@ -107,6 +109,8 @@ fn shop(alloc: Global, runs: Items<RunRule>) -> Result<ScriptWorkshop, NoMemory>
 /// and the steps. Every script that is read is good.
 pub fn make(alloc: Global, script: Script) -> Result<Made, NoMemory>
     requires good { IsGood script }
+    ensures store { IfOk result (λ made. made.owned.config.store ≡ store_of (first_levels script)) }
+    ensures counters { IfOk result (λ made. made.owned.config.counters ≡ new_counters 0 (first_levels script).titles) }
     ensures levels { IfOk result (λ made. made.owned.config.levels ≡ (first_levels script).facts) }
     ensures policy { IfOk result (λ made. made.owned.config.policy ≡ script.policy) }
     ensures tokens { IfOk result (λ made. made.owned.config.tokens ≡ script.tokens) }

@@ -1,13 +1,14 @@
 -- How a state moves by what its parts did.
-use Rattle.std.proofs.Common.{◌≡◌, ◌≢◌, ℕ, ◌≤◌, Bool, true, IsTrue, List, Option, Some, None, refl, ap, sym, subst, option_map}
+use Rattle.std.proofs.Common.{◌≡◌, ◌≢◌, ℕ, ◌≤◌, Bool, true, IsTrue, List, [], Option, Some, None, refl, ap, sym, subst, option_map}
 use Rattle.sc_compile.specs.Answers.{Runs, told_answer}
 use Rattle.sc_compile.specs.Placings.{Places}
 use Rattle.sc_entry.specs.Causes.{IfTold}
 use Rattle.sc_entry.specs.Entries.{objects}
 use Rattle.sc_entry.specs.declared.object.FileObjectSource.{FileObjectSource}
 use Rattle.sc_model.specs.Follows.{kind_at}
-use Rattle.sc_model.specs.World.{Moves, Need, Place, RunCause, World, and_one, first_missing}
+use Rattle.sc_model.specs.World.{Level, Moves, Opens_by, Need, Place, RunCause, World, and_one, first_missing}
 use Rattle.sc_model.specs.declared.event.Answer.{Answer}
+use Rattle.sc_model.specs.declared.event.Answer.TheVariants.{Size as SizeIs}
 use Rattle.sc_model.specs.declared.event.Mode.{Mode}
 use Rattle.sc_model.specs.declared.event.Mode.TheVariants.{Path, Pre, Raw, Size, Whole}
 use Rattle.sc_model.specs.declared.event.RunAnswer.{RunAnswer}
@@ -17,12 +18,13 @@ use Rattle.sc_model.specs.declared.event.What.TheVariants.{Asked, Placed, Ran, W
 use Rattle.sc_model.specs.declared.event.Written.{Written}
 use Rattle.sc_model.specs.declared.level.Handed.{Handed}
 use Rattle.sc_model.specs.declared.level.LevelKind.{LevelKind}
-use Rattle.sc_model.specs.declared.level.LevelKind.TheVariants.{Remote}
+use Rattle.sc_model.specs.declared.level.LevelKind.TheVariants.{Disk, Remote}
 use Rattle.sc_owned.specs.Laws.{remote_levels}
-use Rattle.sc_owned.specs.Moving.{placing_of}
+use Rattle.sc_owned.specs.Moving.{placing_of, size_in}
 use Rattle.sc_owned.specs.State.{State}
 use Rattle.sc_store.specs.Asking.{AsksAt, PutsAt, has_mode}
-use Rattle.sc_store.specs.Held.{Held}
+use Rattle.sc_stats.specs.declared.counters.LevelStats.{LevelStats}
+use Rattle.sc_store.specs.Held.{Held, level_in}
 
 no_path : (mode : Mode) → mode ≢ Path → IsTrue (has_mode Remote mode)
 no_path Whole h = refl
@@ -37,7 +39,7 @@ MovesTo o n x told w = (told ≡ o.told) × (o.told ≡ true → Moves (setup o.
 
 -- what the levels of a state hold
 abbrev pub held_in : State → Held
-held_in o = record { facts = o.config.levels; policy = o.config.policy; told = o.told; levels = o.world.levels }
+held_in o = record { titles = []; facts = o.config.levels; policy = o.config.policy; told = o.told; levels = o.world.levels }
 
 asked_of : (o : State) (after : Held) (l : ℕ) (key : List ℕ) (mode : Mode) (a : Answer) (hs : List Handed) (n : Need) → mode ≢ Path → after.told ≡ o.told → AsksAt l key mode a (held_in o) after
     → MovesTo o n (Asked l key mode a hs) after.told (record o.world { levels = after.levels })
@@ -54,6 +56,33 @@ pub asked : (o now : State) (after : Held) (l : ℕ) (key : List ℕ) (mode : Mo
     → MovesTo now n (Asked l key mode a hs) after.told (record o.world { levels = after.levels })
 asked o now after l key mode a hs n is path same asks =
     subst (λ (s : State). MovesTo s n (Asked l key mode a hs) after.told (record o.world { levels = after.levels })) is (asked_of o after l key mode a hs n path same asks)
+
+-- a level that was asked for its size may tell whatever was counted
+opens_any : (kind : LevelKind) (z : Option ℕ) (c d : Option LevelStats) (v w : Level) → Opens_by kind Size (SizeIs z c) v w → Opens_by kind Size (SizeIs z d) v w
+opens_any Disk z c d v w h = h
+opens_any Remote z c d v w h = h
+
+sized_of : (o : State) (after : Held) (l : ℕ) (a : Answer) (d : Option LevelStats) (n : Need) → after.told ≡ o.told → a ≡ SizeIs None None → AsksAt l [] Size a (held_in o) after
+    → MovesTo o n (Asked l [] Size (SizeIs (size_in a) d) []) after.told (record o.world { levels = after.levels })
+sized_of o after l a d n same is asks =
+    rw is (
+      same,
+      λ told.
+          let has : IsTrue (has_mode (kind_at o.config.levels l) Size) = subst (λ (k : LevelKind). IsTrue (has_mode k Size)) (sym (remote_levels o l)) refl in
+          let h = subst (λ (x : Answer). AsksAt l [] Size x (held_in o) after) is asks told has 0 in
+          let e = h.1 in (
+            h.0,
+            record { later = e.later; keeps = e.keeps; answers = e.answers; opens = opens_any (kind_at o.config.levels l) None None d (level_in o.world.levels l) h.0 e.opens },
+            ap (λ ls. record o.world { levels = ls }) h.2,
+          ),
+    )
+
+-- a level was asked for its size
+pub sized : (o now : State) (after : Held) (l : ℕ) (key : List ℕ) (a : Answer) (d : Option LevelStats) (n : Need) → o ≡ now → key ≡ [] → after.told ≡ o.told → a ≡ SizeIs None None → AsksAt l key Size a (held_in o) after
+    → MovesTo now n (Asked l [] Size (SizeIs (size_in a) d) []) after.told (record o.world { levels = after.levels })
+sized o now after l key a d n is none same at asks =
+    subst (λ (s : State). MovesTo s n (Asked l [] Size (SizeIs (size_in a) d) []) after.told (record o.world { levels = after.levels })) is
+    (sized_of o after l a d n same at (subst (λ (k : List ℕ). AsksAt l k Size a (held_in o) after) none asks))
 
 wrote_of : (o : State) (after : Held) (l : ℕ) (key bytes : List ℕ) (run : Bool) (how : Written) (n : Need) → after.told ≡ o.told → PutsAt l key bytes how (held_in o) after
     → MovesTo o n (Wrote l key bytes Whole run how) after.told (record o.world { levels = after.levels })

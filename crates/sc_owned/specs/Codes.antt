@@ -1,5 +1,5 @@
 -- Codes, by which proofs tell states apart.
-use Rattle.std.specs.Prelude.{◌≡◌, ℕ, Bool, true, ◌&&◌, List, Option, refl}
+use Rattle.std.specs.Prelude.{◌≡◌, ℕ, Bool, true, List, Option, refl}
 use Rattle.std.proofs.Common.{ap}
 use Rattle.std.specs.Coded.{Coded, Coded-set, code_by, coded×, coded_bool, coded_ℕ, coded_list, coded_option}
 use Rattle.sc_compile.specs.contracts.run_line.RunLine as line_type
@@ -8,7 +8,7 @@ use Rattle.sc_compile.specs.declared.run_line.RunLine.{RunLine}
 use Rattle.sc_compile.specs.declared.tool.Tool.{Tool}
 use Rattle.sc_entry.specs.contracts.object.FileObjectSource as output_type
 use Rattle.sc_entry.specs.declared.object.FileObjectSource.{FileObjectSource}
-use Rattle.sc_job.specs.Setups.{Config}
+use Rattle.sc_job.specs.Setups.{Config, StoreTold}
 use Rattle.sc_model.specs.World.{Level, Place, World}
 use Rattle.sc_model.specs.contracts.event.RunAnswer as answer_type
 use Rattle.sc_model.specs.contracts.level.Container as container_type
@@ -18,17 +18,26 @@ use Rattle.sc_model.specs.declared.event.RunAnswer.{RunAnswer}
 use Rattle.sc_model.specs.declared.level.Container.{Container}
 use Rattle.sc_model.specs.declared.level.LevelFacts.{LevelFacts}
 use Rattle.sc_model.specs.declared.level.Policy.{Policy}
-use Rattle.sc_owned.specs.State.{State, is_good, is_within}
+use Rattle.sc_owned.specs.State.{State, is_made}
+use Rattle.sc_stats.specs.contracts.counters.LevelStats as counters_type
+use Rattle.sc_stats.specs.declared.counters.LevelStats.{LevelStats}
 use Rattle.sc_store.specs.Held.{level_code}
 use base.Stored.{coded_via}
 use mathlib.Core.HLevel.{Σ_prop_path}
 
+abbrev pub told_code : Coded StoreTold
+told_code = code_by (List ℕ × (List ℕ × Option ℕ))
+    (coded× (coded_list coded_ℕ) (coded× (coded_list coded_ℕ) (coded_option coded_ℕ)))
+    (λ s. (s.location, (s.type_name, s.max_size)))
+    (λ p. record { location = p.0; type_name = p.1.0; max_size = p.1.1 })
+    (λ _. refl)
+
 abbrev pub config_code : Coded Config
-config_code = code_by (List LevelFacts × (Policy × (ℕ × (ℕ × (Option (List Tool) × Option (List RunLine))))))
-    (coded× (coded_list facts_type.the_row.coded) (coded× policy_type.the_row.coded (coded× coded_ℕ (coded× coded_ℕ
-    (coded× (coded_option (coded_list tool_type.the_row.coded)) (coded_option (coded_list line_type.the_row.coded)))))))
-    (λ c. (c.levels, (c.policy, (c.tokens, (c.limit, (c.table, c.lines))))))
-    (λ p. record { levels = p.0; policy = p.1.0; tokens = p.1.1.0; limit = p.1.1.1.0; table = p.1.1.1.1.0; lines = p.1.1.1.1.1 })
+config_code = code_by (StoreTold × (List LevelStats × (List LevelFacts × (Policy × (ℕ × (ℕ × (Option (List Tool) × Option (List RunLine))))))))
+    (coded× told_code (coded× (coded_list counters_type.the_row.coded) (coded× (coded_list facts_type.the_row.coded) (coded× policy_type.the_row.coded (coded× coded_ℕ (coded× coded_ℕ
+    (coded× (coded_option (coded_list tool_type.the_row.coded)) (coded_option (coded_list line_type.the_row.coded)))))))))
+    (λ c. (c.store, (c.counters, (c.levels, (c.policy, (c.tokens, (c.limit, (c.table, c.lines))))))))
+    (λ p. record { store = p.0; counters = p.1.0; levels = p.1.1.0; policy = p.1.1.1.0; tokens = p.1.1.1.1.0; limit = p.1.1.1.1.1.0; table = p.1.1.1.1.1.1.0; lines = p.1.1.1.1.1.1.1 })
     (λ _. refl)
 
 abbrev pub place_code : Coded Place
@@ -49,7 +58,7 @@ world_code = code_by (ℕ × (List Level × (Option (List (List ℕ × RunAnswer
 -- states that are made of the same and hold the same are one
 pub same_state : (a b : State) → ◌≡◌ {A = Config × (Bool × World)} (a.config, (a.told, a.world)) (b.config, (b.told, b.world)) → a ≡ b
 same_state a b same =
-    let configs : ◌≡◌ {A = (c : Config) × ((is_good c.policy c.levels && is_within c.tokens c.limit) ≡ true)} (a.config, a.one) (b.config, b.one) = Σ_prop_path (λ c. Coded-set coded_bool _ _) (ap (λ p. p.0) same) in
+    let configs : ◌≡◌ {A = (c : Config) × (is_made c.policy c.levels c.counters c.tokens c.limit ≡ true)} (a.config, a.one) (b.config, b.one) = Σ_prop_path (λ c. Coded-set coded_bool _ _) (ap (λ p. p.0) same) in
     λ i. record { config = (configs i).0; told = (same i).1.0; world = (same i).1.1; one = (configs i).1 }
 
 abbrev pub state_code : Coded State

@@ -1,6 +1,6 @@
 -- What holds of every state.
-use Rattle.std.specs.Prelude.{◌≡◌, ℕ, zero, suc, ◌<◌, Bool, ◌&&◌, true, false, T, List, [], ◌∷◌, length, refl}
-use Rattle.std.proofs.Common.{arith, sym, subst}
+use Rattle.std.specs.Prelude.{◌≡◌, ℕ, zero, suc, ◌<◌, Bool, ◌&&◌, ◌==◌, true, false, T, List, [], ◌∷◌, length, refl}
+use Rattle.std.proofs.Common.{arith, eqb-true, sym, subst}
 use Rattle.sc_model.specs.There.{AreLevels}
 use Rattle.sc_hold.specs.Quiet.{IsQuiet}
 use Rattle.sc_model.specs.Follows.{kind_at}
@@ -49,12 +49,19 @@ one_count : (policy : Policy) (n : ℕ) → is_count policy n ≡ true → is_si
 one_count Single n e is = only_one n e
 one_count (Levels ps) n e is = absurd (never is)
 
+limits_of : (o : State) → (is_good o.config.policy o.config.levels && is_within o.config.tokens o.config.limit) ≡ true
+limits_of o = left_true (is_good o.config.policy o.config.levels && is_within o.config.tokens o.config.limit) (length o.config.counters == length o.config.levels) o.one
+
 good_of : (o : State) → is_good o.config.policy o.config.levels ≡ true
-good_of o = left_true (is_good o.config.policy o.config.levels) (is_within o.config.tokens o.config.limit) o.one
+good_of o = left_true (is_good o.config.policy o.config.levels) (is_within o.config.tokens o.config.limit) (limits_of o)
+
+-- each level has its counters
+pub counters_of : (o : State) → length o.config.counters ≡ length o.config.levels
+counters_of o = eqb-true (length o.config.counters) (length o.config.levels) (right_true (is_good o.config.policy o.config.levels && is_within o.config.tokens o.config.limit) (length o.config.counters == length o.config.levels) o.one)
 
 -- its tokens and its limit are within the limits
 pub within_limits : (o : State) → is_within o.config.tokens o.config.limit ≡ true
-within_limits o = right_true (is_good o.config.policy o.config.levels) (is_within o.config.tokens o.config.limit) o.one
+within_limits o = right_true (is_good o.config.policy o.config.levels) (is_within o.config.tokens o.config.limit) (limits_of o)
 
 -- every level is a remote store
 pub remote_levels : (o : State) (l : ℕ) → kind_at o.config.levels l ≡ Remote

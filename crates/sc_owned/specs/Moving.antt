@@ -2,6 +2,8 @@
 use Rattle.std.specs.Prelude.{◌≡◌, ℕ, true, List, Option, Some, None}
 use Rattle.sc_job.specs.Setups.{setup}
 use Rattle.sc_model.specs.World.{Moves, Need}
+use Rattle.sc_model.specs.declared.event.Answer.{Answer}
+use Rattle.sc_model.specs.declared.event.Answer.TheVariants.{Size as SizeIs}
 use Rattle.sc_model.specs.declared.event.Placing.{Placing}
 use Rattle.sc_model.specs.declared.event.Placing.TheVariants.{Done, Fault}
 use Rattle.sc_model.specs.declared.event.What.{What}
@@ -16,3 +18,8 @@ OwnedMoves old n x new = (new.told ≡ old.told) × (old.told ≡ true → Moves
 abbrev pub placing_of : Option (List (List ℕ)) → Placing
 placing_of None = Done
 placing_of (Some chain) = Fault chain
+
+-- the size that an answer tells
+abbrev pub size_in : Answer → Option ℕ
+size_in (SizeIs size counters) = size
+size_in _ = None

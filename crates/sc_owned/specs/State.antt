@@ -1,9 +1,9 @@
 -- The state of a daemon that one owner holds.
-use Rattle.std.specs.Prelude.{◌≡◌, ℕ, zero, suc, Bool, true, false, ◌&&◌, nat_lt, List, [], ◌∷◌, length, Option}
+use Rattle.std.specs.Prelude.{◌≡◌, ℕ, zero, suc, Bool, true, false, ◌&&◌, ◌==◌, nat_lt, List, [], ◌∷◌, length, Option}
 use Rattle.sc_compile.specs.Answers.{Runs}
 use Rattle.sc_compile.specs.declared.run_line.RunLine.{RunLine}
 use Rattle.sc_compile.specs.declared.tool.Tool.{Tool}
-use Rattle.sc_job.specs.Setups.{Config}
+use Rattle.sc_job.specs.Setups.{Config, StoreTold}
 use Rattle.sc_model.specs.World.{Place, World}
 use Rattle.sc_model.specs.declared.level.Container.TheVariants.{Disabled}
 use Rattle.sc_model.specs.declared.level.LevelFacts.{LevelFacts}
@@ -11,7 +11,9 @@ use Rattle.sc_model.specs.declared.level.LevelKind.{LevelKind}
 use Rattle.sc_model.specs.declared.level.LevelKind.TheVariants.{Disk, Remote}
 use Rattle.sc_model.specs.declared.level.Policy.{Policy}
 use Rattle.sc_model.specs.declared.level.Policy.TheVariants.{Levels, Single}
+use Rattle.sc_stats.specs.declared.counters.LevelStats.{LevelStats}
 use Rattle.sc_store.specs.Held.{Held}
+use Rattle.sc_store.specs.Telling.{new_counters, store_location, store_max, store_type}
 
 abbrev pub is_remote : LevelKind → Bool
 is_remote Disk = false
@@ -39,16 +41,24 @@ is_good policy fs = are_remote fs && is_count policy (length fs)
 abbrev pub is_within : ℕ → ℕ → Bool
 is_within tokens limit = (nat_lt 0 tokens && nat_lt tokens 65536) && (nat_lt 0 limit && nat_lt limit 16777217)
 
+-- what a daemon may be made of: such levels, each with its counters, and such limits
+abbrev pub is_made : Policy → List LevelFacts → List LevelStats → (tokens limit : ℕ) → Bool
+is_made policy fs counters tokens limit = (is_good policy fs && is_within tokens limit) && (length counters == length fs)
+
 -- What a daemon is made of, whether its levels tell what they hold, and what its parts hold where they tell it.
 pub record State : Type 0 where
   pub config : Config
   pub told : Bool
   pub world : World
-  pub one : (is_good config.policy config.levels && is_within config.tokens config.limit) ≡ true
+  pub one : is_made config.policy config.levels config.counters config.tokens config.limit ≡ true
+
+-- what the store of these levels tells of itself
+abbrev pub store_of : Held → StoreTold
+store_of held = record { location = store_location held.policy held.titles; type_name = store_type held.policy held.titles; max_size = store_max held.policy held.facts }
 
 -- what a daemon over these levels is made of
 abbrev pub config_of : Held → (tokens limit : ℕ) → Option (List Tool) → Option (List RunLine) → Config
-config_of held tokens limit table lines = record { levels = held.facts; policy = held.policy; tokens = tokens; limit = limit; table = table; lines = lines }
+config_of held tokens limit table lines = record { store = store_of held; counters = new_counters 0 held.titles; levels = held.facts; policy = held.policy; tokens = tokens; limit = limit; table = table; lines = lines }
 
 -- what its parts hold: it has no distributed client
 abbrev pub world_of : (moment : ℕ) → Held → (runs : Option Runs) (placings : Option (List Place)) (faults : ℕ) → World

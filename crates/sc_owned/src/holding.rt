@@ -1,14 +1,16 @@
 //! One action of a request, at a daemon of one's own.
 ghost use Rattle.std.specs.Prelude.{◌≡◌};
-ghost use Rattle.sc_owned.specs.Moving.{placing_of};
+ghost use Rattle.sc_owned.specs.Moving.{placing_of, size_in};
 
 use crate::missing::first_missing;
 use crate::owned::Owned;
 use crate::parts::Parts;
 use sc_compile::{PlainCompiler, Workshop, begin};
-use sc_entry::{ByteText, FileObjectSource, Items, NoMemory, Queue, Text};
+use sc_entry::{ByteText, CacheMode, FileObjectSource, Items, NoMemory, Queue, Text};
 use sc_hold::{Hold, Lookup, PutEnd};
-use sc_model::{Bytes, Compile, KeyFound, Mode, Parsed, Placing, Refusal, RunAnswer, Written};
+use sc_model::{
+    Answer, Bytes, Compile, KeyFound, Mode, Parsed, Placing, Refusal, RunAnswer, Written,
+};
 use std::alloc::Global;
 
 impl<P: Parts> Hold for Owned<P> {
@@ -48,6 +50,23 @@ impl<P: Parts> Hold for Owned<P> {
         self.levels.is_single()
     }
 
+    fn location(&self, alloc: Global) -> Result<Text, NoMemory> {
+        let text = self.levels.location(alloc)?;
+        Ok(text)
+    }
+
+    fn cache_type_name(&self) -> &str {
+        self.levels.cache_type_name()
+    }
+
+    fn max_size(&self) -> Option<u64> {
+        self.levels.max_size()
+    }
+
+    fn cache_mode(&self) -> CacheMode {
+        self.levels.cache_mode()
+    }
+
     fn put_end(&self, alloc: Global, bytes: &Bytes, refusal: Refusal) -> Result<PutEnd, NoMemory> {
         let handed = self.levels.handed(alloc, bytes, refusal)?;
         let answer = self.levels.put_answer(refusal);
@@ -80,6 +99,13 @@ impl<P: Parts> Hold for Owned<P> {
         let answer = self.levels.ask(alloc, level as usize, key, mode)?;
         let handed = self.levels.backfills(alloc, level, key, mode, &answer)?;
         Ok(Lookup { answer, handed })
+    }
+
+    fn size(&mut self, alloc: Global, level: u64) -> Result<Option<u64>, NoMemory> {
+        let _count = self.levels.len();
+        let none = Text::new(alloc);
+        let answer = self.levels.ask(alloc, level as usize, &none, Mode::Size)?;
+        Ok(size_in(&answer))
     }
 
     fn place(
@@ -115,6 +141,16 @@ impl<P: Parts> Hold for Owned<P> {
             .levels
             .put_step(alloc, level as usize, &bytes.key, &bytes.bytes, bytes.run)?;
         Ok(written)
+    }
+}
+
+/// The size that an answer tells.
+fn size_in(answer: &Answer) -> Option<u64>
+    ensures { result ≡ size_in answer.now }
+{
+    match answer {
+        Answer::Size(size, _) => *size,
+        _ => None,
     }
 }
 

@@ -1,10 +1,14 @@
-ghost use Rattle.std.specs.Prelude.{◌≡◌, ◌≤◌, ◌&&◌, true};
+ghost use Rattle.std.specs.Prelude.{◌≡◌, ◌≤◌, true, IfOk};
 ghost use Rattle.sc_model.specs.Next.{at_moment};
-ghost use Rattle.sc_owned.specs.State.{is_good, is_within, world_of};
+ghost use Rattle.sc_owned.specs.State.{is_good, is_made, store_of, world_of};
 ghost use Rattle.sc_stats.specs.Sums.{sat};
+ghost use Rattle.sc_store.specs.Telling.{new_counters};
 
 use crate::parts::Parts;
+use sc_entry::NoMemory;
+use sc_stats::LevelStats;
 use sc_store::Levels;
+use std::alloc::Global;
 use std::marker::Model;
 
 /// A daemon of one's own. Contracts see what it is made of, whether its levels tell what they hold, and what its parts
@@ -17,7 +21,7 @@ pub struct Owned<P: Parts> {
     pub(crate) moment: u64,
     tokens: u64,
     pub(crate) limit: u32,
-    ghost one: { (is_good levels.policy levels.facts && is_within tokens limit) ≡ true },
+    ghost one: { is_made levels.policy levels.facts (new_counters 0 levels.titles) tokens limit ≡ true },
 }
 
 impl<P: Parts> Model for Owned<P> {
@@ -49,6 +53,8 @@ impl<P: Parts> Owned<P> {
         requires levels { is_good levels.policy levels.facts ≡ true }
         requires tokens { (1 ≤ tokens) × (tokens ≤ 65535) }
         requires limit { (1 ≤ limit) × (limit ≤ 16777216) }
+        ensures store { result.config.store ≡ store_of levels }
+        ensures counters { result.config.counters ≡ new_counters 0 levels.titles }
         ensures levels { result.config.levels ≡ levels.facts }
         ensures policy { result.config.policy ≡ levels.policy }
         ensures tokens { result.config.tokens ≡ tokens }
@@ -58,6 +64,7 @@ impl<P: Parts> Owned<P> {
         ensures told { result.told ≡ levels.told }
         ensures world { result.world ≡ world_of 0 levels (P.Shop.runs shop) (P.Shop.placings shop) (P.Shop.fault_count shop) }
     {
+        let _count = levels.len();
         Owned {
             levels,
             shop,
@@ -83,6 +90,14 @@ impl<P: Parts> Owned<P> {
         ensures levels { result.now.levels ≡ self.now.world.levels }
     {
         &self.levels
+    }
+
+    /// The counters of its levels as they begin: their names and places, and nothing counted.
+    pub fn new_counters(&self, alloc: Global) -> Result<Vec<LevelStats>, NoMemory>
+        ensures { IfOk result (λ counters. counters.items ≡ self.now.config.counters) }
+    {
+        let counters = self.levels.new_counters(alloc)?;
+        Ok(counters)
     }
 
     /// Its workshop.

@@ -9,14 +9,18 @@ use Rattle.sc_memory.specs.Sizes.{sizes_of}
 use Rattle.sc_model.specs.Headline.{Headline}
 use Rattle.sc_model.specs.Machine.{shown_levels}
 use Rattle.sc_model.specs.declared.event.Step.{Step}
+use Rattle.sc_owned.specs.State.{store_of}
 use Rattle.sc_report.specs.Report.{report_of}
 use Rattle.sc_script.specs.Scripts.{first_bad, script_of}
 use Rattle.sc_script.specs.declared.script.Script.{Script}
 use Rattle.sc_script.specs.declared.script.ScriptError.{ScriptError}
 use Rattle.sc_script.specs.declared.script.ScriptError.TheVariants.{Bad, Memory}
+use Rattle.sc_store.specs.Telling.{new_counters}
 
 -- the daemon that a script is for, before its first step
 pub record Begins (s : Script) (d : Kept) : Type 0 where
+  pub store : d.state.config.store ≡ store_of (first_levels s)
+  pub counters : d.state.config.counters ≡ new_counters 0 (first_levels s).titles
   pub levels : d.state.config.levels ≡ (first_levels s).facts
   pub policy : d.state.config.policy ≡ s.policy
   pub tokens : d.state.config.tokens ≡ s.tokens

@@ -8,6 +8,8 @@ mod printing;
 mod running;
 mod scripted;
 #[cfg(test)]
+mod stats_tests;
+#[cfg(test)]
 mod tests;
 
 pub use outside::Outside;

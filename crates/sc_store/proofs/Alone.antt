@@ -15,6 +15,7 @@ use Rattle.sc_store.specs.Held.{Held, HeldLevel, all_tell, held_of, level_in}
 
 -- what a move of one level leaves
 pub record Alone (old new : Held) (l : ℕ) (before after : HeldLevel) : Type 0 where
+  pub titles : new.titles ≡ old.titles
   pub facts : new.facts ≡ old.facts
   pub policy : new.policy ≡ old.policy
   pub told : new.told ≡ old.told
@@ -61,11 +62,12 @@ module _ {S : Type 0} (seen : S → HeldLevel) where
   maps part [] = refl
   maps part (s ∷ ss) = ap (λ xs. part (seen s) ∷ xs) (maps part ss)
 
-  moved_of : (policy : Policy) (stores : List S) (l : ℕ) (store later : S) → l < length stores → store ≡ slice_index_or stores l store → (seen later).facts ≡ (seen store).facts → (seen later).told ≡ (seen store).told
+  moved_of : (policy : Policy) (stores : List S) (l : ℕ) (store later : S) → l < length stores → store ≡ slice_index_or stores l store → (seen later).title ≡ (seen store).title → (seen later).facts ≡ (seen store).facts → (seen later).told ≡ (seen store).told
       → Alone (held_of (map seen stores) policy) (held_of (map seen (slice_set stores l later)) policy) l (seen store) (seen later)
-  moved_of policy stores l store later within is facts told =
+  moved_of policy stores l store later within is title facts told =
       let new = slice_set stores l later in
       record {
+        titles = maps (λ x. x.title) new ∙ stays (λ s. (seen s).title) stores l store later within is title ∙ sym (maps (λ x. x.title) stores);
         facts = maps (λ x. x.facts) new ∙ stays (λ s. (seen s).facts) stores l store later within is facts ∙ sym (maps (λ x. x.facts) stores);
         policy = refl;
         told = tell_stays stores l store later within is told;
@@ -80,19 +82,19 @@ module _ {S : Type 0} (seen : S → HeldLevel) where
   within_stores policy stores l h = rw (maps (λ x. x.level) stores, length-map) at h
 
   -- a store of the list was changed
-  pub moved : (old : Held) (policy : Policy) (stores : List S) (l : ℕ) (store later : S) → held_of (map seen stores) policy ≡ old → l < length old.levels → store ≡ slice_index_or stores l store → (seen later).facts ≡ (seen store).facts → (seen later).told ≡ (seen store).told
+  pub moved : (old : Held) (policy : Policy) (stores : List S) (l : ℕ) (store later : S) → held_of (map seen stores) policy ≡ old → l < length old.levels → store ≡ slice_index_or stores l store → (seen later).title ≡ (seen store).title → (seen later).facts ≡ (seen store).facts → (seen later).told ≡ (seen store).told
       → Alone old (held_of (map seen (slice_set stores l later)) policy) l (seen store) (seen later)
-  moved old policy stores l store later at within is facts told =
+  moved old policy stores l store later at within is title facts told =
       subst (λ (o : Held). l < length o.levels → Alone o (held_of (map seen (slice_set stores l later)) policy) l (seen store) (seen later)) at
-      (λ h. moved_of policy stores l store later (within_stores policy stores l h) is facts told) within
+      (λ h. moved_of policy stores l store later (within_stores policy stores l h) is title facts told) within
 
   -- what stays of a level, read at its store
   pub facts_at : (old : Held) (policy : Policy) (stores : List S) (l : ℕ) (store : S) → held_of (map seen stores) policy ≡ old → l < length old.levels → store ≡ slice_index_or stores l store → level_facts old.facts l ≡ (seen store).facts
-  facts_at old policy stores l store at within is = (moved old policy stores l store store at within is refl refl).facts_were
+  facts_at old policy stores l store at within is = (moved old policy stores l store store at within is refl refl refl).facts_were
 
   -- what is held at a store's place, and whether it tells that
   pub held_at : (old : Held) (policy : Policy) (stores : List S) (l : ℕ) (store : S) → held_of (map seen stores) policy ≡ old → l < length old.levels → store ≡ slice_index_or stores l store → Alone old (held_of (map seen (slice_set stores l store)) policy) l (seen store) (seen store)
-  held_at old policy stores l store at within is = moved old policy stores l store store at within is refl refl
+  held_at old policy stores l store at within is = moved old policy stores l store store at within is refl refl refl
 
   and_true : (a : Bool) → (a && true) ≡ a
   and_true true = refl

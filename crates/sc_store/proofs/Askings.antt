@@ -21,7 +21,7 @@ use Rattle.sc_model.specs.declared.level.Policy.{Policy}
 use Rattle.sc_model.specs.declared.level.Store.TheVariants.{Remote as RemoteStore}
 use Rattle.sc_entry.specs.declared.cache_mode.CacheMode.{CacheMode}
 use Rattle.sc_store.specs.Asking.{hit_of, if_spells, mode_answer, raw_answer, reads_key, whole_answer, written_of}
-use Rattle.sc_store.specs.Held.{HeldLevel, held_remote, remote_facts, remote_level}
+use Rattle.sc_store.specs.Held.{HeldLevel, Names, held_remote, remote_facts, remote_level}
 use Rattle.sc_store.specs.Remotes.{Puts, ReadCause, Reads, WriteCause, Writes}
 use Rattle.sc_store.specs.declared.remote.RemoteRead.{RemoteRead}
 use Rattle.sc_store.specs.declared.remote.RemoteRead.TheVariants.{Found, NotFound, Refused as ReadRefused}
@@ -97,10 +97,10 @@ write_puts (WriteRefused fault) (Some m) (Some n) f f2 l l2 c c2 policy mode key
 write_puts answer (Some m) None f f2 l l2 c c2 policy mode key path bytes free at puts cause told r = absurd puts
 write_puts answer None held2 f f2 l l2 c c2 policy mode key path bytes free at puts cause told r = absurd (cc)
 
-pub write_puts_at : (how : Written) (old : HeldLevel) (answer : RemoteWrite) (held held2 : Option Files) (f f2 l l2 : ℕ) (c c2 : Option Calls) (policy : Policy) (mode : CacheMode) (key path bytes : List ℕ) → how ≡ written_of answer
-    → held_remote mode held f l c ≡ old → early_cause policy (remote_facts mode) key ≡ None → path ≡ normalize_key key → Told (Writes answer l l2 path bytes) held held2 → WriteCause answer f f2 → old.told ≡ true
+pub write_puts_at : (names : Names) (how : Written) (old : HeldLevel) (answer : RemoteWrite) (held held2 : Option Files) (f f2 l l2 : ℕ) (c c2 : Option Calls) (policy : Policy) (mode : CacheMode) (key path bytes : List ℕ) → how ≡ written_of answer
+    → held_remote names mode held f l c ≡ old → early_cause policy (remote_facts mode) key ≡ None → path ≡ normalize_key key → Told (Writes answer l l2 path bytes) held held2 → WriteCause answer f f2 → old.told ≡ true
     → (r : ℕ) → Wrote_at policy old.facts r key bytes Whole how old.level (remote_level held2 f2 l2 c2)
-write_puts_at how old answer held held2 f f2 l l2 c c2 policy mode key path bytes ends is free at puts cause =
+write_puts_at names how old answer held held2 f f2 l l2 c c2 policy mode key path bytes ends is free at puts cause =
     subst (λ (o : HeldLevel). o.told ≡ true → (r : ℕ) → Wrote_at policy o.facts r key bytes Whole how o.level (remote_level held2 f2 l2 c2)) is
     (λ told r. subst (λ (x : Written). Wrote_at policy (remote_facts mode) r key bytes Whole x (remote_level held f l c) (remote_level held2 f2 l2 c2)) (sym ends)
     (write_puts answer held held2 f f2 l l2 c c2 policy mode key path bytes free at puts cause told r))

@@ -1,4 +1,5 @@
 mod Plans
+mod Tellings
 mod Devices
 pub mod PathMaps
 pub mod Spellings

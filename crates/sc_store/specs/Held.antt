@@ -1,5 +1,5 @@
 -- What the stores of a daemon hold, level by level.
-use Rattle.std.specs.Prelude.{ℕ, Bool, true, false, ◌&&◌, List, [], ◌∷◌, map, Option, Some, None, is_some, slice_index_or, refl}
+use Rattle.std.specs.Prelude.{ℕ, Bool, true, false, ◌&&◌, List, [], ◌∷◌, ◌++◌, codes, map, Option, Some, None, is_some, slice_index_or, refl}
 use Rattle.std.specs.Coded.{Coded, code_by, coded×, coded_bool, coded_ℕ, coded_list, coded_option}
 use Rattle.std.specs.FinSet as set
 use Rattle.sc_model.specs.Devices.{Calls, Numbers}
@@ -12,14 +12,35 @@ use Rattle.sc_model.specs.declared.level.Policy.{Policy}
 use Rattle.sc_entry.specs.declared.cache_mode.CacheMode.{CacheMode}
 use Rattle.sc_store.specs.Paths.{files_code}
 
+-- What a store behind a network is called: its kind, its name among those of its kind, and the path that all paths in it
+-- begin at.
+pub record Names : Type 0 where
+  pub scheme : List ℕ
+  pub name : List ℕ
+  pub root : List ℕ
+
+-- How a store is told of: what type it has, and where it is.
+pub record Title : Type 0 where
+  pub type_name : List ℕ
+  pub location : List ℕ
+
+abbrev pub remote_title : Names → Title
+remote_title names = record { type_name = names.scheme; location = names.scheme ++ codes ", name: " ++ names.name ++ codes ", prefix: " ++ names.root }
+
+-- a store in memory
+abbrev pub memory_names : Names
+memory_names = record { scheme = codes "memory"; name = codes "m"; root = codes "/" }
+
 -- One level: what does not change of it, whether it tells what it holds, and what it holds where it tells that.
 pub record HeldLevel : Type 0 where
+  pub title : Title
   pub facts : LevelFacts
   pub told : Bool
   pub level : Level
 
 -- The levels of a daemon in order, its policy, and whether every level tells what it holds.
 pub record Held : Type 0 where
+  pub titles : List Title
   pub facts : List LevelFacts
   pub policy : Policy
   pub told : Bool
@@ -37,15 +58,15 @@ remote_facts mode = record { kind = Remote; wrapped = false; configured = mode; 
 abbrev pub remote_level : Option Files → ℕ → ℕ → Option Calls → Level
 remote_level held faults losses calls = record { faults = faults; losses = losses; calls = calls; opened = false; main = told_files held; pre = no_files }
 
-abbrev pub held_remote : CacheMode → Option Files → ℕ → ℕ → Option Calls → HeldLevel
-held_remote mode held faults losses calls = record { facts = remote_facts mode; told = is_some held; level = remote_level held faults losses calls }
+abbrev pub held_remote : Names → CacheMode → Option Files → ℕ → ℕ → Option Calls → HeldLevel
+held_remote names mode held faults losses calls = record { title = remote_title names; facts = remote_facts mode; told = is_some held; level = remote_level held faults losses calls }
 
 abbrev pub all_tell : List HeldLevel → Bool
 all_tell [] = true
 all_tell (l ∷ ls) = l.told && all_tell ls
 
 abbrev pub held_of : List HeldLevel → Policy → Held
-held_of ls policy = record { facts = map (λ l. l.facts) ls; policy = policy; told = all_tell ls; levels = map (λ l. l.level) ls }
+held_of ls policy = record { titles = map (λ l. l.title) ls; facts = map (λ l. l.facts) ls; policy = policy; told = all_tell ls; levels = map (λ l. l.level) ls }
 
 -- what a level holds; beyond the last level nothing
 abbrev pub level_in : List Level → ℕ → Level
@@ -65,16 +86,22 @@ level_code = code_by (ℕ × (ℕ × (Option Calls × (Bool × (Files × Files))
     (λ p. record { faults = p.0; losses = p.1.0; calls = p.1.1.0; opened = p.1.1.1.0; main = p.1.1.1.1.0; pre = p.1.1.1.1.1 })
     (λ _. refl)
 
+abbrev pub title_code : Coded Title
+title_code = code_by (List ℕ × List ℕ) (coded× (coded_list coded_ℕ) (coded_list coded_ℕ))
+    (λ t. (t.type_name, t.location))
+    (λ p. record { type_name = p.0; location = p.1 })
+    (λ _. refl)
+
 abbrev pub held_level_code : Coded HeldLevel
-held_level_code = code_by (LevelFacts × (Bool × Level))
-    (coded× facts_type.the_row.coded (coded× coded_bool level_code))
-    (λ l. (l.facts, (l.told, l.level)))
-    (λ p. record { facts = p.0; told = p.1.0; level = p.1.1 })
+held_level_code = code_by (Title × (LevelFacts × (Bool × Level)))
+    (coded× title_code (coded× facts_type.the_row.coded (coded× coded_bool level_code)))
+    (λ l. (l.title, (l.facts, (l.told, l.level))))
+    (λ p. record { title = p.0; facts = p.1.0; told = p.1.1.0; level = p.1.1.1 })
     (λ _. refl)
 
 abbrev pub held_code : Coded Held
-held_code = code_by (List LevelFacts × (Policy × (Bool × List Level)))
-    (coded× (coded_list facts_type.the_row.coded) (coded× policy_type.the_row.coded (coded× coded_bool (coded_list level_code))))
-    (λ h. (h.facts, (h.policy, (h.told, h.levels))))
-    (λ p. record { facts = p.0; policy = p.1.0; told = p.1.1.0; levels = p.1.1.1 })
+held_code = code_by (List Title × (List LevelFacts × (Policy × (Bool × List Level))))
+    (coded× (coded_list title_code) (coded× (coded_list facts_type.the_row.coded) (coded× policy_type.the_row.coded (coded× coded_bool (coded_list level_code)))))
+    (λ h. (h.titles, (h.facts, (h.policy, (h.told, h.levels)))))
+    (λ p. record { titles = p.0; facts = p.1.0; policy = p.1.1.0; told = p.1.1.1.0; levels = p.1.1.1.1 })
     (λ _. refl)

@@ -3,5 +3,6 @@ pub mod Held
 pub mod Devices
 pub mod Paths
 pub mod Remotes
+pub mod Telling
 pub mod Levels
 pub mod Planning

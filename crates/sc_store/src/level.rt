@@ -4,6 +4,7 @@ ghost use Rattle.sc_model.specs.World.{Later, early_cause as early};
 ghost use Rattle.sc_model.specs.declared.level.Cause.{Cause};
 ghost use Rattle.sc_store.specs.Asking.{AskCause, AsksLevel, PutCause, PutsLevel, fixed_answer, reads_key};
 ghost use Rattle.sc_store.specs.Levels.{held_level};
+ghost use Rattle.sc_store.specs.Telling.{level_max};
 
 use crate::remote::Remote;
 use crate::remote_storage::RemoteStorage;
@@ -18,6 +19,36 @@ pub enum Level<R: Remote> {
 }
 
 impl<R: Remote> Level<R> {
+    /// What type of store it is, in a word.
+    pub fn cache_type_name(&self) -> &str
+        ensures { result.now ≡ (held_level self.now).title.type_name }
+    {
+        match self {
+            Level::Remote(store) => store.cache_type_name(),
+        }
+    }
+
+    /// Where its store is, in words.
+    pub fn location(&self, alloc: Global) -> Result<Text, NoMemory>
+        ensures { IfOk result (λ text. text ≡ (held_level self.now).title.location) }
+    {
+        match self {
+            Level::Remote(store) => {
+                let text = store.location(alloc)?;
+                Ok(text)
+            }
+        }
+    }
+
+    /// The most bytes that it may take, where that is known: of a remote store it isn't.
+    pub fn max_size(&self) -> Option<u64>
+        ensures { result ≡ level_max (held_level self.now).facts }
+    {
+        match self {
+            Level::Remote(store) => store.max_size(),
+        }
+    }
+
     /// What kind of store it is.
     pub fn kind(&self) -> LevelKind
         ensures { result ≡ (held_level self.now).facts.kind }
@@ -47,6 +78,7 @@ impl<R: Remote> Level<R> {
 
     /// Looks a key up.
     pub(crate) fn ask(&mut self, alloc: Global, key: &Text, mode: Mode) -> Result<Answer, NoMemory>
+        ensures title { (held_level self.new).title ≡ (held_level self.old).title }
         ensures facts { (held_level self.new).facts ≡ (held_level self.old).facts }
         ensures told { (held_level self.new).told ≡ (held_level self.old).told }
         ensures later { Later (held_level self.old).level (held_level self.new).level }
@@ -71,6 +103,7 @@ impl<R: Remote> Level<R> {
         key: &Text,
         bytes: &ByteText,
     ) -> Result<Written, NoMemory>
+        ensures title { (held_level self.new).title ≡ (held_level self.old).title }
         ensures facts { (held_level self.new).facts ≡ (held_level self.old).facts }
         ensures told { (held_level self.new).told ≡ (held_level self.old).told }
         ensures later { Later (held_level self.old).level (held_level self.new).level }

@@ -46,6 +46,7 @@ impl<R: Remote> Levels<R> {
     pub fn len(&self) -> usize
         ensures levels { result ≡ length self.now.levels }
         ensures facts { result ≡ length self.now.facts }
+        ensures titles { result ≡ length self.now.titles }
     {
         self.levels.len()
     }
@@ -100,6 +101,7 @@ impl<R: Remote> Levels<R> {
         mode: Mode,
     ) -> Result<Answer, NoMemory>
         requires { level < length self.old.levels }
+        ensures titles { self.new.titles ≡ self.old.titles }
         ensures facts { self.new.facts ≡ self.old.facts }
         ensures policy { self.new.policy ≡ self.old.policy }
         ensures told { self.new.told ≡ self.old.told }
@@ -124,6 +126,7 @@ impl<R: Remote> Levels<R> {
         _from_run: bool,
     ) -> Result<Written, NoMemory>
         requires { level < length self.old.levels }
+        ensures titles { self.new.titles ≡ self.old.titles }
         ensures facts { self.new.facts ≡ self.old.facts }
         ensures policy { self.new.policy ≡ self.old.policy }
         ensures told { self.new.told ≡ self.old.told }

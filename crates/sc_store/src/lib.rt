@@ -1,6 +1,7 @@
 //! Stores of compile results: a store behind a network, and a daemon's levels of stores in order.
 #![tactic(auto)]
 
+mod facts;
 mod level;
 mod levels;
 mod mem_remote;
@@ -9,6 +10,7 @@ mod planning;
 mod remote;
 mod remote_storage;
 mod store_key;
+mod telling;
 
 pub use level::Level;
 pub use levels::Levels;

@@ -5,6 +5,7 @@ ghost use Rattle.sc_entry.specs.Failing.{fails_at, faults_after, one_more};
 ghost use Rattle.sc_model.specs.Devices.{MakesOn, calls_failing};
 ghost use Rattle.sc_model.specs.World.{no_files, find_file, put_file};
 ghost use Rattle.sc_store.specs.Devices.{calls_of};
+ghost use Rattle.sc_store.specs.Held.{memory_names};
 ghost use Rattle.sc_store.specs.Paths.{entries_of, put_all, told_size};
 ghost use Rattle.sc_store.specs.Remotes.{Reads, ReadCause, Writes, WriteCause, read_of, write_of};
 
@@ -93,6 +94,8 @@ impl Remote for MemRemote {
     ghost loss_count = { λ m. 0 };
 
     ghost calls = { λ m. Some (calls_of m.calls) };
+
+    ghost names = { λ _. memory_names };
 
     fn faults(&self) -> u64 {
         self.calls.faults()

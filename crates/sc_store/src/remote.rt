@@ -2,6 +2,7 @@ ghost use Rattle.std.specs.Prelude.{◌≡◌, ◌≤◌, ℕ, Option, IfOk, is_
 ghost use Rattle.sc_entry.specs.Causes.{Told};
 ghost use Rattle.sc_model.specs.Devices.{Calls, MakesOn};
 ghost use Rattle.sc_model.specs.World.{Files};
+ghost use Rattle.sc_store.specs.Held.{Names};
 ghost use Rattle.sc_store.specs.Remotes.{Reads, ReadCause, Writes, WriteCause};
 
 use sc_entry::{ByteText, NoMemory, Text};
@@ -38,12 +39,16 @@ pub trait Remote {
     /// Which of its calls are to fail, and how many were made, where it tells that. No call changes whether it tells.
     ghost calls: { Self → Option Calls };
 
+    /// What it is called. No call changes that.
+    ghost names: { Self → Names };
+
     /// How often it refused. The count never falls, and stays at the greatest `u64`.
     fn faults(&self) -> u64
         ensures { result ≡ fault_count self.now };
 
     /// The bytes at a path.
     fn read(&mut self, alloc: Global, path: &Text) -> Result<RemoteRead, NoMemory>
+        ensures names { names self.new ≡ names self.old }
         ensures tells { is_some (held self.new) ≡ is_some (held self.old) }
         ensures told { IfOk result (λ answer. Told (Reads answer (loss_count self.old) (loss_count self.new) path.now) (held self.old) (held self.new)) }
         ensures cause { IfOk result (λ answer. ReadCause answer (fault_count self.old) (fault_count self.new)) }
@@ -58,6 +63,7 @@ pub trait Remote {
         path: &Text,
         bytes: &ByteText,
     ) -> Result<RemoteWrite, NoMemory>
+        ensures names { names self.new ≡ names self.old }
         ensures tells { is_some (held self.new) ≡ is_some (held self.old) }
         ensures told { IfOk result (λ answer. Told (Writes answer (loss_count self.old) (loss_count self.new) path.now bytes.now) (held self.old) (held self.new)) }
         ensures cause { IfOk result (λ answer. WriteCause answer (fault_count self.old) (fault_count self.new)) }
@@ -66,11 +72,14 @@ pub trait Remote {
         ensures losses_stay { loss_count self.old ≤ loss_count self.new };
 
     /// What kind of store it is.
-    fn scheme(&self) -> &str;
+    fn scheme(&self) -> &str
+        ensures { result.now ≡ (names self.now).scheme };
 
     /// The name of the store among those of its kind.
-    fn name(&self) -> &str;
+    fn name(&self) -> &str
+        ensures { result.now ≡ (names self.now).name };
 
     /// The path in the store that all paths begin at.
-    fn root(&self) -> &str;
+    fn root(&self) -> &str
+        ensures { result.now ≡ (names self.now).root };
 }

@@ -7,6 +7,7 @@ ghost use Rattle.sc_model.specs.World.{Asks, Later, early_cause as early};
 ghost use Rattle.sc_model.specs.declared.level.Cause.{Cause};
 ghost use Rattle.sc_store.specs.Asking as asking;
 ghost use Rattle.sc_store.specs.Held.{held_remote, remote_facts, remote_level};
+ghost use Rattle.sc_store.specs.Telling.{kind_max};
 
 use crate::remote::{Remote, RemoteRead, RemoteWrite};
 use crate::store_key::{is_store_key, normalize_key};
@@ -29,7 +30,7 @@ impl<R: Remote> Model for RemoteStorage<R> {
 
     ghost coded = { held_level_code };
 
-    ghost view = { λ s. held_remote s.configured (R.held s.remote) (R.fault_count s.remote) (R.loss_count s.remote) (R.calls s.remote) };
+    ghost view = { λ s. held_remote (R.names s.remote) s.configured (R.held s.remote) (R.fault_count s.remote) (R.loss_count s.remote) (R.calls s.remote) };
 }
 
 /// What a read's answer tells of a key.
@@ -152,7 +153,7 @@ fn fixed_answer(mode: Mode) -> Answer
 impl<R: Remote> RemoteStorage<R> {
     /// A store over a remote, with its configured mode.
     pub fn new(remote: R, mode: CacheMode) -> RemoteStorage<R>
-        ensures { result ≡ held_remote mode (R.held remote) (R.fault_count remote) (R.loss_count remote) (R.calls remote) }
+        ensures { result ≡ held_remote (R.names remote) mode (R.held remote) (R.fault_count remote) (R.loss_count remote) (R.calls remote) }
     {
         RemoteStorage {
             remote,
@@ -165,6 +166,35 @@ impl<R: Remote> RemoteStorage<R> {
         ensures level { self.now.level ≡ remote_level (R.held result.now) (R.fault_count result.now) (R.loss_count result.now) (R.calls result.now) }
     {
         &self.remote
+    }
+
+    /// What type of store it is, in a word.
+    pub fn cache_type_name(&self) -> &str
+        ensures { result.now ≡ self.now.title.type_name }
+    {
+        let _title = &self.configured;
+        self.remote.scheme()
+    }
+
+    /// Where the store is, in words.
+    pub fn location(&self, alloc: Global) -> Result<Text, NoMemory>
+        ensures { IfOk result (λ text. text ≡ self.now.title.location) }
+    {
+        let _title = &self.configured;
+        let mut text = String::from_str(alloc, self.remote.scheme())?;
+        text.push_str(", name: ")?;
+        text.push_str(self.remote.name())?;
+        text.push_str(", prefix: ")?;
+        text.push_str(self.remote.root())?;
+        Ok(Text::from_string(text))
+    }
+
+    /// The most bytes that it may take: that isn't known of a remote.
+    pub fn max_size(&self) -> Option<u64>
+        ensures { result ≡ kind_max self.now.facts.kind self.now.facts.capacity }
+    {
+        let _facts = &self.configured;
+        None
     }
 
     /// What kind of store it is.
@@ -193,6 +223,7 @@ impl<R: Remote> RemoteStorage<R> {
     #[tactic(auto, using(crate::proofs::Devices::later_same))]
     fn find(&mut self, alloc: Global, key: &Text) -> Result<Answer, NoMemory>
         requires { IsStoreKey key.now }
+        ensures title { self.new.title ≡ self.old.title }
         ensures facts { self.new.facts ≡ self.old.facts }
         ensures told { self.new.told ≡ self.old.told }
         ensures later { Later self.old.level self.new.level }
@@ -207,6 +238,7 @@ impl<R: Remote> RemoteStorage<R> {
     /// Looks a key up. A bad key is found before the remote is called.
     #[tactic(auto, using(crate::proofs::Devices::later_same))]
     pub(crate) fn ask(&mut self, alloc: Global, key: &Text, mode: Mode) -> Result<Answer, NoMemory>
+        ensures title { self.new.title ≡ self.old.title }
         ensures facts { self.new.facts ≡ self.old.facts }
         ensures told { self.new.told ≡ self.old.told }
         ensures later { Later self.old.level self.new.level }
@@ -236,6 +268,7 @@ impl<R: Remote> RemoteStorage<R> {
         key: &Text,
         bytes: &ByteText,
     ) -> Result<Written, NoMemory>
+        ensures title { self.new.title ≡ self.old.title }
         ensures facts { self.new.facts ≡ self.old.facts }
         ensures told { self.new.told ≡ self.old.told }
         ensures later { Later self.old.level self.new.level }

@@ -95,17 +95,26 @@ spell_request message = request.spell message
 unfoldable pub read_request : List ℕ → Option Request
 read_request bytes = read_all request bytes
 
--- the requests that a daemon serves so far: compiles, and bytes as a store holds them
+-- the requests that a daemon serves so far: compiles, those for its counters and its store's handshake, and bytes as a
+-- store holds them
 abbrev pub served_of : Option Request → Option Request
+served_of (Some ZeroStats) = Some ZeroStats
+served_of (Some GetStats) = Some GetStats
 served_of (Some (CompileRequest compiled)) = Some (CompileRequest compiled)
+served_of (Some StorageHandshake) = Some StorageHandshake
 served_of (Some (StorageGetRaw key)) = Some (StorageGetRaw key)
 served_of (Some (StoragePutRaw key bytes)) = Some (StoragePutRaw key bytes)
+served_of (Some (RecordStats delta)) = Some (RecordStats delta)
 served_of _ = None
 
 abbrev pub IsServed : Request → Type 0
+IsServed ZeroStats = Unit {0}
+IsServed GetStats = Unit {0}
 IsServed (CompileRequest compiled) = Unit {0}
+IsServed StorageHandshake = Unit {0}
 IsServed (StorageGetRaw key) = Unit {0}
 IsServed (StoragePutRaw key bytes) = Unit {0}
+IsServed (RecordStats delta) = Unit {0}
 IsServed _ = ⊥
 
 -- requests that are all served

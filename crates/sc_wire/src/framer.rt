@@ -68,24 +68,25 @@ fn front_message<M: Wire + Drop>(
     }
 }
 
-/// The request, where it is served: so far a compile, or one for bytes as a store holds them.
+/// The request, where it is served: so far a compile, one for counters or the handshake, or one for bytes as a store
+/// holds them.
 fn only_served(request: Request) -> Option<Request>
     ensures request { result ≡ served_of (Some request) }
     ensures served { IfSome result IsServed }
 {
     match request {
+        Request::ZeroStats => Some(request),
+        Request::GetStats => Some(request),
         Request::Compile(_) => Some(request),
+        Request::StorageHandshake => Some(request),
         Request::StorageGetRaw(_) => Some(request),
         Request::StoragePutRaw(_, _) => Some(request),
-        Request::ZeroStats => None,
-        Request::GetStats => None,
+        Request::RecordStats(_) => Some(request),
         Request::DistStatus => None,
         Request::Shutdown => None,
-        Request::StorageHandshake => None,
         Request::StorageGetPath(_) => None,
         Request::StorageGetPreprocessorEntry(_) => None,
         Request::StoragePutPreprocessorEntry(_, _) => None,
-        Request::RecordStats(_) => None,
     }
 }
 

@@ -1,9 +1,9 @@
 use Rattle.std.proofs.Common.{ℕ, Option, drop, sym, ap, ◌≡◌, ◌∙◌, subst}
-use Rattle.sc_action.specs.Acts.{Acts}
+use Rattle.sc_action.specs.Telling.{ActsFor}
 use Rattle.sc_action.specs.Serves.{Serves}
 use Rattle.sc_action.specs.declared.acted.Acted.{Acted}
 use Rattle.sc_daemon.specs.Lines.{Line, conn_of}
-use Rattle.sc_daemon.specs.Turns.{ActsFirst, ActsFirst_or_none, CountsFirst, MovesFirst}
+use Rattle.sc_daemon.specs.Turns.{ActsFirst, ActsFirst_or_none, CountsFirst, MovesFirst, SaysFirst}
 use Rattle.sc_daemon.specs.contracts.conn.Conn.{the_view}
 use Rattle.sc_daemon.proofs.Counted.{if_both, if_map}
 use Rattle.sc_daemon.proofs.Firsts.{current_is, first_rest}
@@ -34,12 +34,18 @@ returns-clause-acts g c =
       request = c.in-Some.request.now;
       rest = drop 1 c.self.inside.waiting;
       first = first_rest c.self.inside.waiting c.in-Some.request.now c.in-Some.ensures;
-      acts = subst (λ (p : Phase). Acts k c.in-Some.request.now p m acted) c.replace-phase.ensures.value c.in_ok-acted.ensures.acts;
+      acts = subst (λ (p : Phase). ActsFor k c.in-Some.request.now p m acted) c.replace-phase.ensures.value c.in_ok-acted.ensures.acts;
       same = ap after c.replace-phase.ensures.after;
       out = c.in_ok-acted.ensures.sent;
     } in
     if_map c.if_counted.result c.if_counted.ensures.acted
     (λ a e. subst (λ (o : Option Acted). ActsFirst_or_none k m o c.args.self.now (after c.replace-phase.new.dest)) (sym e) first)
+
+pub returns-clause-says : goal.returns-clause-says
+returns-clause-says g c =
+    let k = g.H.Hold.config c.args.hold.now in
+    if_map c.if_counted.result c.if_counted.ensures.acted
+    (λ a e. subst (λ (o : Option Acted). SaysFirst k.policy c.args.stats.now c.args.levels.now o) (sym e) c.in_ok-acted.ensures.says)
 
 pub returns-clause-moves : goal.returns-clause-moves
 returns-clause-moves g c =

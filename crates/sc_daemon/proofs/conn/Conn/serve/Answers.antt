@@ -1,7 +1,7 @@
 use Rattle.std.proofs.Common.{Option, refl, sym, subst}
 use Rattle.sc_action.specs.declared.acted.Acted.{Acted}
 use Rattle.sc_daemon.specs.Lines.{conn_of}
-use Rattle.sc_daemon.specs.Turns.{ActsFirst, ActsFirst_or_none, CountsFirst, MovesFirst, Serves_one}
+use Rattle.sc_daemon.specs.Turns.{ActsFirst, ActsFirst_or_none, CountsFirst, MovesFirst, SaysFirst, Serves_one}
 use Rattle.sc_daemon.proofs.Serving.{first_serves, serves_one, serves_rests}
 use Rattle.sc_job.specs.Setups.{setup}
 use Rattle.sc_model.specs.Machine.{current, need_at}
@@ -28,6 +28,10 @@ pub returns-clause-moves : goal.returns-clause-moves
 returns-clause-moves g c =
     let k = g.H.Hold.config c.args.hold.now in
     subst (λ (a : Option Acted). MovesFirst g.H.Hold.moves (need_at (setup k) (current (conn_of c.args.self.now)) c.args.self.now.phase) a c.args.hold.now c.act_first.new.hold) c.in-Some.is c.in_ok-acted.ensures.moves
+
+pub returns-clause-says : goal.returns-clause-says
+returns-clause-says g c =
+    subst (λ (a : Option Acted). SaysFirst (g.H.Hold.config c.args.hold.now).policy c.args.stats.now c.args.levels.now a) c.in-Some.is c.in_ok-acted.ensures.says
 
 pub returns-clause-counts : goal.returns-clause-counts
 returns-clause-counts g c =

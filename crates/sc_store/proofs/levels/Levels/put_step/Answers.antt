@@ -17,9 +17,10 @@ returns g c =
     let e = c.put_step.ensures in
     let new = held_of (map held_level (slice_set stores l later)) policy in
     let here : store ≡ slice_index_or stores l store = search rules in
-    let m : Alone old new l (held_level store) (held_level later) = moved held_level old policy stores l store later c.self.view_is c.requires here e.facts e.told in
+    let m : Alone old new l (held_level store) (held_level later) = moved held_level old policy stores l store later c.self.view_is c.requires here e.title e.facts e.told in
     let by : policy ≡ old.policy = ap (λ h. h.policy) c.self.view_is in
     record {
+      titles = m.titles;
       facts = m.facts;
       policy = m.policy;
       told = m.told;

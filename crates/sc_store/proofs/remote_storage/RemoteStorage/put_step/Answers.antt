@@ -11,5 +11,5 @@ returns-clause-wrote g c =
     let new = c.write.new.self in
     let e = c.in_ok-answer.ensures in
     let free : early_cause c.args.policy.now (remote_facts c.self.inside.configured) c.args.key.now ≡ None = search rules in
-    write_puts_at c.written_of.result c.args.self.now c.in_ok-answer.answer (r.held old) (r.held new) (r.fault_count old) (r.fault_count new) (r.loss_count old) (r.loss_count new) (r.calls old) (r.calls new)
+    write_puts_at (r.names old) c.written_of.result c.args.self.now c.in_ok-answer.answer (r.held old) (r.held new) (r.fault_count old) (r.fault_count new) (r.loss_count old) (r.loss_count new) (r.calls old) (r.calls new)
     c.args.policy.now c.self.inside.configured c.args.key.now c.in_ok-path.path c.args.bytes.now c.written_of.ensures c.self.view_is free c.in_ok-path.ensures e.told e.cause
