@@ -200,6 +200,55 @@ fn raw_requests(rt: HostRuntime) -> Result<(), Fail> {
     Ok(())
 }
 
+const STATISTICS: &[u8] = b"script 1
+level remote rw
+conns 1
+ask 0 zero-stats
+ask 0 get-stats
+ask 0 handshake
+ask 0 record compile_requests 1 dist_errors 7 compile_requests 2
+";
+
+#[test]
+fn statistics_requests(rt: HostRuntime) -> Result<(), Fail> {
+    let script = read_script(rt.alloc(), STATISTICS)?;
+    assert_eq!(rt; script.inputs.len(), 1);
+    let first = b"\0\0\0\x04\0\0\0\0\0\0\0\x04\x01\0\0\0\0\0\0\x04\x05\0\0\0";
+    let mut frames = first.to_vec(rt.alloc())?;
+    frames.extend_from_slice(b"\0\0\0\xd9\x0b\0\0\0\x02\0\0\0\0\0\0\0")?;
+    frames.extend_from_slice(&[0; 196])?;
+    frames.extend_from_slice(b"\x07\0\0\0\0\0\0\0\0")?;
+    for input in script.inputs.as_slice() {
+        assert_eq!(rt; input.as_slice(), frames.as_slice());
+    }
+    Ok(())
+}
+
+#[test]
+fn lines_of_statistics_requests(rt: HostRuntime) -> Result<(), Fail> {
+    let good = b"ask 0 record cache_writes 18446744073709551615 compile_fails 0";
+    assert_eq!(rt; of_line(rt.alloc(), good)?, 0);
+    let lines: [&[u8]; 13] = [
+        b"ask 0 zero-stats x",
+        b"ask 0 get-stats x",
+        b"ask 0 handshake x",
+        b"ask 0 record",
+        b"ask 0 record compile_requests",
+        b"ask 0 record compile_requests 1 cache_writes",
+        b"ask 0 record compile_requests 01",
+        b"ask 0 record compile_requests 18446744073709551616",
+        b"ask 0 record cache_errors 1",
+        b"ask 0 record cache_hits 1",
+        b"ask 0 record cache_misses 1",
+        b"ask 0 record compilations 1 cache_hits 1",
+        b"ask 0 record multi_level 1",
+    ];
+    for line in lines {
+        assert_eq!(rt; of_line(rt.alloc(), line)?, 4);
+    }
+    Ok(())
+}
+
 #[test]
 fn words_of_the_program(rt: HostRuntime) -> Result<(), Fail> {
     let drive = [ByteText::from_slice(rt.alloc(), b"drive")?];
