@@ -1,9 +1,10 @@
 -- What holds of each word and of each variable, one after the other.
-use Rattle.std.proofs.Common.{◌≡◌, ℕ, suc, ◌+◌, ◌<◌, ◌≤◌, Bool, true, false, cond, List, ◌∷◌, length, drop, Option, Some, IsTrue, All, sym, ap, ◌∙◌, subst, arith, inl, inr}
+use Rattle.std.proofs.Common.{◌≡◌, ℕ, suc, ◌+◌, ◌<◌, ◌≤◌, Bool, true, false, cond, List, ◌∷◌, length, take, drop, Option, Some, IsTrue, All, sym, ap, ◌∙◌, subst, arith, inl, inr}
 use Rattle.std.specs.Prelude.{◌⊎◌, bytes_eq}
 use Rattle.std.specs.Bool.{MatchBool}
 use Rattle.std.specs.List.{AllWithin, HoldsAt, slice_get, slice_index_or}
 use Rattle.std.proofs.lemmas.Bool.{cases_eq}
+use Rattle.std.proofs.lemmas.List.Sums.{fold_more}
 use Rattle.std.proofs.lemmas.Option.{slice_get_within, get_or_from_slice_get}
 use Rattle.std.proofs.lemmas.Iterator.Search.{true_from_All}
 use Rattle.std.proofs.Math.Seq.{drop-cons}
@@ -50,9 +51,8 @@ said_step vars i p name before after whole at so e =
     rw (so, up) (sym (ap (said name before) next) ∙ e)
 
 -- one variable more was set
-pub set_step : (vars : Named) (i : ℕ) (p : List ℕ × List ℕ) (before after whole : Named) → get_or vars i p ≡ p → i < length vars
-    → after ≡ set_variable before p.0 p.1 → set_variables before (drop i vars) ≡ whole → set_variables after (drop (i + 1) vars) ≡ whole
-set_step vars i p before after whole at within so e =
-    let next : drop i vars ≡ p ∷ drop (suc i) vars = drop-cons vars i p within ∙ ap (λ q. q ∷ drop (suc i) vars) at in
-    let up : i + 1 ≡ suc i = omega arith in
-    rw (so, up) (sym (ap (set_variables before) next) ∙ e)
+pub set_step : (vars : Named) (i : ℕ) (p : List ℕ × List ℕ) (first before after : Named) → p ≡ get_or vars i p → i < length vars
+    → after ≡ set_variable before p.0 p.1 → before ≡ set_variables first (take i vars) → after ≡ set_variables first (take (i + 1) vars)
+set_step vars i p first before after at within so e =
+    let more = fold_more (λ all q. set_variable all q.0 q.1) first vars i p within in
+    so ∙ ap (λ all. set_variable all p.0 p.1) e ∙ ap (λ q. set_variable (set_variables first (take i vars)) q.0 q.1) at ∙ sym more

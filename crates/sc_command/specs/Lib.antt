@@ -6,4 +6,5 @@ pub mod Refusals
 pub mod Settings
 pub mod Spawning
 pub mod Statuses
+pub mod Tokens
 pub mod Variables

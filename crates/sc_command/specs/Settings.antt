@@ -1,5 +1,5 @@
 -- How a command runs its program.
-use Rattle.std.specs.Prelude.{◌≡◌, ℕ, Bool, true, false, List, [], Option, Some, None, option_map, ◌⊎◌}
+use Rattle.std.specs.Prelude.{◌≡◌, ℕ, Bool, true, false, List, [], ◌++◌, take, Option, Some, None, option_map, ◌⊎◌}
 use Rattle.sc_command.specs.Variables.{Named, set_variable, set_variables}
 use Rattle.sc_command.specs.declared.setting.Setting.{Setting}
 use Rattle.sc_command.specs.declared.setting.StdioMode.{StdioMode}
@@ -43,3 +43,11 @@ with_jobserver s = record s { shares_jobserver = true }
 -- the flag was set, or nothing was done
 abbrev pub MayShare : Option Setting → Option Setting → Type 0
 MayShare old new = (new ≡ option_map with_jobserver old) ⊎ (new ≡ old)
+
+-- the first of some words were added, maybe none or all
+abbrev pub AddsFirst : List (List ℕ) → List (List ℕ) → List (List ℕ) → Type 0
+AddsFirst words old new = (n : ℕ) × (new ≡ old ++ take n words)
+
+-- the first of some variables were set, maybe none or all
+abbrev pub SetsFirst : Named → Setting → Setting → Type 0
+SetsFirst vars old new = (n : ℕ) × (new ≡ with_variables (take n vars) old)

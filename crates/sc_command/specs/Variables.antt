@@ -1,5 +1,5 @@
 -- Variables of an environment.
-use Rattle.std.specs.Prelude.{ℕ, List, [], ◌∷◌, map, bytes_eq}
+use Rattle.std.specs.Prelude.{◌≡◌, ℕ, List, map, fold, take, bytes_eq}
 use Rattle.std.specs.Global.{Vec}
 use Rattle.indexmap.specs.IndexMap.{insert_entry}
 
@@ -17,5 +17,8 @@ set_variable vars name value = insert_entry bytes_eq vars name value
 
 -- variables set one after the other
 abbrev pub set_variables : Named → Named → Named
-set_variables vars [] = vars
-set_variables vars (p ∷ ps) = set_variables (set_variable vars p.0 p.1) ps
+set_variables vars more = fold (λ all p. set_variable all p.0 p.1) vars more
+
+-- the first of some variables were set, maybe none or all
+abbrev pub SetsFirstOf : Named → Named → Named → Type 0
+SetsFirstOf more old new = (n : ℕ) × (new ≡ set_variables old (take n more))

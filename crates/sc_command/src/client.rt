@@ -1,11 +1,12 @@
 //! Tokens that threads share.
 //!
 //! Whenever the lock is free, tokens out and free are the pool's size: it is an invariant of `Pool`, which a thread finds
-//! when it takes the lock and owes when it lets go. What a call does under its lock no clause can name, since another
-//! thread may have been there before. So the clauses stand on the calls of `Pool`, and each call below makes one of them
-//! under the lock. A token is made by a pool alone and has no drop: a dropped `Acquired` hands it to `Pool::give`.
-ghost use Rattle.std.specs.Prelude.{◌≡◌, ◌<◌};
+//! when it takes the lock and owes when it lets go. The calls below say that their answer is what a pool answered. That it
+//! was the pool behind this lock no clause can say: contracts see no difference between a client with a token free and one
+//! without. A token is made by a pool alone and has no drop: a dropped `Acquired` hands it to `Pool::give`.
+ghost use Rattle.std.specs.Prelude.{◌≡◌, ◌<◌, Some};
 ghost use Rattle.sc_command.specs.Settings.{with_jobserver};
+ghost use Rattle.sc_command.specs.Tokens.{Takes, IsTaken};
 
 use crate::pool::{Pool, Token};
 use crate::setting::Setting;
@@ -20,12 +21,35 @@ struct Shared {
     freed: Condvar,
 }
 
+/// Takes a token of the pool that the lock guards, where one is free.
+fn take(pool: &mut Pool) -> Option<Token>
+    ensures { Takes pool.old result pool.new }
+{
+    pool.take()
+}
+
+/// Takes a token of the pool that the lock guards, which has one.
+fn take_free(pool: &mut Pool) -> Token
+    requires { 0 < pool.old.free }
+    ensures { Takes pool.old (Some result) pool.new }
+{
+    pool.take_free()
+}
+
 impl Shared {
-    fn wait_for_token<R: Wait>(&self, rt: &R) -> Token {
+    fn token<R: Wait>(&self, rt: &R) -> Option<Token>
+        ensures { IsTaken result }
+    {
+        take(&mut self.pool.lock(rt))
+    }
+
+    fn wait_for_token<R: Wait>(&self, rt: &R) -> Token
+        ensures { IsTaken (Some result) }
+    {
         let mut pool = self
             .freed
             .wait_while(rt, self.pool.lock(rt), |pool| !pool.has_free());
-        pool.take_free()
+        take_free(&mut pool)
     }
 
     fn give_back<R: Wait>(&self, rt: &R, token: Token) {
@@ -104,7 +128,9 @@ impl Client {
     }
 
     /// Waits for a token.
-    pub fn acquire<'a, R: Wait>(&'a self, rt: &'a R) -> Acquired<'a, R> {
+    pub fn acquire<'a, R: Wait>(&'a self, rt: &'a R) -> Acquired<'a, R>
+        ensures { IsTaken (Some result) }
+    {
         let token = self.shared.wait_for_token(rt);
         Acquired {
             rt,
@@ -114,17 +140,23 @@ impl Client {
     }
 
     /// A token, where one is free. None exactly where `Pool::take`, which this calls under the lock, found none.
-    pub fn try_acquire<'a, R: Wait>(&'a self, rt: &'a R) -> Option<Acquired<'a, R>> {
-        let token = self.shared.pool.lock(rt).take()?;
-        Some(Acquired {
-            rt,
-            client: self,
-            token,
-        })
+    pub fn try_acquire<'a, R: Wait>(&'a self, rt: &'a R) -> Option<Acquired<'a, R>>
+        ensures { IsTaken result }
+    {
+        match self.shared.token(rt) {
+            Some(token) => Some(Acquired {
+                rt,
+                client: self,
+                token,
+            }),
+            None => None,
+        }
     }
 
     /// Waits for a token that may outlive this reference to the pool.
-    pub fn acquire_owned<R: Wait + Drop>(self, rt: R) -> AcquiredOwned<R> {
+    pub fn acquire_owned<R: Wait + Drop>(self, rt: R) -> AcquiredOwned<R>
+        ensures { IsTaken (Some result) }
+    {
         let token = self.shared.wait_for_token(&rt);
         AcquiredOwned {
             rt,

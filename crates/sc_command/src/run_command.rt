@@ -1,6 +1,6 @@
-ghost use Rattle.std.specs.Prelude.{◌≡◌, ◌++◌, ◌∷◌, [], ℕ, Bool, true, false, List, Option, Result, option_map, is_some, OnOk};
-ghost use Rattle.sc_entry.specs.Causes.{IfTold};
-ghost use Rattle.sc_command.specs.Settings.{with_variable, with_variables, with_nothing, with_folder, with_stdin, with_stdout, with_stderr, MayShare};
+ghost use Rattle.std.specs.Prelude.{◌≡◌, ◌++◌, ◌∷◌, [], ℕ, Bool, true, false, List, Option, Result, option_map, OnOk, OnErr};
+ghost use Rattle.sc_entry.specs.Causes.{IfTold, Told};
+ghost use Rattle.sc_command.specs.Settings.{with_variable, with_variables, with_nothing, with_folder, with_stdin, with_stdout, with_stderr, AddsFirst, SetsFirst, MayShare};
 ghost use Rattle.sc_command.specs.Spawning.{SpawnAnswer, SpawnGives};
 ghost use Rattle.sc_command.specs.declared.setting.Setting.{Setting};
 ghost use Rattle.sc_command.specs.declared.refusal.SpawnError.{SpawnError};
@@ -36,25 +36,25 @@ pub trait RunCommand {
     /// Adds an argument at the end.
     fn arg(&mut self, word: &ByteText) -> Result<(), NoMemory>
         ensures appended { OnOk result (arguments self.new ≡ option_map (λ words. words ++ word.now ∷ []) (arguments self.old)) }
-        ensures tells { is_some (arguments self.new) ≡ is_some (arguments self.old) }
+        ensures err { OnErr result (arguments self.new ≡ arguments self.old) }
         ensures same { (setting self.new ≡ setting self.old) × (is_spent self.new ≡ is_spent self.old) × (plan self.new ≡ plan self.old) };
 
-    /// Adds arguments at the end.
+    /// Adds arguments at the end. Where memory runs out, the first of them may stand there.
     fn args(&mut self, words: &[ByteText]) -> Result<(), NoMemory>
         ensures appended { OnOk result (arguments self.new ≡ option_map (λ before. before ++ words.now) (arguments self.old)) }
-        ensures tells { is_some (arguments self.new) ≡ is_some (arguments self.old) }
+        ensures err { OnErr result (Told (AddsFirst words.now) (arguments self.old) (arguments self.new)) }
         ensures same { (setting self.new ≡ setting self.old) × (is_spent self.new ≡ is_spent self.old) × (plan self.new ≡ plan self.old) };
 
     /// Sets a variable. A name that is there keeps its place.
     fn env(&mut self, name: &ByteText, value: &ByteText) -> Result<(), NoMemory>
         ensures set { OnOk result (setting self.new ≡ option_map (with_variable name.now value.now) (setting self.old)) }
-        ensures tells { is_some (setting self.new) ≡ is_some (setting self.old) }
+        ensures err { OnErr result (setting self.new ≡ setting self.old) }
         ensures same { (arguments self.new ≡ arguments self.old) × (is_spent self.new ≡ is_spent self.old) × (plan self.new ≡ plan self.old) };
 
-    /// Sets variables, one after the other.
+    /// Sets variables, one after the other. Where memory runs out, the first of them may be set.
     fn envs(&mut self, variables: &[(ByteText, ByteText)]) -> Result<(), NoMemory>
         ensures set { OnOk result (setting self.new ≡ option_map (with_variables variables.now) (setting self.old)) }
-        ensures tells { is_some (setting self.new) ≡ is_some (setting self.old) }
+        ensures err { OnErr result (Told (SetsFirst variables.now) (setting self.old) (setting self.new)) }
         ensures same { (arguments self.new ≡ arguments self.old) × (is_spent self.new ≡ is_spent self.old) × (plan self.new ≡ plan self.old) };
 
     /// Clears the environment, and forgets the variables that were set.
@@ -65,7 +65,7 @@ pub trait RunCommand {
     /// Sets where the child runs.
     fn current_dir(&mut self, folder: &ByteText) -> Result<(), NoMemory>
         ensures set { OnOk result (setting self.new ≡ option_map (with_folder folder.now) (setting self.old)) }
-        ensures tells { is_some (setting self.new) ≡ is_some (setting self.old) }
+        ensures err { OnErr result (setting self.new ≡ setting self.old) }
         ensures same { (arguments self.new ≡ arguments self.old) × (is_spent self.new ≡ is_spent self.old) × (plan self.new ≡ plan self.old) };
 
     fn stdin(&mut self, mode: StdioMode)

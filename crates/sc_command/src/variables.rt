@@ -1,5 +1,5 @@
 ghost use Rattle.std.specs.Prelude.{◌≡◌, ◌<◌, [], Some, OnOk, OnErr, length, slice_get};
-ghost use Rattle.sc_command.specs.Variables.{set_variable, set_variables};
+ghost use Rattle.sc_command.specs.Variables.{set_variable, set_variables, SetsFirstOf};
 
 use indexmap::IndexMap;
 use sc_entry::{ByteText, NoMemory};
@@ -57,9 +57,10 @@ impl Variables {
         Ok(())
     }
 
-    /// Sets variables, one after the other.
+    /// Sets variables, one after the other. Where memory runs out, the first of them may be set.
     pub fn set_all(&mut self, variables: &[(ByteText, ByteText)]) -> Result<(), NoMemory>
-        ensures { OnOk result (self.new ≡ set_variables self.old variables.now) }
+        ensures ok { OnOk result (self.new ≡ set_variables self.old variables.now) }
+        ensures err { OnErr result (SetsFirstOf variables.now self.old self.new) }
     {
         for variable in variables {
             self.set(&variable.0, &variable.1)?;
