@@ -2,7 +2,9 @@
 # Times sc_lru beside the Rust crates lru, hashlink and lru-cache, the kit's port of lru and a hand-made baseline, and prints a table.
 # Needs `rt`, cargo and Debian's packages librust-lru-dev, librust-hashlink-dev and librust-lru-cache-dev, and no network.
 # Usage: bench/sc_lru/run.sh [RUNS], at the top of the repository. The scratch repository is kept in $SCRATCH, to be used again.
+# Each timed program runs behind the words of $TIMED_BY, as in TIMED_BY="nice -n -20 taskset -c 3".
 set -eu
+timed_by=${TIMED_BY:-}
 runs=${1:-5}
 top=$(pwd)
 here=$top/bench/sc_lru
@@ -28,10 +30,10 @@ END
 rm -f "$scratch"/runs/*
 i=0
 while [ "$i" -lt "$runs" ]; do
-    "$scratch/crates/lru_bench/out/lru_bench" >"$scratch/runs/ours.$i"
-    "$scratch/crates/kit_bench/out/kit_bench" >"$scratch/runs/kit.$i"
+    $timed_by "$scratch/crates/lru_bench/out/lru_bench" >"$scratch/runs/ours.$i"
+    $timed_by "$scratch/crates/kit_bench/out/kit_bench" >"$scratch/runs/kit.$i"
     for peer in lru hashlink lru-cache fold-map std-map; do
-        "$scratch/target/release/lru-baseline" "$peer" >"$scratch/runs/$peer.$i"
+        $timed_by "$scratch/target/release/lru-baseline" "$peer" >"$scratch/runs/$peer.$i"
     done
     i=$((i + 1))
 done

@@ -159,6 +159,8 @@ pub(crate) fn move_last<K: Eq + Hash, V, S: BuildHasher>(
 }
 
 // Takes the pair at `at` out of the chain and the table. Returns the first, the last and the pair.
+// Inlined, so that an eviction doesn't pass its results through memory.
+#[inline(always)]
 pub(crate) fn take<K: Eq + Hash, V, S: BuildHasher>(
     map: &mut IndexMap<K, Node<V>, S>,
     first: usize,
