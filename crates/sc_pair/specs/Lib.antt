@@ -1,0 +1,4 @@
+pub mod Codes
+pub mod Pairs
+pub mod Parts
+pub mod Twos

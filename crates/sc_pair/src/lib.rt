@@ -1,0 +1,12 @@
+//! Two folders of files as one store, within one capacity.
+#![tactic(auto)]
+
+mod history;
+mod pair_cache;
+mod part;
+mod paths;
+mod two;
+
+pub use pair_cache::{PairCache, part_key};
+pub use part::Part;
+pub use two::Two;
