@@ -2,11 +2,13 @@
 #![tactic(auto)]
 
 mod history;
+mod lazy_pair;
 mod pair_cache;
 mod part;
 mod paths;
 mod two;
 
+pub use lazy_pair::LazyPair;
 pub use pair_cache::{PairCache, part_key};
 pub use part::Part;
 pub use two::Two;
