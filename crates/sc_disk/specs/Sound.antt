@@ -10,4 +10,4 @@ pub record IsSound (s : Store) : Type 0 where
   pub fits : indexed s + reserved s ≤ s.capacity
   pub keys : AreKeys s.index
   pub opened : HaveKeys s.pending.slots
-  pub files : IfTold s.disk.told (λ r. HasFiles s.index s.pending.slots (files_now r))
+  pub files : IfTold s.disk.told (λ r. HasFiles s.disk.divided s.index s.pending.slots (files_now r))

@@ -4,8 +4,7 @@ use Rattle.sc_entry.specs.Causes.{Rose}
 use Rattle.sc_disk.specs.Calls.{Prepares, RefusesAdd, RefusesCommit, removed_by}
 use Rattle.sc_disk.specs.Disks.{Does}
 use Rattle.sc_disk.specs.Inserting.{Fills, Inserts}
-use Rattle.sc_disk.specs.Names.{temporary}
-use Rattle.sc_disk.specs.Store.{AddEntry, Closed, IsTidy, Store}
+use Rattle.sc_disk.specs.Store.{AddEntry, Closed, IsTidy, Store, temporary_of}
 use Rattle.sc_disk.specs.declared.error.Error.{Error}
 use Rattle.sc_disk.specs.declared.error.Error.TheVariants.{NoMemory}
 use Rattle.sc_disk.specs.declared.writing.InsertError.{InsertError}
@@ -29,7 +28,7 @@ module _ {E : Type 0} where
     pub closed : Closed e.number old new
     pub index : new.index ≡ old.index
     pub capacity : new.capacity ≡ old.capacity
-    pub disk : Does (removed_by removes (temporary e.number)) old.disk new.disk
+    pub disk : Does (removed_by removes (temporary_of e)) old.disk new.disk
     pub tidy : removes ≡ true → IsTidy old → IsTidy new
 
   -- Nothing is stored: no entry is opened; or its writer refuses; or what it wrote isn't committed.

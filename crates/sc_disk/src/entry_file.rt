@@ -2,7 +2,7 @@
 ghost use Rattle.std.specs.Prelude.{◌≡◌, ◌∷◌, [], IfErr, OnOk, OnErr};
 ghost use Rattle.sc_disk.specs.Disks.{DoesPart};
 ghost use Rattle.sc_disk.specs.Inserting.{Fills, Only};
-ghost use Rattle.sc_disk.specs.Names.{temporary};
+ghost use Rattle.sc_disk.specs.Store.{temporary_of};
 ghost use Rattle.sc_disk.specs.Refusals.{DiskRefusal};
 ghost use Rattle.sc_disk.specs.Store.{IsOpen, IsTidy};
 
@@ -44,7 +44,7 @@ impl<'a, D: Disk> EntryFile<'a, D> {
         ensures opened { self.new.opened.now ≡ self.old.opened.now }
         ensures is_open { IsOpen self.new.store.now self.new.opened.now }
         ensures ok { OnOk result (Fills self.old.opened.now (bytes.now ∷ []) self.old.store.now self.new.store.now) }
-        ensures err { OnErr result (Only (DoesPart (temporary self.old.opened.now.number) bytes.now) self.old.store.now self.new.store.now) }
+        ensures err { OnErr result (Only (DoesPart (temporary_of self.old.opened.now) bytes.now) self.old.store.now self.new.store.now) }
         ensures cause { IfErr result (DiskRefusal self.old.store.now.disk.faults self.new.store.now.disk.faults) }
         ensures tidy { IsTidy self.old.store.now → IsTidy self.new.store.now }
     {

@@ -50,3 +50,16 @@ impl<D: Disk> LazyDiskCache<D> {
         }
     }
 }
+
+impl<D: Disk> LazyDiskCache<D> {
+    /// The path that the files stand under.
+    pub fn path(&self) -> &ByteText
+        ensures { HasRoot D.state self.now.state result.now }
+    {
+        let state = self.state.as_ref().unwrap();
+        match state {
+            LazyState::Uninit { disk, .. } => disk.root(),
+            LazyState::Init(store) => store.path(),
+        }
+    }
+}

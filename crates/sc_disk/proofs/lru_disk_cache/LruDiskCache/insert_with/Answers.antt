@@ -1,8 +1,14 @@
 use Rattle.std.proofs.Common.{inl, inr, refl}
 use Rattle.sc_disk.specs.Writing.{RefusesWriting, StoresWritten}
 use Rattle.sc_disk.proofs.Wholes.{inserted}
-use Rattle.sc_disk.proofs.Written.{tidy-filled}
+use Rattle.sc_disk.proofs.Written.{open-filled, tidy-filled}
 use Rattle.sc_disk.proofs.lru_disk_cache.LruDiskCache.insert_with.Goals as goal
+
+pub commit-requires : goal.commit-requires
+commit-requires g c = let e = c.in-Ok.entry in let w = c.in-Ok-write_with.ensures in open-filled e e w.0 c.prepare_add.new.self c.write_with.new.self w.2 c.in-Ok.ensures.opened
+
+pub let_go-requires : goal.let_go-requires
+let_go-requires g c = let e = c.in-Ok.entry in let w = c.in-Err-write_with.ensures in open-filled e e w.0 c.prepare_add.new.self c.write_with.new.self w.2 c.in-Ok.ensures.opened
 
 pub returns-in-Err-clause-err : goal.returns-in-Err-clause-err
 unfolding RefusesWriting
