@@ -1,5 +1,5 @@
 -- What the calls of a store of both parts make of each part.
-use Rattle.std.proofs.Common.{◌≡◌, inl, ℕ, ◌+◌, Bool, true, false, bytes_eq, is_some, List, [], ◌∷◌, ◌++◌, drop, Result, Ok, Err, IfOk, IfErr, OnOk, OnErr, refl, sym, ap, ◌∙◌, subst, arith}
+use Rattle.std.proofs.Common.{◌≡◌, inl, ℕ, ◌+◌, Bool, true, false, bytes_eq, is_some, List, [], ◌∷◌, ◌++◌, drop, Result, Ok, Err, IfOk, IfErr, OnOk, OnErr, refl, sym, ap, ◌∙◌, subst, arith, ◌&&◌, Some, None}
 use Rattle.std.proofs.lemmas.List.{drop-drop}
 use Rattle.std.specs.Map.{lookup, remove_entry}
 use Rattle.sc_entry.specs.Keys.{is_file_key}
@@ -8,13 +8,15 @@ use Rattle.sc_disk.specs.Calls.{Commits, Gets, Prepares, RefusesAdd, RefusesComm
 use Rattle.sc_disk.specs.Inserting.{Inserts, RefusesInsert, added}
 use Rattle.sc_disk.specs.Disks.{DiskState}
 use Rattle.sc_disk.specs.Names.{temporary}
+use Rattle.sc_disk.specs.Paths.{abs_path, has_path}
+use Rattle.sc_disk.specs.Paths as disk_finds
 use Rattle.sc_disk.specs.Refusals.{GetCause}
 use Rattle.sc_disk.specs.Store.{AddEntry, Store, filed, firsts, gone, temporary_of}
 use Rattle.sc_disk.specs.declared.change.Change.TheVariants.{Made, Moved, Touched}
 use Rattle.sc_disk.specs.declared.error.Error.{Error}
 use Rattle.sc_disk.specs.declared.error.Error.TheVariants.{NoMemory}
 use Rattle.sc_disk.proofs.Doing.{does-none}
-use Rattle.sc_pair.specs.Pairs.{Drops, Evicts, Files, Uses, index_of, other}
+use Rattle.sc_pair.specs.Pairs.{Drops, Evicts, Files, FindsPath, Uses, index_of, other}
 use Rattle.sc_pair.specs.Parts.{in_part}
 use Rattle.sc_pair.specs.declared.part.Part.{Part}
 use Rattle.sc_pair.proofs.Leaving.{AllAway, Elsewhere, away-added, away-append, away-gone, elsewhere, leaves, temporary_elsewhere}
@@ -97,13 +99,13 @@ dropped part key k old new e h = record {
   leaves = leaves (other part) (removed_by (is_some (lookup (bytes_eq k) old.index)) k) old.disk new.disk (away_removed (other part) (is_some (lookup (bytes_eq k) old.index)) k) h.disk;
 }
 
-refused_first : (k : List ℕ) (size : ℕ) (s : Store) → RefusesAdd NoMemory k size 0 s s
-refused_first k size s = record { cause = tt; none = tt; evicted = λ m h. absurd (omega (arith, h)); index = refl; slots = refl; capacity = refl; disk = does-none s.disk }
+pub refused-first : (k : List ℕ) (size : ℕ) (s : Store) → RefusesAdd NoMemory k size 0 s s
+refused-first k size s = record { cause = tt; none = tt; evicted = λ m h. absurd (omega (arith, h)); index = refl; slots = refl; capacity = refl; disk = does-none s.disk }
 
 -- memory was wanting before anything was done
 pub refused-insert : (k : List ℕ) (size now : ℕ) (part whole : AddEntry → DiskState → DiskState → Type 0) (s : Store) → RefusesInsert NoMemory k size now part whole s s
 unfolding RefusesInsert
-refused-insert k size now part whole s = inl (0, refused_first k size s)
+refused-insert k size now part whole s = inl (0, refused-first k size s)
 
 pub if_err : {T : Type 0} (r : Result T Error) (P Q : Error → Type 0) → ((x : Error) → P x → Q x) → IfErr r P → IfErr r Q
 if_err (Ok x) P Q f p = tt
@@ -112,3 +114,18 @@ if_err (Err x) P Q f p = f x p
 pub if_ok-on : {T : Type 0} (r : Result T Error) (P : T → Type 0) (Q : Type 0) → ((x : T) → P x → Q) → IfOk r P → OnOk r Q
 if_ok-on (Ok x) P Q f p = f x p
 if_ok-on (Err x) P Q f p = tt
+
+-- a key's path is that of its part's
+pub path-part : (part : Part) (key k : List ℕ) (es : List (List ℕ × ℕ)) → k ≡ in_part part key → is_file_key (in_part part key) ≡ is_file_key key → has_path k es ≡ has_path key (index_of part es)
+path-part part key k es e good = ap (λ q. has_path q es) e ∙ ap (λ b. b && is_some (lookup (bytes_eq (in_part part key)) es)) good ∙ ap (λ o. is_file_key key && is_some o) (lookup-part part key es)
+
+pub path-found : (part : Part) (key k root path : List ℕ) (found : List ℕ) (old new : Store) → k ≡ in_part part key → is_file_key (in_part part key) ≡ is_file_key key → path ≡ abs_path root key → disk_finds.FindsPath k (Some found) old new → FindsPath part key root (Some path) old new
+path-found part key k root path found old new e good is h = (
+  sym (path-part part key k old.index e good) ∙ h.0,
+  is,
+  ap (index_of part) (h.2 ∙ ap (λ q. touched (bytes_eq q) old.index) e) ∙ index-touched part key old.index,
+  ap (index_of (other part)) (h.2 ∙ ap (λ q. touched (bytes_eq q) old.index) e) ∙ index-touched_other part key old.index,
+)
+
+pub path-absent : (part : Part) (key k root : List ℕ) (old new : Store) → k ≡ in_part part key → is_file_key (in_part part key) ≡ is_file_key key → disk_finds.FindsPath k None old new → FindsPath part key root None old new
+path-absent part key k root old new e good h = (sym (path-part part key k old.index e good) ∙ h.0, h.1)

@@ -5,6 +5,7 @@ use Rattle.sc_entry.specs.Causes.{IfTold}
 use Rattle.sc_lru.specs.Order.{touched}
 use Rattle.sc_disk.specs.Calls.{RefusesGet}
 use Rattle.sc_disk.specs.Disks.{DiskRecord, files_now}
+use Rattle.sc_disk.specs.Paths.{abs_path, has_path}
 use Rattle.sc_disk.specs.Store.{Alters, Store, filed}
 use Rattle.sc_disk.specs.declared.error.Error.{Error}
 use Rattle.sc_disk.specs.declared.error.Error.TheVariants.{NoMemory}
@@ -70,3 +71,9 @@ RefusesRead refused key now touches old new = RefusesGet refused key now touches
 abbrev pub root_of : Part → List ℕ → List ℕ → List ℕ
 root_of Main main pre = main
 root_of Pre main pre = pre
+
+-- where a part's key's file stands, and the key was used; or the key has none
+abbrev pub FindsPath : Part → List ℕ → List ℕ → Option (List ℕ) → Store → Store → Type 0
+FindsPath part key root None old new = (has_path key (index_of part old.index) ≡ false) × (new.index ≡ old.index)
+FindsPath part key root (Some path) old new =
+    (has_path key (index_of part old.index) ≡ true) × (path ≡ abs_path root key) × (index_of part new.index ≡ touched (bytes_eq key) (index_of part old.index)) × (index_of (other part) new.index ≡ index_of (other part) old.index)

@@ -4,6 +4,8 @@
 mod history;
 mod lazy_pair;
 mod pair_cache;
+mod pair_path;
+mod pair_writing;
 mod part;
 mod paths;
 mod two;

@@ -30,8 +30,8 @@ use std::io::Cursor;
 /// a part alone.
 #[derive(Drop)]
 pub struct PairCache<D: Disk> {
-    alloc: Global,
-    store: LruDiskCache<Two<D>>,
+    pub(crate) alloc: Global,
+    pub(crate) store: LruDiskCache<Two<D>>,
     pre_root: ByteText,
 }
 
