@@ -1,12 +1,12 @@
 -- What changes make of the files beside an index and open entries.
-use Rattle.std.proofs.Common.{◌≡◌, ◌≢◌, ℕ, zero, suc, ◌+◌, ◌-◌, ◌<◌, ◌≤◌, ◌^◌, Bool, true, false, cond, is_some, bytes_eq, List, [], ◌∷◌, ◌++◌, length, drop, slice_get, slice_index_or, option_map, Option, Some, None, refl, sym, ap, ◌∙◌, subst, arith}
+use Rattle.std.proofs.Common.{◌≡◌, ℕ, zero, suc, ◌<◌, ◌^◌, Bool, true, false, cond, is_some, bytes_eq, List, [], ◌∷◌, length, drop, slice_get, slice_index_or, option_map, Option, Some, None, refl, sym, ap, ◌∙◌, subst, arith}
 use Rattle.std.specs.FinMap as map
 use Rattle.std.specs.List.{IsDistinct}
 use Rattle.std.specs.Map.{keys_of, lookup, remove_entry}
 use Rattle.sc_lru.specs.Order.{touched}
 use Rattle.sc_disk.specs.Disks.{DiskFiles, change, disk_file, disk_file_at, with_disk_file}
 use Rattle.sc_disk.specs.Names.{is_temporary_path, temporary}
-use Rattle.sc_disk.specs.Store.{Agrees, AreKeys, HasFiles, HaveFiles, NoStray, filed}
+use Rattle.sc_disk.specs.Store.{Agrees, AreKeys, HasFiles, HaveFiles, filed}
 use Rattle.sc_disk.specs.declared.change.Change.{Change}
 use Rattle.sc_disk.specs.declared.change.Change.TheVariants.{Made, Added, Touched, Moved, Gone}
 use Rattle.sc_disk.specs.declared.disk_file.DiskFile.{DiskFile}
@@ -60,10 +60,10 @@ some-aside (Touched path now) f q a h = some_with f path _ q h
 some-aside (Moved from to) f q a h = absurd a
 some-aside (Gone path) f q a h = absurd a
 
-pub HasFiles-aside : (x : Change) (es : Index) (slots : Slots) (f : DiskFiles) → IsAside x → HasFiles es slots f → HasFiles es slots (change x f)
-HasFiles-aside x es slots f a h = record {
+pub HasFiles-aside : (d : Bool) (x : Change) (es : Index) (slots : Slots) (f : DiskFiles) → IsAside x → HasFiles d es slots f → HasFiles d es slots (change x f)
+HasFiles-aside d x es slots f a h = record {
   agrees = λ q t. ap (option_map size) (at-aside x f q a t) ∙ h.agrees q t;
-  temporaries = λ n e is. some-aside x f (temporary n) a (h.temporaries n e is);
+  temporaries = λ n e is. some-aside x f (temporary d e.key n) a (h.temporaries n e is);
 }
 
 -- without one key's file, and its pair
@@ -74,13 +74,13 @@ gone_agrees k es fs f on off g = λ q h. (elim (bytes_eq q k) as (λ y. bytes_eq
   | false ↦ λ u. ap (option_map size) (at-gone f k q u) ∙ g q h ∙ sym (off q u)
 ]) refl
 
-gone_temporaries : (k : List ℕ) (slots : Slots) (f : DiskFiles) → is_temporary_path k ≡ false → HaveFiles slots f → HaveFiles slots (change (Gone k) f)
-gone_temporaries k slots f key h = λ n e is. ap is_some (at-gone f k (temporary n) (apart-back (temporary n) k (temporary_is n) key)) ∙ h n e is
+gone_temporaries : (d : Bool) (k : List ℕ) (slots : Slots) (f : DiskFiles) → is_temporary_path k ≡ false → HaveFiles d slots f → HaveFiles d slots (change (Gone k) f)
+gone_temporaries d k slots f key h = λ n e is. ap is_some (at-gone f k (temporary d e.key n) (apart-back (temporary d e.key n) k (temporary_is d e.key n) key)) ∙ h n e is
 
-pub HasFiles-removed : (k : List ℕ) (es : Index) (slots : Slots) (f : DiskFiles) → is_temporary_path k ≡ false → IsDistinct bytes_eq (keys_of es) → HasFiles es slots f → HasFiles (remove_entry (bytes_eq k) es) slots (change (Gone k) f)
-HasFiles-removed k es slots f key d h = record {
+pub HasFiles-removed : (v : Bool) (k : List ℕ) (es : Index) (slots : Slots) (f : DiskFiles) → is_temporary_path k ≡ false → IsDistinct bytes_eq (keys_of es) → HasFiles v es slots f → HasFiles v (remove_entry (bytes_eq k) es) slots (change (Gone k) f)
+HasFiles-removed v k es slots f key d h = record {
   agrees = gone_agrees k es (remove_entry (bytes_eq k) es) f (λ q u. lookup-removed q k es u d) (λ q u. lookup-removed_other q k es u) h.agrees;
-  temporaries = gone_temporaries k slots f key h.temporaries;
+  temporaries = gone_temporaries v k slots f key h.temporaries;
 }
 
 not_found : (b : Bool) (v : ℕ) (o : Option ℕ) → b ≡ true → cond b (Some v) o ≡ None → ⊥
@@ -91,16 +91,16 @@ pub first_is_key : (e : List ℕ × ℕ) (es : Index) → AreKeys (e ∷ es) →
 first_is_key e es a true t = absurd (not_found (bytes_eq e.0 e.0) e.1 (lookup (bytes_eq e.0) es) (self_path e.0) (a e.0 t))
 first_is_key e es a false t = t
 
-pub HasFiles-first : (es : Index) (e : List ℕ × ℕ) (slots : Slots) (f : DiskFiles) → Some e ≡ slice_get es 0 → IsDistinct bytes_eq (keys_of es) → AreKeys es → HasFiles es slots f → HasFiles (drop 1 es) slots (change (Gone e.0) f)
-HasFiles-first [] e slots f is d a h = cc
-HasFiles-first (x ∷ es) e slots f is d a h =
+pub HasFiles-first : (v : Bool) (es : Index) (e : List ℕ × ℕ) (slots : Slots) (f : DiskFiles) → Some e ≡ slice_get es 0 → IsDistinct bytes_eq (keys_of es) → AreKeys es → HasFiles v es slots f → HasFiles v (drop 1 es) slots (change (Gone e.0) f)
+HasFiles-first v [] e slots f is d a h = cc
+HasFiles-first v (x ∷ es) e slots f is d a h =
     let k : x.0 ≡ e.0 = ap (λ (p : List ℕ × ℕ). p.0) (sym (by_some e x is)) in
-    let r : HasFiles es slots (change (Gone x.0) f) = record {
+    let r : HasFiles v es slots (change (Gone x.0) f) = record {
       agrees = gone_agrees x.0 (x ∷ es) es f (λ q u. ap (λ n. lookup (bytes_eq n) es) (same_path q x.0 u) ∙ absent_later x es d)
           (λ q u. sym (ap (λ b. cond b (Some x.1) (lookup (bytes_eq q) es)) u)) h.agrees;
-      temporaries = gone_temporaries x.0 slots f (first_is_key x es a (is_temporary_path x.0) refl) h.temporaries;
+      temporaries = gone_temporaries v x.0 slots f (first_is_key x es a (is_temporary_path x.0) refl) h.temporaries;
     } in
-    subst (λ n. HasFiles es slots (change (Gone n) f)) k r
+    subst (λ n. HasFiles v es slots (change (Gone n) f)) k r
   where
     by_some : (e x : List ℕ × ℕ) → Some e ≡ Some x → e ≡ x
     by_some e x h = cc
@@ -124,15 +124,15 @@ in_range (s ∷ slots) zero e is = omega arith
 in_range (s ∷ slots) (suc n) e is = omega (arith, in_range slots n e is)
 
 -- an open entry's temporary isn't that of a number that is closed
-other_temporary : (m : ℕ) (slots : Slots) (n : ℕ) (e : Pending) → m < 2 ^ 64 → length slots < 2 ^ 64 → slice_index_or slots m None ≡ None → slice_index_or slots n None ≡ Some e → bytes_eq (temporary n) (temporary m) ≡ false
-other_temporary m slots n e small short closed is = numbers-apart n m (omega (arith, in_range slots n e is, short)) small
+other_temporary : (v w : Bool) (k : List ℕ) (m : ℕ) (slots : Slots) (n : ℕ) (e : Pending) → m < 2 ^ 64 → length slots < 2 ^ 64 → slice_index_or slots m None ≡ None → slice_index_or slots n None ≡ Some e → bytes_eq (temporary v e.key n) (temporary w k m) ≡ false
+other_temporary v w k m slots n e small short closed is = numbers-apart v e.key n w k m (omega (arith, in_range slots n e is, short)) small
     (λ same. none_entry e (sym closed ∙ ap (λ i. slice_index_or slots i None) (sym same) ∙ is))
 
 -- a temporary goes whose entry is closed
-pub HasFiles-discarded : (m : ℕ) (es : Index) (slots : Slots) (f : DiskFiles) → m < 2 ^ 64 → length slots < 2 ^ 64 → slice_index_or slots m None ≡ None → HasFiles es slots f → HasFiles es slots (change (Gone (temporary m)) f)
-HasFiles-discarded m es slots f small short closed h = record {
-  agrees = λ q t. ap (option_map size) (at-gone f (temporary m) q (apart q (temporary m) t (temporary_is m))) ∙ h.agrees q t;
-  temporaries = λ n e is. ap is_some (at-gone f (temporary m) (temporary n) (other_temporary m slots n e small short closed is)) ∙ h.temporaries n e is;
+pub HasFiles-discarded : (v w : Bool) (k : List ℕ) (m : ℕ) (es : Index) (slots : Slots) (f : DiskFiles) → m < 2 ^ 64 → length slots < 2 ^ 64 → slice_index_or slots m None ≡ None → HasFiles v es slots f → HasFiles v es slots (change (Gone (temporary w k m)) f)
+HasFiles-discarded v w k m es slots f small short closed h = record {
+  agrees = λ q t. ap (option_map size) (at-gone f (temporary w k m) q (apart q (temporary w k m) t (temporary_is w k m))) ∙ h.agrees q t;
+  temporaries = λ n e is. ap is_some (at-gone f (temporary w k m) (temporary v e.key n) (other_temporary v w k m slots n e small short closed is)) ∙ h.temporaries n e is;
 }
 
 -- what a move gives
@@ -171,12 +171,12 @@ settled_agrees t k r now es f temp key d is g = λ q h.
 some_moved : (s t : List ℕ) (f : DiskFiles) (q : List ℕ) → bytes_eq q s ≡ false → is_some (disk_file_at f q) ≡ true → is_some (disk_file_at (change (Moved s t) f) q) ≡ true
 some_moved s t f q h is = some_with (map.remove f s) t (disk_file_at f s) q (ap is_some (at-gone f s q h) ∙ is)
 
-pub HasFiles-settled : (m : ℕ) (k : List ℕ) (r now : ℕ) (es : Index) (slots : Slots) (f : DiskFiles) → m < 2 ^ 64 → length slots < 2 ^ 64 → slice_index_or slots m None ≡ None → is_temporary_path k ≡ false → IsDistinct bytes_eq (keys_of es)
-    → option_map size (disk_file_at f (temporary m)) ≡ Some r → HasFiles es slots f → HasFiles (filed k r es) slots (change (Moved (temporary m) k) (change (Touched (temporary m) now) f))
-HasFiles-settled m k r now es slots f small short closed key d is h = record {
-  agrees = settled_agrees (temporary m) k r now es f (temporary_is m) key d is h.agrees;
-  temporaries = λ n e at. some_moved (temporary m) k (change (Touched (temporary m) now) f) (temporary n) (other_temporary m slots n e small short closed at)
-      (some-aside (Touched (temporary m) now) f (temporary n) (temporary_is m) (h.temporaries n e at));
+pub HasFiles-settled : (v w : Bool) (k0 : List ℕ) (m : ℕ) (k : List ℕ) (r now : ℕ) (es : Index) (slots : Slots) (f : DiskFiles) → m < 2 ^ 64 → length slots < 2 ^ 64 → slice_index_or slots m None ≡ None → is_temporary_path k ≡ false → IsDistinct bytes_eq (keys_of es)
+    → option_map size (disk_file_at f (temporary w k0 m)) ≡ Some r → HasFiles v es slots f → HasFiles v (filed k r es) slots (change (Moved (temporary w k0 m) k) (change (Touched (temporary w k0 m) now) f))
+HasFiles-settled v w k0 m k r now es slots f small short closed key d is h = record {
+  agrees = settled_agrees (temporary w k0 m) k r now es f (temporary_is w k0 m) key d is h.agrees;
+  temporaries = λ n e at. some_moved (temporary w k0 m) k (change (Touched (temporary w k0 m) now) f) (temporary v e.key n) (other_temporary v w k0 m slots n e small short closed at)
+      (some-aside (Touched (temporary w k0 m) now) f (temporary v e.key n) (temporary_is w k0 m) (h.temporaries n e at));
 }
 
 -- a use leaves each file's size
@@ -188,11 +188,11 @@ touched_size k now f q (Some x) e = ap (λ o. option_map size (disk_file_at (wit
       | false ↦ λ t. refl
     ]) refl
 
-pub HasFiles-touched : (k : List ℕ) (now : ℕ) (es : Index) (slots : Slots) (f : DiskFiles) → HasFiles es slots f → HasFiles es slots (change (Touched k now) f)
-HasFiles-touched k now es slots f h = record {
+pub HasFiles-touched : (v : Bool) (k : List ℕ) (now : ℕ) (es : Index) (slots : Slots) (f : DiskFiles) → HasFiles v es slots f → HasFiles v es slots (change (Touched k now) f)
+HasFiles-touched v k now es slots f h = record {
   agrees = λ q t. touched_size k now f q (disk_file_at f k) refl ∙ h.agrees q t;
-  temporaries = λ n e is. some_with f k (option_map (λ (z : DiskFile). disk_file now z.bytes) (disk_file_at f k)) (temporary n) (h.temporaries n e is);
+  temporaries = λ n e is. some_with f k (option_map (λ (z : DiskFile). disk_file now z.bytes) (disk_file_at f k)) (temporary v e.key n) (h.temporaries n e is);
 }
 
-pub HasFiles-used : (k : List ℕ) (es : Index) (slots : Slots) (f : DiskFiles) → IsDistinct bytes_eq (keys_of es) → HasFiles es slots f → HasFiles (touched (bytes_eq k) es) slots f
-HasFiles-used k es slots f d h = record { agrees = λ q t. h.agrees q t ∙ sym (lookup-touched q k es d); temporaries = h.temporaries }
+pub HasFiles-used : (v : Bool) (k : List ℕ) (es : Index) (slots : Slots) (f : DiskFiles) → IsDistinct bytes_eq (keys_of es) → HasFiles v es slots f → HasFiles v (touched (bytes_eq k) es) slots f
+HasFiles-used v k es slots f d h = record { agrees = λ q t. h.agrees q t ∙ sym (lookup-touched q k es d); temporaries = h.temporaries }

@@ -1,5 +1,5 @@
 -- Changes of a disk one after another.
-use Rattle.std.proofs.Common.{◌≡◌, ℕ, ◌≤◌, List, [], ◌∷◌, ◌++◌, Option, Some, None, option_map, refl, sym, ap, ◌∙◌, subst, arith, append_assoc}
+use Rattle.std.proofs.Common.{◌≡◌, List, [], ◌∷◌, ◌++◌, Option, Some, None, option_map, refl, sym, ap, ◌∙◌, subst, arith, append_assoc}
 use Rattle.sc_entry.specs.Causes.{IfTold}
 use Rattle.sc_disk.specs.Disks.{DiskFiles, DiskRecord, DiskState, Does, change, did_all, files_now, replay}
 use Rattle.sc_disk.specs.declared.change.Change.{Change}
@@ -13,10 +13,10 @@ did-after None b c xs ys p q = q ∙ ap (option_map (did_all ys)) p
 did-after (Some r) b c xs ys p q = q ∙ ap (option_map (did_all ys)) p ∙ ap (λ (l : List Change). Some (record { outside = r.outside; first = r.first; done = l })) (sym (append_assoc ys xs r.done))
 
 pub does-none : (d : DiskState) → Does [] d d
-does-none d = record { told = did-none d.told; faults = omega arith; root = refl }
+does-none d = record { told = did-none d.told; faults = omega arith; root = refl; divided = refl }
 
 pub does-after : (a b c : DiskState) (xs ys : List Change) → Does xs a b → Does ys b c → Does (ys ++ xs) a c
-does-after a b c xs ys p q = record { told = did-after a.told b.told c.told xs ys p.told q.told; faults = omega (arith, p.faults, q.faults); root = q.root ∙ p.root }
+does-after a b c xs ys p q = record { told = did-after a.told b.told c.told xs ys p.told q.told; faults = omega (arith, p.faults, q.faults); root = q.root ∙ p.root; divided = q.divided ∙ p.divided }
 
 pub does-then : (a b c : DiskState) (xs : List Change) (x : Change) → Does xs a b → Does (x ∷ []) b c → Does (x ∷ xs) a c
 does-then a b c xs x p q = does-after a b c xs (x ∷ []) p q

@@ -15,3 +15,4 @@ pub mod Sizes
 pub mod Placing
 pub mod Reopening
 pub mod Wholes
+pub mod Written

@@ -1,16 +1,14 @@
 -- The steps of a commit one after another.
-use Rattle.std.proofs.Common.{◌≡◌, ◌⊎◌, inl, inr, ℕ, zero, suc, ◌+◌, ◌-◌, ◌<◌, ◌≤◌, ◌^◌, min, max, Bool, true, false, List, [], ◌∷◌, ◌++◌, drop, Option, Some, None, Result, Ok, Err, IfErr, refl, sym, ap, ◌∙◌, subst, arith, append_assoc}
+use Rattle.std.proofs.Common.{◌≡◌, ◌⊎◌, inl, inr, ℕ, zero, suc, ◌+◌, ◌-◌, ◌<◌, ◌≤◌, max, Bool, true, false, List, [], ◌∷◌, ◌++◌, drop, Some, None, Result, Ok, Err, IfErr, refl, sym, ap, ◌∙◌, subst, arith}
 use Rattle.std.specs.Result.{IsErrAnd}
 use Rattle.slab.specs.Slab.{Slab, Updates, get}
 use Rattle.std.specs.Option.{option_map_or}
 use Rattle.sc_entry.specs.Causes.{Rose}
 use Rattle.sc_lru.specs.LruCache.{total}
-use Rattle.sc_disk.specs.Calls.{CommitCause, EvictsNone, Leftover, NeededFor, Places, RefusesCommit, RefusesPlace, Settles, Undoes, removed_by, touched_by}
+use Rattle.sc_disk.specs.Calls.{CommitCause, EvictsNone, NeededFor, Places, RefusesCommit, RefusesPlace, Settles, Undoes, removed_by, touched_by}
 use Rattle.sc_disk.specs.Disks.{DiskCause, DiskState, Does, IsSize}
-use Rattle.sc_disk.specs.Names.{temporary}
 use Rattle.sc_disk.specs.Refusals.{DiskRefusal, error_of}
-use Rattle.sc_disk.specs.Store.{AddEntry, Alters, Closes, Evicts, Fits, IsTidy, Needed, Store, declared, declared_at, filed, firsts, gone, indexed, others, reserved, size_of}
-use Rattle.sc_disk.specs.declared.change.Change.{Change}
+use Rattle.sc_disk.specs.Store.{AddEntry, Alters, Closes, Evicts, IsTidy, Needed, Store, declared, declared_at, filed, firsts, gone, indexed, others, reserved, size_of, temporary_of}
 use Rattle.sc_disk.specs.declared.change.Change.TheVariants.{Gone, Moved, Touched}
 use Rattle.sc_disk.specs.declared.disk.DiskError.{DiskError}
 use Rattle.sc_disk.specs.declared.disk.DiskError.TheVariants as disk_errors
@@ -18,7 +16,7 @@ use Rattle.sc_disk.specs.declared.error.Error.{Error}
 use Rattle.sc_disk.specs.declared.error.Error.TheVariants.{BadKey, FileNotInCache, FileTooLarge, Io, NoMemory, Reserved}
 use Rattle.sc_disk.specs.declared.pending.Pending.{Pending}
 use Rattle.sc_disk.proofs.Doing.{does-after, does-then}
-use Rattle.sc_disk.proofs.Tidying.{quiet-append, quiet-gone, quiet-touched, tidy-discarded}
+use Rattle.sc_disk.proofs.Tidying.{entry_path, quiet-append, quiet-gone, quiet-touched, tidy-discarded}
 
 -- what holds of a refusal holds where there is one
 pub if_err_and : {T E : Type 0} (r : Result T E) (Q P : E → Type 0) → IsErrAnd r Q → ((e : E) → Q e → P e) → IfErr r P
@@ -62,7 +60,7 @@ alters_twice a b c p q = record { index = q.index ∙ p.index; spare = omega (ar
 
 -- room was made for a temporary of r bytes, by the first n files
 pub record Room (e : AddEntry) (p : Pending) (r n : ℕ) (old d : Store) : Type 0 where
-  pub size : IsSize (temporary e.number) r old.disk
+  pub size : IsSize (temporary_of e) r old.disk
   pub fits : r + reserved old ≤ old.capacity
   pub needed : Needed (old.capacity - (reserved old + max r p.size)) n old.index
   pub evicts : Evicts n old d
@@ -77,7 +75,7 @@ no_more (x ∷ xs) = ap (λ l. x ∷ l) (no_more xs)
 limit_is : (capacity held unreserved wanted : ℕ) → unreserved + held ≡ capacity → unreserved - wanted ≡ capacity - (held + wanted)
 limit_is capacity held unreserved wanted h = omega (arith, h)
 
-pub made_room : (e : AddEntry) (p : Pending) (r n unreserved wanted : ℕ) (old b d : Store) → Alters [] old b → IsSize (temporary e.number) r old.disk → r + reserved old ≤ old.capacity
+pub made_room : (e : AddEntry) (p : Pending) (r n unreserved wanted : ℕ) (old b d : Store) → Alters [] old b → IsSize (temporary_of e) r old.disk → r + reserved old ≤ old.capacity
     → unreserved + reserved b ≡ b.capacity → wanted ≡ max r p.size → Evicts n b d → Needed (unreserved - wanted) n b.index → Room e p r n old d
 made_room e p r n unreserved wanted old b d a size fits free is k needed =
     let held : reserved b ≡ reserved old = ap (λ q. reserved_of q) a.pending in
@@ -96,13 +94,13 @@ made_room e p r n unreserved wanted old b d a size fits free is k needed =
     }
 
 -- nothing was done yet
-pub refused_early : (refused : Error) (e : AddEntry) (p : Pending) (now : ℕ) (old new : Store) → CommitCause refused (temporary e.number) (reserved old) old new.disk.faults → Alters [] old new → RefusesPlace refused e p now 0 false old new
+pub refused_early : (refused : Error) (e : AddEntry) (p : Pending) (now : ℕ) (old new : Store) → CommitCause refused (temporary_of e) (reserved old) old new.disk.faults → Alters [] old new → RefusesPlace refused e p now 0 false old new
 refused_early refused e p now old new cause a = record { cause = cause; none = evicts_none refused; evicted = inl refl; index = a.index; pending = a.pending; capacity = a.capacity; disk = a.disk }
 
 -- evictions were made
 pub refused_room : (refused : Error) (e : AddEntry) (p : Pending) (r n now before : ℕ) (old d : Store) → Room e p r n old d → old.disk.faults ≤ before → DiskRefusal before d.disk.faults refused → RefusesPlace refused e p now n false old d
 refused_room refused e p r n now before old d room later cause = record {
-  cause = commit_by_disk refused (temporary e.number) (reserved old) old d before d.disk.faults later (omega arith) cause;
+  cause = commit_by_disk refused (temporary_of e) (reserved old) old d before d.disk.faults later (omega arith) cause;
   none = evicts_by_disk refused before d.disk.faults n cause;
   evicted = inr (r, room.size, room.fits, room.needed);
   index = room.evicts.index;
@@ -112,16 +110,16 @@ refused_room refused e p r n now before old d room later cause = record {
 }
 
 -- and the temporary may have got its moment
-pub refused_settle : (refused : Error) (e : AddEntry) (p : Pending) (r n now : ℕ) (touches : Bool) (old d new : Store) → Room e p r n old d → Alters (touched_by touches (temporary e.number) now) d new
+pub refused_settle : (refused : Error) (e : AddEntry) (p : Pending) (r n now : ℕ) (touches : Bool) (old d new : Store) → Room e p r n old d → Alters (touched_by touches (temporary_of e) now) d new
     → DiskRefusal d.disk.faults new.disk.faults refused → RefusesPlace refused e p now n touches old new
 refused_settle refused e p r n now touches old d new room a cause = record {
-  cause = commit_by_disk refused (temporary e.number) (reserved old) old new d.disk.faults new.disk.faults room.evicts.disk.faults (omega arith) cause;
+  cause = commit_by_disk refused (temporary_of e) (reserved old) old new d.disk.faults new.disk.faults room.evicts.disk.faults (omega arith) cause;
   none = evicts_by_disk refused d.disk.faults new.disk.faults n cause;
   evicted = inr (r, room.size, room.fits, room.needed);
   index = a.index ∙ room.evicts.index;
   pending = a.pending ∙ room.evicts.pending;
   capacity = a.capacity ∙ room.evicts.capacity;
-  disk = does-after old.disk d.disk new.disk (gone (firsts n old.index)) (touched_by touches (temporary e.number) now) room.evicts.disk a.disk;
+  disk = does-after old.disk d.disk new.disk (gone (firsts n old.index)) (touched_by touches (temporary_of e) now) room.evicts.disk a.disk;
 }
 
 -- where all fit before, nothing went
@@ -148,7 +146,7 @@ placed e p r n now unreserved wanted old b d new room all a free is within s =
       index = s.index ∙ ap (filed p.key r) room.evicts.index;
       pending = s.pending ∙ room.evicts.pending;
       capacity = s.capacity ∙ room.evicts.capacity;
-      disk = does-after old.disk d.disk new.disk (gone (firsts n old.index)) (Moved (temporary e.number) p.key ∷ Touched (temporary e.number) now ∷ []) room.evicts.disk s.disk;
+      disk = does-after old.disk d.disk new.disk (gone (firsts n old.index)) (Moved (temporary_of e) p.key ∷ Touched (temporary_of e) now ∷ []) room.evicts.disk s.disk;
     }
 
 -- what an entry had declared
@@ -185,13 +183,13 @@ needed_for path held held2 size size2 n a c h z s k i (inr q) = inr (
 
 -- a removed temporary leaves no stray
 tidy_removed : (old mid late new : Store) (e : AddEntry) (p : Pending) (now n : ℕ) (touches removes : Bool) → removes ≡ true → Closes e p old mid → late.pending ≡ mid.pending
-    → Does (touched_by touches (temporary e.number) now ++ gone (firsts n mid.index)) mid.disk late.disk → Alters (removed_by removes (temporary e.number)) late new → IsTidy old → IsTidy new
+    → Does (touched_by touches (temporary_of e) now ++ gone (firsts n mid.index)) mid.disk late.disk → Alters (removed_by removes (temporary_of e)) late new → IsTidy old → IsTidy new
 tidy_removed old mid late new e p now n touches false t k same did u h = cc
-tidy_removed old mid late new e p now n touches true t k same did u h = tidy-discarded old.pending new.pending old.disk new.disk e.number (touched_by touches (temporary e.number) now ++ gone (firsts n mid.index))
+tidy_removed old mid late new e p now n touches true t k same did u h = tidy-discarded old.pending new.pending old.disk new.disk e.number p (temporary_of e) (touched_by touches (temporary_of e) now ++ gone (firsts n mid.index)) (entry_path e p old mid k) k.was
     (subst (λ (q : Slab Pending). Updates old.pending q e.number None) (sym (u.pending ∙ same)) k.closed.entry)
-    (quiet-append (touched_by touches (temporary e.number) now) (gone (firsts n mid.index)) (quiet-touched touches (temporary e.number) now) (quiet-gone (firsts n mid.index)))
-    (subst (λ (w : DiskState). Does (Gone (temporary e.number) ∷ (touched_by touches (temporary e.number) now ++ gone (firsts n mid.index))) w new.disk) k.disk
-    (does-then mid.disk late.disk new.disk (touched_by touches (temporary e.number) now ++ gone (firsts n mid.index)) (Gone (temporary e.number)) did u.disk)) h
+    (quiet-append (touched_by touches (temporary_of e) now) (gone (firsts n mid.index)) (quiet-touched touches (temporary_of e) now) (quiet-gone (firsts n mid.index)))
+    (subst (λ (w : DiskState). Does (Gone (temporary_of e) ∷ (touched_by touches (temporary_of e) now ++ gone (firsts n mid.index))) w new.disk) k.disk
+    (does-then mid.disk late.disk new.disk (touched_by touches (temporary_of e) now ++ gone (firsts n mid.index)) (Gone (temporary_of e)) did u.disk)) h
 
 pub refused_commit : (refused told : Error) (e : AddEntry) (p : Pending) (now n : ℕ) (touches removes : Bool) (old mid late new : Store) → Closes e p old mid → RefusesPlace refused e p now n touches mid late → Undoes refused told removes e late new
     → RefusesCommit told e now n touches removes old new
@@ -199,15 +197,15 @@ refused_commit refused told e p now n touches removes old mid late new k r u =
     let held = others_are e p old mid k in let size : p.size ≡ declared_at old e.number = sym (declared_is old e.number p k.was) in
     record {
       by_then = late.disk.faults;
-      cause = cause_told refused told (temporary e.number) (others old e.number) old late.disk.faults u.answer
-          (cause_since refused (temporary e.number) (reserved mid) (others old e.number) mid old late.disk.faults held k.disk k.capacity r.cause);
+      cause = cause_told refused told (temporary_of e) (others old e.number) old late.disk.faults u.answer
+          (cause_since refused (temporary_of e) (reserved mid) (others old e.number) mid old late.disk.faults held k.disk k.capacity r.cause);
       none = none_told refused told n u.answer r.none;
-      evicted = needed_for (temporary e.number) (reserved mid) (others old e.number) p.size (declared_at old e.number) n mid old held size k.disk k.capacity k.index r.evicted;
+      evicted = needed_for (temporary_of e) (reserved mid) (others old e.number) p.size (declared_at old e.number) n mid old held size k.disk k.capacity k.index r.evicted;
       index = u.alters.index ∙ r.index ∙ ap (drop n) k.index;
       removal = u.removal;
-      disk = subst (λ es. Does (removed_by removes (temporary e.number) ++ (touched_by touches (temporary e.number) now ++ gone (firsts n es))) old.disk new.disk) k.index
-          (subst (λ w. Does (removed_by removes (temporary e.number) ++ (touched_by touches (temporary e.number) now ++ gone (firsts n mid.index))) w new.disk) k.disk
-          (does-after mid.disk late.disk new.disk (touched_by touches (temporary e.number) now ++ gone (firsts n mid.index)) (removed_by removes (temporary e.number)) r.disk u.alters.disk));
+      disk = subst (λ es. Does (removed_by removes (temporary_of e) ++ (touched_by touches (temporary_of e) now ++ gone (firsts n es))) old.disk new.disk) k.index
+          (subst (λ w. Does (removed_by removes (temporary_of e) ++ (touched_by touches (temporary_of e) now ++ gone (firsts n mid.index))) w new.disk) k.disk
+          (does-after mid.disk late.disk new.disk (touched_by touches (temporary_of e) now ++ gone (firsts n mid.index)) (removed_by removes (temporary_of e)) r.disk u.alters.disk));
       tidy = λ t h. tidy_removed old mid late new e p now n touches removes t k r.pending r.disk u.alters h;
     }
 

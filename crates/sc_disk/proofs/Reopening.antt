@@ -1,5 +1,5 @@
 -- The steps of an opening.
-use Rattle.std.proofs.Common.{◌≡◌, ◌≢◌, ◌⊎◌, inl, inr, ℕ, zero, suc, ◌+◌, ◌-◌, ◌<◌, ◌≤◌, Bool, true, false, cond, not, ◌&&◌, nat_le, is_some, bytes_eq, List, [], ◌∷◌, ◌++◌, length, map, drop, take, slice_index_or, option_map, Option, Some, None, refl, sym, ap, ◌∙◌, subst, arith, append_assoc, length-append}
+use Rattle.std.proofs.Common.{◌≡◌, inl, inr, ℕ, zero, suc, ◌+◌, ◌-◌, ◌<◌, ◌≤◌, Bool, true, false, cond, not, ◌&&◌, nat_le, is_some, bytes_eq, List, [], ◌∷◌, ◌++◌, length, map, drop, slice_index_or, option_map, Option, Some, None, refl, sym, ap, ◌∙◌, subst, arith, append_assoc, length-append}
 use native.Mathlib.Decide.{dec_lt}
 use lib.Dec.{T}
 use Rattle.std.proofs.lemmas.Bool.Decides.{nat_tests}
@@ -20,21 +20,21 @@ use Rattle.std.specs.declared.cmp.Ordering.TheVariants.{Less, Equal, Greater}
 use Rattle.sc_entry.specs.Causes.{IfTold}
 use Rattle.sc_lru.proofs.Measures.{suffix_within-fits, suffix_within-over, total-cons, total-push}
 use Rattle.sc_lru.specs.LruCache.{suffix_within, total}
-use Rattle.sc_disk.specs.Disks.{DiskFiles, DiskRecord, DiskState, Does, IsListing, change, did_all, disk_file_at, files_now, listing, replay}
+use Rattle.sc_disk.specs.Disks.{DiskFiles, DiskRecord, DiskState, Does, IsListing, change, disk_file_at, files_now, listing, replay}
 use Rattle.sc_disk.specs.Names.{is_temporary_path}
-use Rattle.sc_disk.specs.Opening.{Begins, Follows, Indexes, IsReopened, IsUseOrder, RefusesOpening, Reopens, dropped_of, is_kept, kept_of, pair_of, pairs_of, paths_of, use_cmp}
-use Rattle.sc_disk.specs.Store.{AreKeys, Fits, HasFiles, Keeps, Needed, NoStray, filed, firsts, gone, size_of}
+use Rattle.sc_disk.specs.Opening.{Begins, Follows, Indexes, IsReopened, RefusesOpening, Reopens, dropped_of, is_kept, kept_of, pair_of, pairs_of, paths_of, use_cmp}
+use Rattle.sc_disk.specs.Store.{AreKeys, HasFiles, Keeps, Needed, NoStray, filed, firsts, gone, size_of}
 use Rattle.sc_disk.specs.declared.change.Change.{Change}
 use Rattle.sc_disk.specs.declared.change.Change.TheVariants.{Gone}
 use Rattle.sc_disk.specs.declared.disk.Listed.{Listed}
 use Rattle.sc_disk.specs.declared.disk_file.DiskFile.{DiskFile}
 use Rattle.sc_disk.specs.declared.pending.Pending.{Pending}
 use Rattle.sc_disk.proofs.Changing.{AreKeys-first, at-gone, size}
-use Rattle.sc_disk.proofs.Doing.{does-after, replay-append, told-all, told-both, told-map, told-still}
+use Rattle.sc_disk.proofs.Doing.{does-after, replay-append, told-all, told-map}
 use Rattle.sc_disk.proofs.Evictions.{gone-append}
 use Rattle.sc_disk.proofs.Files.{at-removed, same_path}
 use Rattle.sc_disk.proofs.Names.{both, not-true}
-use Rattle.sc_disk.proofs.Pairs.{Index, lookup-later, pair, removed-none}
+use Rattle.sc_disk.proofs.Pairs.{Index, lookup-later, removed-none}
 
 -- the files are these, of these sizes, and no others
 pub record AreFiles (all : Index) (f : DiskFiles) : Type 0 where
@@ -400,19 +400,19 @@ none_some None h s = cc
 none_some (Some x) h s = cc
 
 -- once all is indexed, the files are the indexed ones
-opened_files : (es : Index) (f : DiskFiles) → AreFiles es f → HasFiles es [] f
-opened_files es f w = record { agrees = λ q t. w.same q; temporaries = λ n e is. absurd (no_open e n is) }
+opened_files : (v : Bool) (es : Index) (f : DiskFiles) → AreFiles es f → HasFiles v es [] f
+opened_files v es f w = record { agrees = λ q t. w.same q; temporaries = λ n e is. absurd (no_open e n is) }
 
-opened_tidy : (es : Index) (f : DiskFiles) → AreKeys es → AreFiles es f → NoStray [] f
-opened_tidy es f keys w = λ q t some. absurd (none_some (disk_file_at f q) (w.same q ∙ keys q t) some)
+opened_tidy : (v : Bool) (es : Index) (f : DiskFiles) → AreKeys es → AreFiles es f → NoStray v [] f
+opened_tidy v es f keys w = λ q t some. absurd (none_some (disk_file_at f q) (w.same q ∙ keys q t) some)
 
-pub told_files : (capacity : ℕ) (es : Index) (old new : DiskState) → Reopens capacity es old new → IfTold new.told (λ r. HasFiles es [] (files_now r))
+pub told_files : (capacity : ℕ) (es : Index) (old new : DiskState) → Reopens capacity es old new → IfTold new.told (λ r. HasFiles new.divided es [] (files_now r))
 unfolding Reopens
-told_files capacity es old new o = told-all old new (gone o.0) (Indexes capacity es o.0) (HasFiles es []) o.1 (λ f i. opened_files es (replay f (gone o.0)) (files_indexed capacity es o.0 f i)) o.2
+told_files capacity es old new o = told-all old new (gone o.0) (Indexes capacity es o.0) (HasFiles new.divided es []) o.1 (λ f i. opened_files new.divided es (replay f (gone o.0)) (files_indexed capacity es o.0 f i)) o.2
 
-pub told_tidy : (capacity : ℕ) (es : Index) (old new : DiskState) → AreKeys es → Reopens capacity es old new → IfTold new.told (λ r. NoStray [] (files_now r))
+pub told_tidy : (capacity : ℕ) (es : Index) (old new : DiskState) → AreKeys es → Reopens capacity es old new → IfTold new.told (λ r. NoStray new.divided [] (files_now r))
 unfolding Reopens
-told_tidy capacity es old new keys o = told-all old new (gone o.0) (Indexes capacity es o.0) (NoStray []) o.1 (λ f i. opened_tidy es (replay f (gone o.0)) keys (files_indexed capacity es o.0 f i)) o.2
+told_tidy capacity es old new keys o = told-all old new (gone o.0) (Indexes capacity es o.0) (NoStray new.divided []) o.1 (λ f i. opened_tidy new.divided es (replay f (gone o.0)) keys (files_indexed capacity es o.0 f i)) o.2
 
 pub told_reopened : (capacity : ℕ) (es : Index) (old new : DiskState) → Reopens capacity es old new → IfTold old.told (λ r. IsReopened capacity (files_now r) es)
 unfolding IsReopened Reopens
@@ -478,8 +478,8 @@ pub indexed_none : (capacity : ℕ) (all : List Listed) → Indexed capacity all
 indexed_none capacity all = λ d. (0, record { within = omega arith; needed = λ m h. absurd (omega arith); index = refl; removed = refl })
 
 -- what a store keeps that was just opened
-pub opened_keeps : (capacity bound : ℕ) (es : Index) (slots : List (Option Pending)) (old new : DiskState) → slots ≡ [] → bound ≡ capacity → total size_of es ≤ capacity → AreKeys es → Reopens capacity es old new → Keeps es bound slots 0 capacity new.told
-opened_keeps capacity bound es slots old new none limit fits keys o = subst (λ (s : List (Option Pending)). Keeps es bound s 0 capacity new.told) (sym none) (record {
+pub opened_keeps : (capacity bound : ℕ) (es : Index) (slots : List (Option Pending)) (old new : DiskState) → slots ≡ [] → bound ≡ capacity → total size_of es ≤ capacity → AreKeys es → Reopens capacity es old new → Keeps es bound slots 0 capacity new
+opened_keeps capacity bound es slots old new none limit fits keys o = subst (λ (s : List (Option Pending)). Keeps es bound s 0 capacity new) (sym none) (record {
   reserved = refl;
   limit = limit;
   fits = omega (arith, fits);

@@ -1,21 +1,29 @@
 -- No temporary stands about whose entry isn't open.
-use Rattle.std.proofs.Common.{◌≡◌, ◌≢◌, ◌⊎◌, inl, inr, ℕ, Bool, true, false, cond, is_some, bytes_eq, List, [], ◌∷◌, ◌++◌, take, slice_index_or, option_map, Option, Some, None, refl, sym, ap, ◌∙◌, subst}
+use Rattle.std.proofs.Common.{◌≡◌, inl, inr, ℕ, Bool, true, false, cond, is_some, bytes_eq, List, [], ◌∷◌, ◌++◌, take, slice_index_or, option_map, Option, Some, None, refl, sym, ap, ◌∙◌, subst}
 use Rattle.std.specs.FinMap as map
 use Rattle.slab.specs.Slab.{Slab, Updates, get}
 use Rattle.sc_entry.specs.Causes.{IfTold}
 use Rattle.sc_disk.specs.Disks.{AdoptsPart, DiskFiles, DiskState, Does, DoesPart, change, disk_file, disk_file_at, files_now, replay, with_disk_file}
 use Rattle.sc_disk.specs.Names.{is_temporary_path, temporary}
-use Rattle.sc_disk.specs.Store.{Alters, IsTidy, NoStray, Store, gone}
+use Rattle.sc_disk.specs.Store.{AddEntry, Alters, Closes, IsTidy, NoStray, Store, gone, temporary_of}
 use Rattle.sc_disk.specs.Calls.{touched_by}
 use Rattle.sc_disk.specs.declared.change.Change.{Change}
 use Rattle.sc_disk.specs.declared.change.Change.TheVariants.{Made, Added, Touched, Moved, Gone}
 use Rattle.sc_disk.specs.declared.disk_file.DiskFile.{DiskFile}
 use Rattle.sc_disk.specs.declared.pending.Pending.{Pending}
 use Rattle.sc_disk.proofs.Changing.{Slots, at-with}
-use Rattle.sc_disk.proofs.Doing.{replay-append, told-all, told-map}
+use Rattle.sc_disk.proofs.Doing.{told-all}
 use Rattle.sc_disk.proofs.Files.{at-insert, at-removed, same_path, self_path}
 use Rattle.sc_disk.proofs.Keeping.{by_place, no_entry}
 use Rattle.sc_disk.proofs.Temporaries.{apart-back, temporary_is}
+
+-- no temporary stands about on the disk whose entry isn't among these
+abbrev pub Tidy : Slots → DiskState → Type 0
+Tidy slots d = IfTold d.told (λ r. NoStray d.divided slots (files_now r))
+
+-- the same of a disk that is divided as before
+tidy_divided : (slots : Slots) (old new : DiskState) → new.divided ≡ old.divided → IfTold new.told (λ r. NoStray old.divided slots (files_now r)) → Tidy slots new
+tidy_divided slots old new same h = subst (λ (v : Bool). IfTold new.told (λ r. NoStray v slots (files_now r))) (sym same) h
 
 -- a change that brings no temporary
 abbrev pub IsQuiet : Change → Type 0
@@ -60,45 +68,50 @@ some_quiet (Touched path now) f q a t h = some_changed (λ file. disk_file now f
 some_quiet (Moved from to) f q a t h = some_moved_back f from to q (disk_file_at f from) (apart-back q to t a) h
 some_quiet (Gone path) f q a t h = some_cut (bytes_eq q path) (disk_file_at f q) (ap is_some (sym (at-removed f path q)) ∙ h)
 
-stray-quiet : (xs : List Change) (slots : Slots) (f : DiskFiles) → AllQuiet xs → NoStray slots f → NoStray slots (replay f xs)
-stray-quiet [] slots f a h = h
-stray-quiet (x ∷ xs) slots f a h = λ q t some. stray-quiet xs slots f a.1 h q t (some_quiet x (replay f xs) q a.0 t some)
+stray-quiet : (v : Bool) (xs : List Change) (slots : Slots) (f : DiskFiles) → AllQuiet xs → NoStray v slots f → NoStray v slots (replay f xs)
+stray-quiet v [] slots f a h = h
+stray-quiet v (x ∷ xs) slots f a h = λ q t some. stray-quiet v xs slots f a.1 h q t (some_quiet x (replay f xs) q a.0 t some)
 
-pub tidy-quiet : (slots : Slots) (old new : DiskState) (xs : List Change) → AllQuiet xs → Does xs old new → IfTold old.told (λ r. NoStray slots (files_now r)) → IfTold new.told (λ r. NoStray slots (files_now r))
-tidy-quiet slots old new xs a is h = told-all old new xs (NoStray slots) (NoStray slots) is (λ f. stray-quiet xs slots f a) h
+pub tidy-quiet : (slots : Slots) (old new : DiskState) (xs : List Change) → AllQuiet xs → Does xs old new → Tidy slots old → Tidy slots new
+tidy-quiet slots old new xs a is h = tidy_divided slots old new is.divided (told-all old new xs (NoStray old.divided slots) (NoStray old.divided slots) is (λ f. stray-quiet old.divided xs slots f a) h)
 
-pub tidy-part : (slots : Slots) (old new : DiskState) (path bytes : List ℕ) → DoesPart path bytes old new → IfTold old.told (λ r. NoStray slots (files_now r)) → IfTold new.told (λ r. NoStray slots (files_now r))
+pub tidy-part : (slots : Slots) (old new : DiskState) (path bytes : List ℕ) → DoesPart path bytes old new → Tidy slots old → Tidy slots new
 tidy-part slots old new path bytes (inl same) h = tidy-quiet slots old new [] tt same h
 tidy-part slots old new path bytes (inr part) h = tidy-quiet slots old new (Added path (take part.0 bytes) ∷ []) (tt, tt) part.1 h
 
-pub tidy-adopted : (slots : Slots) (old new : DiskState) (outside path : List ℕ) → AdoptsPart outside path old new → IfTold old.told (λ r. NoStray slots (files_now r)) → IfTold new.told (λ r. NoStray slots (files_now r))
+pub tidy-adopted : (slots : Slots) (old new : DiskState) (outside path : List ℕ) → AdoptsPart outside path old new → Tidy slots old → Tidy slots new
 tidy-adopted slots old new outside path (inl same) h = tidy-quiet slots old new [] tt same h
 tidy-adopted slots old new outside path (inr part) h = tidy-part slots old new path part.0 part.2 h
 
-stray-made : (old new : Slab Pending) (n : ℕ) (e : Pending) (now : ℕ) (f : DiskFiles) → get old n ≡ None → Updates old new n (Some e) → NoStray old.slots f → NoStray new.slots (change (Made (temporary n) now) f)
-stray-made old new n e now f free u h = λ q t some. by q t (bytes_eq q (temporary n)) refl (ap is_some (sym (at-insert f (temporary n) (disk_file now []) q)) ∙ some)
+stray-made : (v : Bool) (old new : Slab Pending) (n : ℕ) (e : Pending) (t : List ℕ) (now : ℕ) (f : DiskFiles) → t ≡ temporary v e.key n → get old n ≡ None → Updates old new n (Some e) → NoStray v old.slots f → NoStray v new.slots (change (Made t now) f)
+stray-made v old new n e t now f at free u h = λ q temp some. by q temp (bytes_eq q t) refl (ap is_some (sym (at-insert f t (disk_file now []) q)) ∙ some)
   where
     other_open : (m : ℕ) (d : Pending) → get old m ≡ Some d → get new m ≡ Some d
-    other_open m d at = by_place m n (get new m ≡ Some d) (λ off. u.others m off ∙ at) (λ same. absurd (no_entry d (sym free ∙ ap (get old) (sym same) ∙ at)))
+    other_open m d is = by_place m n (get new m ≡ Some d) (λ off. u.others m off ∙ is) (λ same. absurd (no_entry d (sym free ∙ ap (get old) (sym same) ∙ is)))
 
-    by : (q : List ℕ) → is_temporary_path q ≡ true → (b : Bool) → bytes_eq q (temporary n) ≡ b → is_some (cond b (Some (disk_file now [])) (disk_file_at f q)) ≡ true → (m : ℕ) × (d : Pending) × (slice_index_or new.slots m None ≡ Some d) × (q ≡ temporary m)
-    by q t true is some = (n, e, u.changed, same_path q (temporary n) is)
-    by q t false is some = let was = h q t some in (was.0, was.1, other_open was.0 was.1 was.2, was.3)
+    by : (q : List ℕ) → is_temporary_path q ≡ true → (b : Bool) → bytes_eq q t ≡ b → is_some (cond b (Some (disk_file now [])) (disk_file_at f q)) ≡ true → (m : ℕ) × (d : Pending) × (slice_index_or new.slots m None ≡ Some d) × (q ≡ temporary v d.key m)
+    by q temp true is some = (n, e, u.changed, same_path q t is ∙ at)
+    by q temp false is some = let was = h q temp some in (was.0, was.1, other_open was.0 was.1 was.2, was.3)
 
-pub tidy-opened : (old new : Slab Pending) (d0 d1 : DiskState) (n : ℕ) (e : Pending) (now : ℕ) (xs : List Change) → get old n ≡ None → Updates old new n (Some e) → AllQuiet xs → Does (Made (temporary n) now ∷ xs) d0 d1
-    → IfTold d0.told (λ r. NoStray old.slots (files_now r)) → IfTold d1.told (λ r. NoStray new.slots (files_now r))
-tidy-opened old new d0 d1 n e now xs free u a is h = told-all d0 d1 (Made (temporary n) now ∷ xs) (NoStray old.slots) (NoStray new.slots) is
-    (λ f g. stray-made old new n e now (replay f xs) free u (stray-quiet xs old.slots f a g)) h
+pub tidy-opened : (old new : Slab Pending) (d0 d1 : DiskState) (n : ℕ) (e : Pending) (t : List ℕ) (now : ℕ) (xs : List Change) → t ≡ temporary d0.divided e.key n → get old n ≡ None → Updates old new n (Some e) → AllQuiet xs
+    → Does (Made t now ∷ xs) d0 d1 → Tidy old.slots d0 → Tidy new.slots d1
+tidy-opened old new d0 d1 n e t now xs at free u a is h = let v = d0.divided in tidy_divided new.slots d0 d1 is.divided (told-all d0 d1 (Made t now ∷ xs) (NoStray v old.slots) (NoStray v new.slots) is
+    (λ f g. stray-made v old new n e t now (replay f xs) at free u (stray-quiet v xs old.slots f a g)) h)
 
 true_false : true ≡ false → ⊥
 true_false e = cc
 
-stray-closed : (old new : Slab Pending) (m : ℕ) (f : DiskFiles) → Updates old new m None → is_some (disk_file_at f (temporary m)) ≡ false → NoStray old.slots f → NoStray new.slots f
-stray-closed old new m f u away h = λ q t some. let was = h q t some in (
+same_entry : (d e : Pending) → Some d ≡ Some e → d ≡ e
+same_entry d e h = cc
+
+-- where an entry was closed, its temporary is away
+stray-closed : (v : Bool) (old new : Slab Pending) (m : ℕ) (e : Pending) (t : List ℕ) (f : DiskFiles) → t ≡ temporary v e.key m → get old m ≡ Some e → Updates old new m None → is_some (disk_file_at f t) ≡ false → NoStray v old.slots f → NoStray v new.slots f
+stray-closed v old new m e t f at open_at u away h = λ q temp some. let was = h q temp some in (
   was.0,
   was.1,
   by_place was.0 m (get new was.0 ≡ Some was.1) (λ off. u.others was.0 off ∙ was.2)
-      (λ same. absurd (true_false (sym some ∙ ap (λ p. is_some (disk_file_at f p)) (was.3 ∙ ap temporary same) ∙ away))),
+      (λ same. let is : was.1 ≡ e = same_entry was.1 e (sym was.2 ∙ ap (get old) same ∙ open_at) in
+      absurd (true_false (sym some ∙ ap (λ p. is_some (disk_file_at f p)) (was.3 ∙ (λ i. temporary v (is i).key (same i)) ∙ sym at) ∙ away))),
   was.3,
 )
 
@@ -108,19 +121,23 @@ gone_away f t = ap is_some (at-removed f t t ∙ ap (λ b. cond b None (disk_fil
 moved_away : (f : DiskFiles) (t k : List ℕ) → bytes_eq t k ≡ false → is_some (disk_file_at (change (Moved t k) f) t) ≡ false
 moved_away f t k off = ap is_some (at-with (map.remove f t) k (disk_file_at f t) t off ∙ at-removed f t t ∙ ap (λ b. cond b None (disk_file_at f t)) (self_path t))
 
-pub tidy-discarded : (old new : Slab Pending) (d0 d1 : DiskState) (m : ℕ) (xs : List Change) → Updates old new m None → AllQuiet xs → Does (Gone (temporary m) ∷ xs) d0 d1
-    → IfTold d0.told (λ r. NoStray old.slots (files_now r)) → IfTold d1.told (λ r. NoStray new.slots (files_now r))
-tidy-discarded old new d0 d1 m xs u a is h = told-all d0 d1 (Gone (temporary m) ∷ xs) (NoStray old.slots) (NoStray new.slots) is
-    (λ f g. stray-closed old new m (replay f (Gone (temporary m) ∷ xs)) u (gone_away (replay f xs) (temporary m)) (stray-quiet (Gone (temporary m) ∷ xs) old.slots f (tt, a) g)) h
+pub tidy-discarded : (old new : Slab Pending) (d0 d1 : DiskState) (m : ℕ) (e : Pending) (t : List ℕ) (xs : List Change) → t ≡ temporary d0.divided e.key m → get old m ≡ Some e → Updates old new m None → AllQuiet xs
+    → Does (Gone t ∷ xs) d0 d1 → Tidy old.slots d0 → Tidy new.slots d1
+tidy-discarded old new d0 d1 m e t xs at was u a is h = let v = d0.divided in tidy_divided new.slots d0 d1 is.divided (told-all d0 d1 (Gone t ∷ xs) (NoStray v old.slots) (NoStray v new.slots) is
+    (λ f g. stray-closed v old new m e t (replay f (Gone t ∷ xs)) at was u (gone_away (replay f xs) t) (stray-quiet v (Gone t ∷ xs) old.slots f (tt, a) g)) h)
 
-pub tidy-moved : (old new : Slab Pending) (d0 d1 : DiskState) (m : ℕ) (k : List ℕ) (xs : List Change) → Updates old new m None → is_temporary_path k ≡ false → AllQuiet xs → Does (Moved (temporary m) k ∷ xs) d0 d1
-    → IfTold d0.told (λ r. NoStray old.slots (files_now r)) → IfTold d1.told (λ r. NoStray new.slots (files_now r))
-tidy-moved old new d0 d1 m k xs u key a is h = told-all d0 d1 (Moved (temporary m) k ∷ xs) (NoStray old.slots) (NoStray new.slots) is
-    (λ f g. stray-closed old new m (replay f (Moved (temporary m) k ∷ xs)) u (moved_away (replay f xs) (temporary m) k (apart-back (temporary m) k (temporary_is m) key)) (stray-quiet (Moved (temporary m) k ∷ xs) old.slots f (key, a) g)) h
+pub tidy-moved : (old new : Slab Pending) (d0 d1 : DiskState) (m : ℕ) (e : Pending) (t k : List ℕ) (xs : List Change) → t ≡ temporary d0.divided e.key m → get old m ≡ Some e → Updates old new m None → is_temporary_path k ≡ false → AllQuiet xs
+    → Does (Moved t k ∷ xs) d0 d1 → Tidy old.slots d0 → Tidy new.slots d1
+tidy-moved old new d0 d1 m e t k xs at was u key a is h = let v = d0.divided in tidy_divided new.slots d0 d1 is.divided (told-all d0 d1 (Moved t k ∷ xs) (NoStray v old.slots) (NoStray v new.slots) is
+    (λ f g. stray-closed v old new m e t (replay f (Moved t k ∷ xs)) at was u (moved_away (replay f xs) t k (apart-back t k (ap is_temporary_path at ∙ temporary_is v e.key m) key)) (stray-quiet v (Moved t k ∷ xs) old.slots f (key, a) g)) h)
+
+-- where a closed entry's temporary stood
+pub entry_path : (e : AddEntry) (p : Pending) (old mid : Store) → Closes e p old mid → temporary_of e ≡ temporary old.disk.divided p.key e.number
+entry_path e p old mid k = λ i. temporary (k.divided i) (sym k.key i) e.number
 
 -- the same open entries
-pub tidy-same : (slots slots2 : Slots) (d : DiskState) → slots2 ≡ slots → IfTold d.told (λ r. NoStray slots (files_now r)) → IfTold d.told (λ r. NoStray slots2 (files_now r))
-tidy-same slots slots2 d is h = subst (λ (s : Slots). IfTold d.told (λ r. NoStray s (files_now r))) (sym is) h
+pub tidy-same : (slots slots2 : Slots) (d : DiskState) → slots2 ≡ slots → Tidy slots d → Tidy slots2 d
+tidy-same slots slots2 d is h = subst (λ (s : Slots). Tidy s d) (sym is) h
 
 pub quiet-touched : (b : Bool) (path : List ℕ) (now : ℕ) → AllQuiet (touched_by b path now)
 quiet-touched true path now = (tt, tt)
@@ -130,4 +147,4 @@ pub tidy-alters : (old new : Store) (xs : List Change) → AllQuiet xs → Alter
 tidy-alters old new xs q a h = tidy-same old.pending.slots new.pending.slots new.disk (ap (λ p. p.slots) a.pending) (tidy-quiet old.pending.slots old.disk new.disk xs q a.disk h)
 
 pub tidy-as : (old new : Store) → new.pending ≡ old.pending → new.disk ≡ old.disk → IsTidy old → IsTidy new
-tidy-as old new p d h = tidy-same old.pending.slots new.pending.slots new.disk (ap (λ q. q.slots) p) (subst (λ (w : DiskState). IfTold w.told (λ r. NoStray old.pending.slots (files_now r))) (sym d) h)
+tidy-as old new p d h = tidy-same old.pending.slots new.pending.slots new.disk (ap (λ q. q.slots) p) (subst (λ (w : DiskState). Tidy old.pending.slots w) (sym d) h)

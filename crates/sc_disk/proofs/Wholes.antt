@@ -1,14 +1,13 @@
 -- An entry is opened, filled, and committed or given up.
-use Rattle.std.proofs.Common.{◌≡◌, ◌≢◌, ◌⊎◌, inl, inr, ℕ, ◌+◌, ◌-◌, ◌≤◌, max, Bool, true, false, cond, bytes_eq, List, [], ◌∷◌, ◌++◌, length, drop, option_map, Option, Some, None, Result, Ok, Err, IfErr, OnOk, refl, sym, ap, ◌∙◌, subst, arith, append_assoc}
-use Rattle.std.specs.FinMap as map
+use Rattle.std.proofs.Common.{◌≡◌, ℕ, ◌+◌, ◌-◌, max, Bool, true, false, cond, List, [], ◌∷◌, ◌++◌, length, drop, option_map, Option, Some, None, Result, Ok, Err, IfErr, OnOk, sym, ap, ◌∙◌, subst, arith, append_assoc}
 use Rattle.std.specs.Option.{option_map_or}
 use Rattle.slab.specs.Slab.{Slab, Updates, get}
 use Rattle.sc_entry.specs.Causes.{IfTold}
-use Rattle.sc_disk.specs.Calls.{Commits, Leftover, Prepares, RefusesAdd, Undoes, removed_by}
+use Rattle.sc_disk.specs.Calls.{Commits, Leftover, Prepares, Undoes, removed_by}
 use Rattle.sc_disk.specs.Disks.{DiskFiles, DiskRecord, DiskState, Does, HasOutside, change, did_all, disk_file, disk_file_at, files_now, outside_file_at, replay, with_disk_file}
 use Rattle.sc_disk.specs.Inserting.{Fills, GivesUp, Inserts, added, content}
 use Rattle.sc_disk.specs.Names.{temporary}
-use Rattle.sc_disk.specs.Store.{AddEntry, Alters, Closed, Closes, Fits, IsOpen, IsTidy, SameEntries, Store, declared, declared_at, filed, firsts, gone, others, reserved}
+use Rattle.sc_disk.specs.Store.{AddEntry, Alters, Closed, Closes, Fits, IsTidy, SameEntries, Store, declared, declared_at, filed, firsts, gone, others, reserved, temporary_of}
 use Rattle.sc_disk.specs.declared.change.Change.{Change}
 use Rattle.sc_disk.specs.declared.change.Change.TheVariants.{Added, Gone, Made, Moved, Touched}
 use Rattle.sc_disk.specs.declared.disk_file.DiskFile.{DiskFile}
@@ -18,7 +17,7 @@ use Rattle.sc_disk.proofs.Changing.{size}
 use Rattle.sc_disk.proofs.Doing.{does-after, replay-append}
 use Rattle.sc_disk.proofs.Files.{at-insert, self_path}
 use Rattle.sc_disk.proofs.Keeping.{by_place}
-use Rattle.sc_disk.proofs.Tidying.{tidy-discarded}
+use Rattle.sc_disk.proofs.Tidying.{entry_path, tidy-discarded}
 
 -- The size of a temporary that was made and filled.
 made_at : (t : List ℕ) (now : ℕ) (f : DiskFiles) → disk_file_at (change (Made t now) f) t ≡ Some (disk_file now [])
@@ -61,7 +60,7 @@ reserved_closed e k size now n old mid full new p same c = let d = declared_full
 
 pub inserted : (e : AddEntry) (k : List ℕ) (pieces : List (List ℕ)) (size now n r m : ℕ) (old mid full new : Store) → Prepares e k size now n old mid → Fills e pieces mid full → Commits e r now m full new → Inserts k pieces size now e.number n r m old new
 inserted e k pieces size now n r m old mid full new p f c =
-    let t = temporary e.number in
+    let t = temporary_of e in
     let d = declared_full e k size now n old mid full p f.pending in let all = reserved_full e k size now n old mid full p f.pending in
     let held : others full e.number ≡ reserved old = omega (arith, d, all) in
     let capacity : full.capacity ≡ old.capacity = f.capacity ∙ p.capacity in
@@ -79,8 +78,9 @@ inserted e k pieces size now n r m old mid full new p f c =
       evicted_more = subst (λ (l : ℕ). Fits l m (drop n old.index)) (λ j. capacity j - (held j + max r (d j))) (subst (λ es. Fits (full.capacity - (others full e.number + max r (declared_at full e.number))) m es) index c.evicted);
       none = λ h. c.none (omega (arith, h, d));
       index = c.index ∙ (λ j. filed (p.key j) r (drop m (index j)));
-      disk = subst (λ (q : List ℕ). Does (Moved t q ∷ Touched t now ∷ (gone (firsts m (drop n old.index)) ++ before)) old.disk new.disk) p.key
-          (subst (λ es. Does (Moved t e.key ∷ Touched t now ∷ (gone (firsts m es) ++ before)) old.disk new.disk) index did);
+      disk = subst (λ (q : List ℕ). Does (Moved q k ∷ Touched q now ∷ (gone (firsts m (drop n old.index)) ++ (added q pieces ++ (Made q now ∷ gone (firsts n old.index))))) old.disk new.disk) (λ i. temporary (p.divided i) (p.key i) e.number)
+          (subst (λ (q : List ℕ). Does (Moved t q ∷ Touched t now ∷ (gone (firsts m (drop n old.index)) ++ before)) old.disk new.disk) p.key
+          (subst (λ es. Does (Moved t e.key ∷ Touched t now ∷ (gone (firsts m es) ++ before)) old.disk new.disk) index did));
     }
 
 outside_by : (o n : Option DiskRecord) (xs : List Change) (path bytes : List ℕ) → n ≡ option_map (did_all xs) o → IfTold n (λ r. outside_file_at r.outside path ≡ Some bytes) → IfTold o (λ r. outside_file_at r.outside path ≡ Some bytes)
@@ -91,10 +91,10 @@ outside_by (Some r) n xs path bytes is h = subst (λ (o : Option DiskRecord). If
 pub outside_before : (old new : DiskState) (xs : List Change) (path bytes : List ℕ) → Does xs old new → HasOutside path bytes new → HasOutside path bytes old
 outside_before old new xs path bytes is h = outside_by old.told new.told xs path bytes is.told h
 
-tidy_given_up : (old mid new : Store) (e : AddEntry) (p : Pending) (removes : Bool) → removes ≡ true → Closes e p old mid → Alters (removed_by removes (temporary e.number)) mid new → IsTidy old → IsTidy new
+tidy_given_up : (old mid new : Store) (e : AddEntry) (p : Pending) (removes : Bool) → removes ≡ true → Closes e p old mid → Alters (removed_by removes (temporary_of e)) mid new → IsTidy old → IsTidy new
 tidy_given_up old mid new e p false t k u h = cc
-tidy_given_up old mid new e p true t k u h = tidy-discarded old.pending new.pending old.disk new.disk e.number [] (subst (λ (q : Slab Pending). Updates old.pending q e.number None) (sym u.pending) k.closed.entry) tt
-    (subst (λ (w : DiskState). Does (Gone (temporary e.number) ∷ []) w new.disk) k.disk u.disk) h
+tidy_given_up old mid new e p true t k u h = tidy-discarded old.pending new.pending old.disk new.disk e.number p (temporary_of e) [] (entry_path e p old mid k) k.was (subst (λ (q : Slab Pending). Updates old.pending q e.number None) (sym u.pending) k.closed.entry) tt
+    (subst (λ (w : DiskState). Does (Gone (temporary_of e) ∷ []) w new.disk) k.disk u.disk) h
 
 pub gave_up : (refused told : Error) (removes : Bool) (e : AddEntry) (p : Pending) (old mid new : Store) → Closes e p old mid → Undoes refused told removes e mid new → GivesUp refused told removes e old new
 gave_up refused told removes e p old mid new k u = record {
@@ -106,12 +106,9 @@ gave_up refused told removes e p old mid new k u = record {
   };
   index = u.alters.index ∙ k.index;
   capacity = u.alters.capacity ∙ k.capacity;
-  disk = subst (λ (w : DiskState). Does (removed_by removes (temporary e.number)) w new.disk) k.disk u.alters.disk;
+  disk = subst (λ (w : DiskState). Does (removed_by removes (temporary_of e)) w new.disk) k.disk u.alters.disk;
   tidy = λ t h. tidy_given_up old mid new e p removes t k u.alters h;
 }
-
-pub opened_is_open : (e : AddEntry) (k : List ℕ) (size now n : ℕ) (old mid full : Store) → Prepares e k size now n old mid → full.pending ≡ mid.pending → IsOpen full e
-opened_is_open e k size now n old mid full p same = (record { key = e.key; size = size }, ap (λ (q : Slab Pending). get q e.number) same ∙ p.opened.entry.changed, refl)
 
 pub on_ok : {T E : Type 0} (r : Result T E) (P Q : Type 0) → (P → Q) → OnOk r P → OnOk r Q
 on_ok (Ok x) P Q step p = step p

@@ -1,15 +1,14 @@
 -- What each call of a store of files does.
-use Rattle.std.specs.Prelude.{◌≡◌, ◌≢◌, ◌⊎◌, ℕ, ◌+◌, ◌-◌, ◌<◌, ◌≤◌, max, Bool, true, false, is_some, bytes_eq, List, [], ◌∷◌, ◌++◌, length, drop, Option, Some, None}
+use Rattle.std.specs.Prelude.{◌≡◌, ◌⊎◌, ℕ, ◌+◌, ◌-◌, ◌<◌, ◌≤◌, max, Bool, true, false, is_some, bytes_eq, List, [], ◌∷◌, ◌++◌, drop}
 use Rattle.std.specs.Map.{lookup, remove_entry}
-use Rattle.sc_entry.specs.Causes.{IfTold, Rose}
+use Rattle.sc_entry.specs.Causes.{Rose}
 use Rattle.sc_entry.specs.Keys.{is_file_key}
 use Rattle.sc_lru.specs.Order.{touched}
 use Rattle.sc_disk.specs.Disks.{Does, HasBytes, IsSize}
-use Rattle.sc_disk.specs.Names.{temporary}
-use Rattle.sc_disk.specs.Refusals.{AddCause, DiskRefusal, GetCause, RemoveCause}
-use Rattle.sc_disk.specs.Store.{AddEntry, Alters, Fits, IsTidy, Needed, Opened, Store, declared_at, filed, firsts, gone, others, reserved}
+use Rattle.sc_disk.specs.Refusals.{AddCause, GetCause}
+use Rattle.sc_disk.specs.Store.{AddEntry, Alters, Fits, IsTidy, Needed, Opened, Store, declared_at, filed, firsts, gone, others, reserved, temporary_of}
 use Rattle.sc_disk.specs.declared.change.Change.{Change}
-use Rattle.sc_disk.specs.declared.change.Change.TheVariants.{Made, Added, Touched, Moved, Gone}
+use Rattle.sc_disk.specs.declared.change.Change.TheVariants.{Made, Touched, Moved, Gone}
 use Rattle.sc_disk.specs.declared.pending.Pending.{Pending}
 use Rattle.sc_disk.specs.declared.error.Error.{Error}
 use Rattle.sc_disk.specs.declared.error.Error.TheVariants.{BadKey, FileNotInCache, FileTooLarge, Io, NoMemory, Reserved}
@@ -39,10 +38,11 @@ pub record Prepares (e : AddEntry) (k : List ℕ) (size now n : ℕ) (old new : 
   pub fits : size + reserved old ≤ old.capacity
   pub evicted : Fits (old.capacity - (reserved old + size)) n old.index
   pub key : e.key ≡ k
+  pub divided : e.divided ≡ old.disk.divided
   pub index : new.index ≡ drop n old.index
   pub opened : Opened e size old new
   pub capacity : new.capacity ≡ old.capacity
-  pub disk : Does (Made (temporary e.number) now ∷ gone (firsts n old.index)) old.disk new.disk
+  pub disk : Does (Made (temporary_of e) now ∷ gone (firsts n old.index)) old.disk new.disk
 
 -- no entry is opened
 pub record RefusesAdd (refused : Error) (k : List ℕ) (size n : ℕ) (old new : Store) : Type 0 where
@@ -58,13 +58,13 @@ pub record RefusesAdd (refused : Error) (k : List ℕ) (size n : ℕ) (old new :
 -- reservations and the greater of the measured and the declared size take more than the capacity together. A file that is
 -- replaced counts until then.
 pub record Commits (e : AddEntry) (r now n : ℕ) (old new : Store) : Type 0 where
-  pub size : IsSize (temporary e.number) r old.disk
+  pub size : IsSize (temporary_of e) r old.disk
   pub fits : r + others old e.number ≤ old.capacity
   pub evicted : Fits (old.capacity - (others old e.number + max r (declared_at old e.number))) n old.index
   -- no more than was declared evicts nothing
   pub none : r ≤ declared_at old e.number → n ≡ 0
   pub index : new.index ≡ filed e.key r (drop n old.index)
-  pub disk : Does (Moved (temporary e.number) e.key ∷ Touched (temporary e.number) now ∷ gone (firsts n old.index)) old.disk new.disk
+  pub disk : Does (Moved (temporary_of e) e.key ∷ Touched (temporary_of e) now ∷ gone (firsts n old.index)) old.disk new.disk
 
 -- why an entry isn't committed, where the disk had failed so often by then
 abbrev pub CommitCause : Error → List ℕ → ℕ → Store → ℕ → Type 0
@@ -90,12 +90,12 @@ Leftover refused false before now = Rose before now
 pub record RefusesCommit (refused : Error) (e : AddEntry) (now n : ℕ) (touches removes : Bool) (old new : Store) : Type 0 where
   -- how often the disk had failed when it was refused
   pub by_then : ℕ
-  pub cause : CommitCause refused (temporary e.number) (others old e.number) old by_then
+  pub cause : CommitCause refused (temporary_of e) (others old e.number) old by_then
   pub none : EvictsNone refused n
-  pub evicted : NeededFor (temporary e.number) (others old e.number) (declared_at old e.number) n old
+  pub evicted : NeededFor (temporary_of e) (others old e.number) (declared_at old e.number) n old
   pub index : new.index ≡ drop n old.index
   pub removal : Leftover refused removes by_then new.disk.faults
-  pub disk : Does (removed_by removes (temporary e.number) ++ (touched_by touches (temporary e.number) now ++ gone (firsts n old.index))) old.disk new.disk
+  pub disk : Does (removed_by removes (temporary_of e) ++ (touched_by touches (temporary_of e) now ++ gone (firsts n old.index))) old.disk new.disk
   pub tidy : removes ≡ true → IsTidy old → IsTidy new
 
 -- what private steps of a commit do: the temporary gets its moment and the key's place
@@ -103,33 +103,33 @@ pub record Settles (e : AddEntry) (k : List ℕ) (r now : ℕ) (old new : Store)
   pub index : new.index ≡ filed k r old.index
   pub pending : new.pending ≡ old.pending
   pub capacity : new.capacity ≡ old.capacity
-  pub disk : Does (Moved (temporary e.number) k ∷ Touched (temporary e.number) now ∷ []) old.disk new.disk
+  pub disk : Does (Moved (temporary_of e) k ∷ Touched (temporary_of e) now ∷ []) old.disk new.disk
 
 -- the same after evictions, once the entry is closed
 pub record Places (e : AddEntry) (p : Pending) (r now n : ℕ) (old new : Store) : Type 0 where
-  pub size : IsSize (temporary e.number) r old.disk
+  pub size : IsSize (temporary_of e) r old.disk
   pub fits : r + reserved old ≤ old.capacity
   pub evicted : Fits (old.capacity - (reserved old + max r p.size)) n old.index
   pub none : r ≤ p.size → n ≡ 0
   pub index : new.index ≡ filed p.key r (drop n old.index)
   pub pending : new.pending ≡ old.pending
   pub capacity : new.capacity ≡ old.capacity
-  pub disk : Does (Moved (temporary e.number) p.key ∷ Touched (temporary e.number) now ∷ gone (firsts n old.index)) old.disk new.disk
+  pub disk : Does (Moved (temporary_of e) p.key ∷ Touched (temporary_of e) now ∷ gone (firsts n old.index)) old.disk new.disk
 
 pub record RefusesPlace (refused : Error) (e : AddEntry) (p : Pending) (now n : ℕ) (touches : Bool) (old new : Store) : Type 0 where
-  pub cause : CommitCause refused (temporary e.number) (reserved old) old new.disk.faults
+  pub cause : CommitCause refused (temporary_of e) (reserved old) old new.disk.faults
   pub none : EvictsNone refused n
-  pub evicted : NeededFor (temporary e.number) (reserved old) p.size n old
+  pub evicted : NeededFor (temporary_of e) (reserved old) p.size n old
   pub index : new.index ≡ drop n old.index
   pub pending : new.pending ≡ old.pending
   pub capacity : new.capacity ≡ old.capacity
-  pub disk : Does (touched_by touches (temporary e.number) now ++ gone (firsts n old.index)) old.disk new.disk
+  pub disk : Does (touched_by touches (temporary_of e) now ++ gone (firsts n old.index)) old.disk new.disk
 
 -- the temporary is removed, or it isn't; the cause stays, or is want of memory
 pub record Undoes (refused told : Error) (removes : Bool) (e : AddEntry) (old new : Store) : Type 0 where
   pub answer : (told ≡ refused) ⊎ (told ≡ NoMemory)
   pub removal : Leftover told removes old.disk.faults new.disk.faults
-  pub alters : Alters (removed_by removes (temporary e.number)) old new
+  pub alters : Alters (removed_by removes (temporary_of e)) old new
 
 -- what a private step of a read does
 pub record Reads (k read : List ℕ) (now : ℕ) (old new : Store) : Type 0 where

@@ -1,6 +1,6 @@
 -- Codes, by which proofs tell values apart.
-use Rattle.std.specs.Prelude.{ℕ, List, Option, refl}
-use Rattle.std.specs.Coded.{Coded, code_by, coded×, coded_ℕ, coded_list, coded_option}
+use Rattle.std.specs.Prelude.{ℕ, Bool, List, Option, refl}
+use Rattle.std.specs.Coded.{Coded, code_by, coded×, coded_ℕ, coded_bool, coded_list, coded_option}
 use Rattle.std.specs.FinMap as map
 use Rattle.slab.specs.Slab.{Slab, slab_code}
 use Rattle.sc_disk.specs.Disks.{DiskFiles, DiskRecord, DiskState, OutsideFiles}
@@ -22,10 +22,10 @@ disk_record_code = code_by (OutsideFiles × (DiskFiles × List Change))
     (λ _. refl)
 
 abbrev pub disk_state_code : Coded DiskState
-disk_state_code = code_by (Option DiskRecord × (ℕ × List ℕ))
-    (coded× (coded_option disk_record_code) (coded× coded_ℕ (coded_list coded_ℕ)))
-    (λ d. (d.told, (d.faults, d.root)))
-    (λ p. record { told = p.0; faults = p.1.0; root = p.1.1 })
+disk_state_code = code_by (Option DiskRecord × (ℕ × (List ℕ × Bool)))
+    (coded× (coded_option disk_record_code) (coded× coded_ℕ (coded× (coded_list coded_ℕ) coded_bool)))
+    (λ d. (d.told, (d.faults, (d.root, d.divided))))
+    (λ p. record { told = p.0; faults = p.1.0; root = p.1.1.0; divided = p.1.1.1 })
     (λ _. refl)
 
 abbrev pub store_code : Coded Store

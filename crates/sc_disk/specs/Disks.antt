@@ -1,5 +1,5 @@
 -- What a disk tells: its files at first, and each change since.
-use Rattle.std.specs.Prelude.{◌≡◌, ◌⊎◌, ℕ, ◌≤◌, List, [], ◌∷◌, ◌++◌, take, length, map as each, Option, Some, None, Result, Ok, Err}
+use Rattle.std.specs.Prelude.{◌≡◌, ◌⊎◌, ℕ, ◌≤◌, Bool, false, List, [], ◌∷◌, ◌++◌, take, length, map as each, Option, Some, None, Result, Ok, Err}
 use Rattle.std.specs.Option.{option_map}
 use Rattle.std.specs.FinMap as map
 use Rattle.std.specs.Ordering.{nat_cmp}
@@ -66,17 +66,21 @@ files_now r = replay r.first r.done
 abbrev pub did_all : List Change → DiskRecord → DiskRecord
 did_all xs r = record { outside = r.outside; first = r.first; done = xs ++ r.done }
 
--- A disk: what it tells, if it tells anything, how often it failed, and the path that its files stand under.
+-- A disk: what it tells, if it tells anything, how often it failed, the path that its files stand under, and whether the
+-- first part of each path names a device of its own.
 pub record DiskState : Type 0 where
   pub told : Option DiskRecord
   pub faults : ℕ
   pub root : List ℕ
+  pub divided : Bool
 
--- The disk made these changes of its files, the newest first, and no others. Whether it tells stays, and so does its root.
+-- The disk made these changes of its files, the newest first, and no others. Whether it tells stays, and so do its root
+-- and whether it is divided.
 pub record Does (xs : List Change) (old new : DiskState) : Type 0 where
   pub told : new.told ≡ option_map (did_all xs) old.told
   pub faults : old.faults ≤ new.faults
   pub root : new.root ≡ old.root
+  pub divided : new.divided ≡ old.divided
 
 -- nothing was added at the path's end, or a front of the bytes was
 abbrev pub DoesPart : List ℕ → List ℕ → DiskState → DiskState → Type 0
@@ -116,6 +120,6 @@ listing files = each (λ e. record { path = e.0; size = length e.1.bytes; moment
 abbrev pub IsListing : List Listed → DiskState → Type 0
 IsListing all d = IfTold d.told (λ r. all ≡ listing (files_now r))
 
--- a disk that tells nothing
+-- a disk that isn't divided, and tells nothing
 abbrev pub untold_disk : List ℕ → ℕ → DiskState
-untold_disk root faults = record { told = None; faults = faults; root = root }
+untold_disk root faults = record { told = None; faults = faults; root = root; divided = false }

@@ -7,7 +7,7 @@ use Rattle.sc_disk.specs.Calls.{Leftover, Prepares, RefusesAdd, RefusesCommit, r
 use Rattle.sc_disk.specs.Disks.{DiskState, Does}
 use Rattle.sc_disk.specs.Names.{temporary}
 use Rattle.sc_disk.specs.Refusals.{DiskRefusal}
-use Rattle.sc_disk.specs.Store.{AddEntry, Closed, Fits, IsTidy, SameEntries, Store, filed, firsts, gone, reserved}
+use Rattle.sc_disk.specs.Store.{AddEntry, Closed, Fits, IsTidy, Store, filed, firsts, gone, reserved, temporary_of}
 use Rattle.sc_disk.specs.declared.change.Change.{Change}
 use Rattle.sc_disk.specs.declared.change.Change.TheVariants.{Added, Made, Moved, Touched}
 use Rattle.sc_disk.specs.declared.error.Error.{Error}
@@ -32,7 +32,7 @@ content (x ∷ xs) = content xs ++ x
 
 -- an open entry was filled by these pieces alone
 abbrev pub Fills : AddEntry → List (List ℕ) → Store → Store → Type 0
-Fills e pieces old new = Only (Does (added (temporary e.number) pieces)) old new
+Fills e pieces old new = Only (Does (added (temporary_of e) pieces)) old new
 
 -- an entry is closed after a refusal, and its temporary is removed, or that failed
 pub record GivesUp (refused told : Error) (removes : Bool) (e : AddEntry) (old new : Store) : Type 0 where
@@ -41,7 +41,7 @@ pub record GivesUp (refused told : Error) (removes : Bool) (e : AddEntry) (old n
   pub closed : Closed e.number old new
   pub index : new.index ≡ old.index
   pub capacity : new.capacity ≡ old.capacity
-  pub disk : Does (removed_by removes (temporary e.number)) old.disk new.disk
+  pub disk : Does (removed_by removes (temporary_of e)) old.disk new.disk
   pub tidy : removes ≡ true → IsTidy old → IsTidy new
 
 -- A file of these pieces is stored under a key, by an entry of a free number that declares the size. The first n files go
@@ -58,7 +58,7 @@ pub record Inserts (k : List ℕ) (pieces : List (List ℕ)) (size now number n 
   -- no more than was declared evicts no more
   pub none : r ≤ size → m ≡ 0
   pub index : new.index ≡ filed k r (drop m (drop n old.index))
-  pub disk : Does (Moved (temporary number) k ∷ Touched (temporary number) now ∷ (gone (firsts m (drop n old.index)) ++ (added (temporary number) pieces ++ (Made (temporary number) now ∷ gone (firsts n old.index))))) old.disk new.disk
+  pub disk : Does (Moved (temporary old.disk.divided k number) k ∷ Touched (temporary old.disk.divided k number) now ∷ (gone (firsts m (drop n old.index)) ++ (added (temporary old.disk.divided k number) pieces ++ (Made (temporary old.disk.divided k number) now ∷ gone (firsts n old.index))))) old.disk new.disk
 
 -- Nothing is stored: no entry is opened; or it is, and is given up since it isn't filled; or it is filled, and not committed.
 unfoldable pub RefusesInsert : Error → List ℕ → ℕ → ℕ → (AddEntry → DiskState → DiskState → Type 0) → (AddEntry → DiskState → DiskState → Type 0) → Store → Store → Type 0

@@ -7,3 +7,7 @@ pub mod Names
 pub mod Opening
 pub mod Refusals
 pub mod Store
+pub mod Writing
+pub mod Lazy
+pub mod Paths
+pub mod Sound

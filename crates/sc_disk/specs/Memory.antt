@@ -1,10 +1,10 @@
 -- What a disk in memory holds and tells.
-use Rattle.std.specs.Prelude.{◌≡◌, ℕ, ◌≤◌, Bool, true, false, ◌||◌, List, ◌++◌, Option, Some, None, is_some, not, Result, Ok, Err}
+use Rattle.std.specs.Prelude.{◌≡◌, ℕ, ◌≤◌, Bool, true, false, ◌||◌, List, ◌++◌, Some, is_some, not, Result, Ok, Err}
 use Rattle.std.specs.Coded.{Coded, coded_ℕ, coded_list}
 use Rattle.std.specs.FinMap as map
 use Rattle.sc_entry.specs.Failing.{fails_at, faults_after, one_more}
 use Rattle.sc_entry.specs.declared.calls.Calls.{Calls}
-use Rattle.sc_disk.specs.Disks.{DiskFiles, DiskRecord, DiskState, OutsideFiles, disk_file_at, no_disk_files, outside_file_at, replay}
+use Rattle.sc_disk.specs.Disks.{DiskFiles, DiskState, OutsideFiles, disk_file_at, no_disk_files, outside_file_at, replay}
 use Rattle.sc_disk.specs.contracts.disk_file.DiskFile as file_type
 use Rattle.sc_disk.specs.declared.change.Change.{Change}
 use Rattle.sc_disk.specs.declared.disk.DiskError.{DiskError}
@@ -34,9 +34,9 @@ memory root outside done calls = record { root = root; outside = outside; done =
 abbrev pub held_files : Memory → DiskFiles
 held_files m = replay no_disk_files m.done
 
--- what it tells: it had no file at first
+-- what it tells: it had no file at first, and it isn't divided
 abbrev pub memory_state : Memory → DiskState
-memory_state m = record { told = Some (record { outside = outside_of m.outside; first = no_disk_files; done = m.done }); faults = m.calls.faults; root = m.root }
+memory_state m = record { told = Some (record { outside = outside_of m.outside; first = no_disk_files; done = m.done }); faults = m.calls.faults; root = m.root; divided = false }
 
 -- no file stands at the path
 abbrev pub lacks : Memory → List ℕ → Bool

@@ -1,17 +1,16 @@
 -- What a contract sees of a store of files: its index in the order of use, its open entries, its capacity and its disk.
-use Rattle.std.specs.Prelude.{◌≡◌, ◌⊎◌, ℕ, ◌+◌, ◌-◌, ◌<◌, ◌≤◌, max, Bool, true, false, is_some, bytes_eq, List, [], ◌∷◌, ◌++◌, length, take, drop, Option, Some, None, slice_index_or}
+use Rattle.std.specs.Prelude.{◌≡◌, ℕ, ◌+◌, ◌-◌, ◌<◌, ◌≤◌, Bool, true, false, ◌&&◌, is_some, bytes_eq, List, [], ◌∷◌, ◌++◌, length, take, drop, Option, Some, None, slice_index_or}
 use Rattle.std.specs.List.{sum_by}
 use Rattle.std.specs.Map.{keys_of, lookup, remove_entry}
 use Rattle.std.specs.Option.{option_map, option_map_or}
 use Rattle.slab.specs.Slab.{Slab, Updates, get}
-use Rattle.sc_entry.specs.Causes.{IfTold, Rose}
+use mathlib.Core.Bool.{beq}
+use Rattle.sc_entry.specs.Causes.{IfTold}
 use Rattle.sc_lru.specs.LruCache.{total}
-use Rattle.sc_disk.specs.Disks.{DiskFiles, DiskState, DiskRecord, Does, IsSize, disk_file_at, files_now}
+use Rattle.sc_disk.specs.Disks.{DiskFiles, DiskState, Does, disk_file_at, files_now}
 use Rattle.sc_disk.specs.Names.{is_temporary_path, temporary}
 use Rattle.sc_disk.specs.declared.change.Change.{Change}
-use Rattle.sc_disk.specs.declared.change.Change.TheVariants.{Made, Added, Touched, Moved, Gone}
-use Rattle.sc_disk.specs.declared.error.Error.{Error}
-use Rattle.sc_disk.specs.declared.error.Error.TheVariants.{BadKey, FileNotInCache, FileTooLarge, Io, NoMemory, Reserved}
+use Rattle.sc_disk.specs.declared.change.Change.TheVariants.{Made, Gone}
 use Rattle.sc_disk.specs.declared.pending.Pending.{Pending}
 
 pub record Store : Type 0 where
@@ -55,13 +54,19 @@ others s number = reserved s - declared_at s number
 pub record AddEntry : Type 0 where
   pub number : ℕ
   pub key : List ℕ
+  -- whether its temporary stands in its key's first part
+  pub divided : Bool
 
-abbrev pub add_entry : ℕ → List ℕ → AddEntry
-add_entry number key = record { number = number; key = key }
+abbrev pub add_entry : ℕ → List ℕ → Bool → AddEntry
+add_entry number key divided = record { number = number; key = key; divided = divided }
 
--- the store has an open entry of this number and key
+-- the path of its temporary
+abbrev pub temporary_of : AddEntry → List ℕ
+temporary_of e = temporary e.divided e.key e.number
+
+-- the store has an open entry of this number and key, whose temporary stands where it has them
 abbrev pub IsOpen : Store → AddEntry → Type 0
-IsOpen s e = (p : Pending) × (get s.pending e.number ≡ Some p) × (p.key ≡ e.key)
+IsOpen s e = (p : Pending) × (get s.pending e.number ≡ Some p) × (p.key ≡ e.key) × (e.divided ≡ s.disk.divided)
 
 abbrev pub is_open_slot : Option Pending → List ℕ → Bool
 is_open_slot None key = false
@@ -69,7 +74,7 @@ is_open_slot (Some p) key = bytes_eq p.key key
 
 -- the same as a test
 abbrev pub is_open : Store → AddEntry → Bool
-is_open s e = is_open_slot (get s.pending e.number) e.key
+is_open s e = is_open_slot (get s.pending e.number) e.key && beq e.divided s.disk.divided
 
 -- removals of these paths, the first of them first; the newest change stands first
 abbrev pub gone : List (List ℕ) → List Change
@@ -93,30 +98,30 @@ abbrev pub HaveKeys : List (Option Pending) → Type 0
 HaveKeys slots = (n : ℕ) (e : Pending) → slice_index_or slots n None ≡ Some e → is_temporary_path e.key ≡ false
 
 -- each open entry has its temporary
-abbrev pub HaveFiles : List (Option Pending) → DiskFiles → Type 0
-HaveFiles slots f = (n : ℕ) (e : Pending) → slice_index_or slots n None ≡ Some e → is_some (disk_file_at f (temporary n)) ≡ true
+abbrev pub HaveFiles : Bool → List (Option Pending) → DiskFiles → Type 0
+HaveFiles divided slots f = (n : ℕ) (e : Pending) → slice_index_or slots n None ≡ Some e → is_some (disk_file_at f (temporary divided e.key n)) ≡ true
 
 -- each temporary is an open entry's
-abbrev pub NoStray : List (Option Pending) → DiskFiles → Type 0
-NoStray slots f = (q : List ℕ) → is_temporary_path q ≡ true → is_some (disk_file_at f q) ≡ true → (n : ℕ) × (e : Pending) × (slice_index_or slots n None ≡ Some e) × (q ≡ temporary n)
+abbrev pub NoStray : Bool → List (Option Pending) → DiskFiles → Type 0
+NoStray divided slots f = (q : List ℕ) → is_temporary_path q ≡ true → is_some (disk_file_at f q) ≡ true → (n : ℕ) × (e : Pending) × (slice_index_or slots n None ≡ Some e) × (q ≡ temporary divided e.key n)
 
 -- The files are the indexed ones and the temporaries of the open entries.
-pub record HasFiles (index : List (List ℕ × ℕ)) (slots : List (Option Pending)) (f : DiskFiles) : Type 0 where
+pub record HasFiles (divided : Bool) (index : List (List ℕ × ℕ)) (slots : List (Option Pending)) (f : DiskFiles) : Type 0 where
   pub agrees : Agrees index f
-  pub temporaries : HaveFiles slots f
+  pub temporaries : HaveFiles divided slots f
 
 -- no temporary stands about whose entry isn't open
 abbrev pub IsTidy : Store → Type 0
-IsTidy s = IfTold s.disk.told (λ r. NoStray s.pending.slots (files_now r))
+IsTidy s = IfTold s.disk.told (λ r. NoStray s.disk.divided s.pending.slots (files_now r))
 
 -- what a store keeps
-pub record Keeps (index : List (List ℕ × ℕ)) (bound : ℕ) (slots : List (Option Pending)) (held capacity : ℕ) (told : Option DiskRecord) : Type 0 where
+pub record Keeps (index : List (List ℕ × ℕ)) (bound : ℕ) (slots : List (Option Pending)) (held capacity : ℕ) (disk : DiskState) : Type 0 where
   pub reserved : held ≡ declared slots
   pub limit : bound ≡ capacity
   pub fits : total size_of index + held ≤ capacity
   pub keys : AreKeys index
   pub opened : HaveKeys slots
-  pub files : IfTold told (λ r. HasFiles index slots (files_now r))
+  pub files : IfTold disk.told (λ r. HasFiles disk.divided index slots (files_now r))
 
 -- each of the first n went only while what was left took more than the limit
 abbrev pub Needed : ℕ → ℕ → List (List ℕ × ℕ) → Type 0
@@ -165,15 +170,17 @@ filed k r index = remove_entry (bytes_eq k) index ++ (k, r) ∷ []
 -- what a private step does when it opens an entry
 pub record Opens (e : AddEntry) (k : List ℕ) (size now : ℕ) (old new : Store) : Type 0 where
   pub key : e.key ≡ k
+  pub divided : e.divided ≡ old.disk.divided
   pub opened : Opened e size old new
   pub index : new.index ≡ old.index
   pub capacity : new.capacity ≡ old.capacity
-  pub disk : Does (Made (temporary e.number) now ∷ []) old.disk new.disk
+  pub disk : Does (Made (temporary_of e) now ∷ []) old.disk new.disk
 
 -- what a private step does when it closes one
 pub record Closes (e : AddEntry) (p : Pending) (old new : Store) : Type 0 where
   pub was : get old.pending e.number ≡ Some p
   pub key : p.key ≡ e.key
+  pub divided : e.divided ≡ old.disk.divided
   pub good : is_temporary_path p.key ≡ false
   pub closed : Closed e.number old new
   pub index : new.index ≡ old.index

@@ -8,6 +8,8 @@ use std::marker::Model;
 pub struct LruDiskCacheAddEntry {
     pub(crate) number: usize,
     pub(crate) key: FileKey,
+    /// Whether its temporary stands in its key's first part.
+    pub(crate) divided: bool,
     pub(crate) path: Text,
 }
 
@@ -18,7 +20,7 @@ impl Model for LruDiskCacheAddEntry {
 
     ghost Value = { AddEntry };
 
-    ghost view = { λ e. add_entry e.number e.key };
+    ghost view = { λ e. add_entry e.number e.key e.divided };
 
-    ghost invariant = { λ e. (e.path ≡ temporary e.number) × (e.number < 2 ^ 64) };
+    ghost invariant = { λ e. (e.path ≡ temporary e.divided e.key e.number) × (e.number < 2 ^ 64) };
 }

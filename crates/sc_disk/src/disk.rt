@@ -54,9 +54,9 @@ pub struct Listed {
 ///
 /// A disk that tells what it holds tells the files that it had at first and each change since, so also every state that
 /// it had since a moment. A stop leaves one of these, or that of an append or adoption under way with a front of its
-/// bytes. No call changes whether a disk tells, nor its root, and no count of faults falls.
+/// bytes. No call changes whether a disk tells, its root, or whether it is divided, and no count of faults falls.
 pub trait Disk {
-    /// What the disk tells, how often it failed, and its root.
+    /// What the disk tells, how often it failed, its root, and whether it is divided.
     ghost state: { Self → DiskState };
 
     /// How often it failed. The count never falls, and stays at the greatest `u64`.
@@ -66,6 +66,10 @@ pub trait Disk {
     /// The path that its files stand under.
     fn root(&self) -> &ByteText
         ensures { result.now ≡ (state self.now).root };
+
+    /// Whether the first part of each path names a device of its own, so that no file is moved from one to another.
+    fn is_divided(&self) -> bool
+        ensures { result ≡ (state self.now).divided };
 
     /// All files, their paths ascending by their bytes.
     fn list(&mut self) -> Result<Items<Listed>, DiskError>

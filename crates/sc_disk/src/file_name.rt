@@ -2,7 +2,7 @@
 ghost use Rattle.std.specs.Prelude.{◌≡◌, ◌<◌, length, IfOk, IfSome};
 ghost use Rattle.std.specs.Option.{option_map};
 ghost use Rattle.sc_entry.specs.Keys as keys;
-ghost use Rattle.sc_disk.specs.Names.{is_temporary_path, temporary, PartsBy};
+ghost use Rattle.sc_disk.specs.Names.{first_part, is_temporary_path, temporary, PartsBy};
 
 use memchr::memchr;
 use sc_entry::{NoMemory, Text};
@@ -68,11 +68,32 @@ pub(crate) fn is_temporary_path(path: &Text) -> bool
     is_temporary(rest)
 }
 
-/// The path of the temporary with this number.
-#[tactic(auto, unfolding(crate::specs::Names::temporary))]
-pub(crate) fn temporary_path(alloc: Global, number: usize) -> Result<Text, NoMemory>
-    ensures { IfOk result (λ path. path ≡ temporary number) }
+/// What stands before a path's first slash; without one all of it.
+fn first_part(path: &str) -> &str
+    ensures { result.now ≡ first_part path.now }
 {
-    let path = format!(in alloc; ".sccachetmp{number}")?;
+    match path.split_once('/') {
+        Some((first, _)) => first,
+        None => path,
+    }
+}
+
+/// The path of the temporary with this number, of an entry for this key. On a divided disk it stands in the key's first
+/// part.
+#[tactic(auto, unfolding(crate::specs::Names::temporary_name))]
+pub(crate) fn temporary_path(
+    alloc: Global,
+    is_divided: bool,
+    key: &Text,
+    number: usize,
+) -> Result<Text, NoMemory>
+    ensures { IfOk result (λ path. path ≡ temporary is_divided key.now number) }
+{
+    if !is_divided {
+        let path = format!(in alloc; ".sccachetmp{number}")?;
+        return Ok(Text::from_string(path));
+    }
+    let folder = first_part(key.as_str());
+    let path = format!(in alloc; "{folder}/.sccachetmp{number}")?;
     Ok(Text::from_string(path))
 }

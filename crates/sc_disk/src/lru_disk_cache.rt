@@ -5,8 +5,8 @@ ghost use Rattle.sc_lru.specs.LruCache.{suffix_within, total};
 ghost use Rattle.sc_disk.specs.Disks.{Does, DoesPart, DiskCause, IsSize};
 ghost use Rattle.sc_disk.specs.Calls.{Prepares, RefusesAdd, CommitCause, Commits, Places, RefusesCommit, RefusesPlace, Settles, Undoes, touched_by};
 ghost use Rattle.sc_lru.specs.Order.{touched};
-ghost use Rattle.sc_disk.specs.Store.{Store, Evicts, Needed, Fits, Alters, Opens, Closes, Closed, IsOpen, IsTidy, indexed, reserved, size_of, is_open};
-ghost use Rattle.sc_disk.specs.Names.{is_temporary_path, temporary};
+ghost use Rattle.sc_disk.specs.Store.{Store, Evicts, Needed, Fits, Alters, Opens, Closes, Closed, IsOpen, IsTidy, indexed, reserved, size_of, is_open, temporary_of};
+ghost use Rattle.sc_disk.specs.Names.{is_temporary_path};
 ghost use Rattle.sc_disk.specs.Refusals.{DiskRefusal};
 ghost use Rattle.sc_disk.specs.declared.change.Change.TheVariants.{Made, Added, Touched, Moved, Gone};
 ghost use Rattle.slab.specs.Slab.{HasRoomFor, get};
@@ -49,7 +49,7 @@ impl<D: Disk> Model for LruDiskCache<D> {
 
     ghost view = { λ c. store c.index.entries c.index.spare c.pending c.capacity (D.state c.disk) };
 
-    ghost invariant = { λ c. Keeps c.index.entries c.index.capacity c.pending.slots c.held c.capacity (D.state c.disk).told };
+    ghost invariant = { λ c. Keeps c.index.entries c.index.capacity c.pending.slots c.held c.capacity (D.state c.disk) };
 }
 
 impl<D: Disk> LruDiskCache<D> {
@@ -123,7 +123,7 @@ impl<D: Disk> LruDiskCache<D> {
         ensures { result ≡ is_open self.now entry.now }
     {
         match self.pending.get(entry.number) {
-            Some(pending) => pending.key == entry.key,
+            Some(pending) => { pending.key == entry.key && entry.divided == self.disk.is_divided() }
             None => false,
         }
     }
@@ -206,7 +206,8 @@ impl<D: Disk> LruDiskCache<D> {
     {
         let _fits = self.capacity;
         let number = self.pending.vacant_key();
-        let path = temporary_path(self.alloc, number)?;
+        let divided = self.disk.is_divided();
+        let path = temporary_path(self.alloc, divided, key.as_text(), number)?;
         let reserved_key = key.clone()?;
         let key = key.clone()?;
         self.disk.create(&path, now)?;
@@ -215,7 +216,12 @@ impl<D: Disk> LruDiskCache<D> {
             key: reserved_key,
             size,
         });
-        Ok(LruDiskCacheAddEntry { number, key, path })
+        Ok(LruDiskCacheAddEntry {
+            number,
+            key,
+            divided,
+            path,
+        })
     }
 
     // Takes an open entry out, and its reservation.
@@ -231,7 +237,7 @@ impl<D: Disk> LruDiskCache<D> {
     // Removes the temporary of an entry that was closed.
     fn discard(&mut self, entry: &LruDiskCacheAddEntry) -> Result<(), DiskError>
         requires { get self.old.pending entry.now.number ≡ None }
-        ensures ok { OnOk result (Alters (Gone (temporary entry.now.number) ∷ []) self.old self.new) }
+        ensures ok { OnOk result (Alters (Gone (temporary_of entry.now) ∷ []) self.old self.new) }
         ensures err { OnErr result (Alters [] self.old self.new) }
         ensures cause { DiskCause self.old.disk self.new.disk result }
     {
@@ -278,8 +284,8 @@ impl<D: Disk> LruDiskCache<D> {
     pub fn fill(&mut self, entry: &LruDiskCacheAddEntry, bytes: &[u8]) -> Result<(), Error>
         requires { IsOpen self.old entry.now }
         ensures opened { IsOpen self.new entry.now }
-        ensures ok { OnOk result (Does (Added (temporary entry.now.number) bytes.now ∷ []) self.old.disk self.new.disk) }
-        ensures err { OnErr result (DoesPart (temporary entry.now.number) bytes.now self.old.disk self.new.disk) }
+        ensures ok { OnOk result (Does (Added (temporary_of entry.now) bytes.now ∷ []) self.old.disk self.new.disk) }
+        ensures err { OnErr result (DoesPart (temporary_of entry.now) bytes.now self.old.disk self.new.disk) }
         ensures cause { IfErr result (DiskRefusal self.old.disk.faults self.new.disk.faults) }
         ensures index { self.new.index ≡ self.old.index }
         ensures pending { self.new.pending ≡ self.old.pending }
@@ -294,7 +300,7 @@ impl<D: Disk> LruDiskCache<D> {
     pub fn abandon(&mut self, entry: LruDiskCacheAddEntry) -> Result<(), Error>
         requires { IsOpen self.old entry }
         ensures closed { Closed entry.number self.old self.new }
-        ensures ok { OnOk result (Does (Gone (temporary entry.number) ∷ []) self.old.disk self.new.disk) }
+        ensures ok { OnOk result (Does (Gone (temporary_of entry) ∷ []) self.old.disk self.new.disk) }
         ensures err { OnErr result (Does [] self.old.disk self.new.disk) }
         ensures cause { IfErr result (DiskRefusal self.old.disk.faults self.new.disk.faults) }
         ensures index { self.new.index ≡ self.old.index }
@@ -310,9 +316,9 @@ impl<D: Disk> LruDiskCache<D> {
 impl<D: Disk> LruDiskCache<D> {
     // The size of a temporary, where it fits beside what is reserved.
     fn measure(&mut self, entry: &LruDiskCacheAddEntry) -> Result<u64, Error>
-        ensures size { IfOk result (λ r. IsSize (temporary entry.now.number) r self.old.disk) }
+        ensures size { IfOk result (λ r. IsSize (temporary_of entry.now) r self.old.disk) }
         ensures fits { IfOk result (λ r. r + reserved self.old ≤ self.old.capacity) }
-        ensures cause { IfErr result (λ refused. CommitCause refused (temporary entry.now.number) (reserved self.old) self.old self.new.disk.faults) }
+        ensures cause { IfErr result (λ refused. CommitCause refused (temporary_of entry.now) (reserved self.old) self.old self.new.disk.faults) }
         ensures alters { Alters [] self.old self.new }
     {
         let capacity = self.capacity;
@@ -347,9 +353,9 @@ impl<D: Disk> LruDiskCache<D> {
         requires key { is_temporary_path key ≡ false }
         requires spare { 0 < self.old.spare }
         requires room { indexed self.old + (reserved self.old + size) ≤ self.old.capacity }
-        requires size { IsSize (temporary entry.now.number) size self.old.disk }
+        requires size { IsSize (temporary_of entry.now) size self.old.disk }
         ensures ok { OnOk result (Settles entry.now key size now self.old self.new) }
-        ensures err { OnErr result ((touches : Bool) × Alters (touched_by touches (temporary entry.now.number) now) self.old self.new) }
+        ensures err { OnErr result ((touches : Bool) × Alters (touched_by touches (temporary_of entry.now) now) self.old self.new) }
         ensures cause { IfErr result (DiskRefusal self.old.disk.faults self.new.disk.faults) }
     {
         let _distinct = self.index.len();
@@ -392,10 +398,10 @@ impl<D: Disk> LruDiskCache<D> {
         size: u64,
         limit: u64,
     ) -> Result<(), DiskError>
-        requires { IsSize (temporary entry.now.number) size self.old.disk }
+        requires { IsSize (temporary_of entry.now) size self.old.disk }
         ensures evicts { (n : ℕ) × Evicts n self.old self.new × Needed limit n self.old.index }
         ensures within { OnOk result (indexed self.new ≤ limit) }
-        ensures size { IsSize (temporary entry.now.number) size self.new.disk }
+        ensures size { IsSize (temporary_of entry.now) size self.new.disk }
         ensures cause { DiskCause self.old.disk self.new.disk result }
     {
         let _keys = self.capacity;

@@ -215,6 +215,10 @@ impl Disk for MemDisk {
         &self.root
     }
 
+    fn is_divided(&self) -> bool {
+        false
+    }
+
     fn list(&mut self) -> Result<Items<Listed>, DiskError>
         ensures same { Does [] (memory_state self.old) (memory_state self.new) }
         ensures listed { IfOk result (λ all. IsListing all (memory_state self.old)) }

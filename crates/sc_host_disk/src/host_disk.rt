@@ -282,6 +282,10 @@ impl<R: AllocGlobal + fs::Files + Clone + Drop> Disk for HostDisk<R> {
         &self.root
     }
 
+    fn is_divided(&self) -> bool {
+        false
+    }
+
     fn list(&mut self) -> Result<Items<Listed>, DiskError> {
         match find_files(&self.rt, &self.root, self.is_main) {
             Ok((files, unnamed)) => {

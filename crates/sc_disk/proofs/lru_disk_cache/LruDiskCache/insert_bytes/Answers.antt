@@ -2,21 +2,18 @@ use Rattle.std.proofs.Common.{ℕ, Bool, ◌∷◌, [], length, inl, inr, sym, s
 use Rattle.sc_disk.specs.Calls.{Commits, RefusesAdd, RefusesCommit}
 use Rattle.sc_disk.specs.Disks.{Does, DoesPart}
 use Rattle.sc_disk.specs.Inserting.{Inserts, RefusesInsert}
-use Rattle.sc_disk.specs.Names.{temporary}
 use Rattle.sc_disk.specs.declared.change.Change.TheVariants.{Added}
-use Rattle.sc_disk.specs.Store.{IsTidy}
+use Rattle.sc_disk.specs.Store.{IsTidy, temporary_of}
 use Rattle.sc_disk.specs.declared.error.Error.{Error}
 use Rattle.sc_disk.proofs.Placing.{if_err_and}
-use Rattle.sc_disk.proofs.Wholes.{if_err, inserted, on_ok, opened_is_open}
+use Rattle.sc_disk.proofs.Wholes.{if_err, inserted, on_ok}
 use Rattle.sc_disk.proofs.lru_disk_cache.LruDiskCache.insert_bytes.Goals as goal
 
 pub commit-requires : goal.commit-requires
-commit-requires g c = let p = c.in_ok-entry.ensures.ok in
-    opened_is_open c.in_ok-entry.entry c.args.key.now (length c.args.bytes.now) c.args.now p.0 c.args.self.now c.prepare_add.new.self c.fill.new.self p.1 c.in-Ok.ensures.pending
+commit-requires g c = c.in-Ok.ensures.opened
 
 pub give_up-requires : goal.give_up-requires
-give_up-requires g c = let p = c.in_ok-entry.ensures.ok in
-    opened_is_open c.in_ok-entry.entry c.args.key.now (length c.args.bytes.now) c.args.now p.0 c.args.self.now c.prepare_add.new.self c.fill.new.self p.1 c.in-Err.ensures.pending
+give_up-requires g c = c.in-Err.ensures.opened
 
 pub returns-in-Ok-clause-ok : goal.returns-in-Ok-clause-ok
 returns-in-Ok-clause-ok g c = let p = c.in_ok-entry.ensures.ok in let f = c.in-Ok.ensures in let e = c.in_ok-entry.entry in let size = length c.args.bytes.now in
@@ -35,7 +32,7 @@ pub returns-in-Ok-clause-err : goal.returns-in-Ok-clause-err
 unfolding RefusesInsert
 returns-in-Ok-clause-err g c = let p = c.in_ok-entry.ensures.ok in let f = c.in-Ok.ensures in let e = c.in_ok-entry.entry in let size = length c.args.bytes.now in
     if_err c.commit.result (λ refused. (m : ℕ) × (touches : Bool) × (removes : Bool) × RefusesCommit refused e c.args.now m touches removes c.fill.new.self c.commit.new.self)
-    (λ refused. RefusesInsert refused c.args.key.now size c.args.now (λ e. DoesPart (temporary e.number) c.args.bytes.now) (λ e. Does (Added (temporary e.number) c.args.bytes.now ∷ [])) c.args.self.now c.commit.new.self)
+    (λ refused. RefusesInsert refused c.args.key.now size c.args.now (λ e. DoesPart (temporary_of e) c.args.bytes.now) (λ e. Does (Added (temporary_of e) c.args.bytes.now ∷ [])) c.args.self.now c.commit.new.self)
     (λ refused d. inr (e, p.0, c.prepare_add.new.self, c.fill.new.self, p.1, inr (d.0, d.1, d.2, record { index = f.index; pending = f.pending; capacity = f.capacity; disk = f.ok }, d.3))) c.commit.ensures.err
 
 pub returns-in-Err-clause-err : goal.returns-in-Err-clause-err

@@ -2,20 +2,17 @@ use Rattle.std.proofs.Common.{ℕ, Bool, List, ◌∷◌, [], inl, inr, sym, sub
 use Rattle.sc_disk.specs.Calls.{Commits, RefusesAdd, RefusesCommit}
 use Rattle.sc_disk.specs.Disks.{Adopts, AdoptsPart, HasOutside}
 use Rattle.sc_disk.specs.Inserting.{Inserts, RefusesInsert}
-use Rattle.sc_disk.specs.Names.{temporary}
-use Rattle.sc_disk.specs.Store.{IsTidy}
+use Rattle.sc_disk.specs.Store.{IsTidy, temporary_of}
 use Rattle.sc_disk.specs.declared.error.Error.{Error}
 use Rattle.sc_disk.proofs.Placing.{if_err_and}
-use Rattle.sc_disk.proofs.Wholes.{if_err, inserted, on_ok, opened_is_open, outside_before}
+use Rattle.sc_disk.proofs.Wholes.{if_err, inserted, on_ok, outside_before}
 use Rattle.sc_disk.proofs.lru_disk_cache.LruDiskCache.insert_file.Goals as goal
 
 pub commit-requires : goal.commit-requires
-commit-requires g c = let p = c.in_ok-entry.ensures.ok in
-    opened_is_open c.in_ok-entry.entry c.args.key.now 0 c.args.now p.0 c.args.self.now c.prepare_add.new.self c.adopt.new.self p.1 c.in-Ok.ensures.ok.pending
+commit-requires g c = c.in-Ok.ensures.opened
 
 pub give_up-requires : goal.give_up-requires
-give_up-requires g c = let p = c.in_ok-entry.ensures.ok in
-    opened_is_open c.in_ok-entry.entry c.args.key.now 0 c.args.now p.0 c.args.self.now c.prepare_add.new.self c.adopt.new.self p.1 c.in-Err.ensures.err.pending
+give_up-requires g c = c.in-Err.ensures.opened
 
 pub returns-in-Ok-clause-ok : goal.returns-in-Ok-clause-ok
 returns-in-Ok-clause-ok g c = let p = c.in_ok-entry.ensures.ok in let f = c.in-Ok.ensures.ok in let a = f.disk in let e = c.in_ok-entry.entry in let old = c.args.self.now in
@@ -35,7 +32,7 @@ pub returns-in-Ok-clause-err : goal.returns-in-Ok-clause-err
 unfolding RefusesInsert
 returns-in-Ok-clause-err g c = let p = c.in_ok-entry.ensures.ok in let e = c.in_ok-entry.entry in
     if_err c.commit.result (λ refused. (m : ℕ) × (touches : Bool) × (removes : Bool) × RefusesCommit refused e c.args.now m touches removes c.adopt.new.self c.commit.new.self)
-    (λ refused. RefusesInsert refused c.args.key.now 0 c.args.now (λ e. AdoptsPart c.args.outside.now (temporary e.number)) (λ e. Adopts c.args.outside.now (temporary e.number)) c.args.self.now c.commit.new.self)
+    (λ refused. RefusesInsert refused c.args.key.now 0 c.args.now (λ e. AdoptsPart c.args.outside.now (temporary_of e)) (λ e. Adopts c.args.outside.now (temporary_of e)) c.args.self.now c.commit.new.self)
     (λ refused d. inr (e, p.0, c.prepare_add.new.self, c.adopt.new.self, p.1, inr (d.0, d.1, d.2, c.in-Ok.ensures.ok, d.3))) c.commit.ensures.err
 
 pub returns-in-Err-clause-err : goal.returns-in-Err-clause-err

@@ -1,4 +1,4 @@
-use Rattle.std.proofs.Common.{[], List, Option, sym, subst}
+use Rattle.std.proofs.Common.{List, Option, sym, subst}
 use Rattle.sc_entry.specs.Causes.{IfTold}
 use Rattle.sc_disk.specs.Disks.{files_now}
 use Rattle.sc_disk.specs.Store.{NoStray}
@@ -15,4 +15,4 @@ returns-in-Ok-clause-reopened g c = told_reopened c.args.size c.in-Ok.index.entr
 
 pub returns-in-Ok-clause-tidy : goal.returns-in-Ok-clause-tidy
 returns-in-Ok-clause-tidy g c = let i = c.in-Ok.ensures in let state = g.D.Disk.state in
-    subst (λ (s : List (Option Pending)). IfTold (state c.open_files.new.disk).told (λ r. NoStray s (files_now r))) (sym c.new.ensures.empty) (told_tidy c.args.size c.in-Ok.index.entries (state c.args.disk) (state c.open_files.new.disk) i.keys i.ok)
+    subst (λ (s : List (Option Pending)). IfTold (state c.open_files.new.disk).told (λ r. NoStray (state c.open_files.new.disk).divided s (files_now r))) (sym c.new.ensures.empty) (told_tidy c.args.size c.in-Ok.index.entries (state c.args.disk) (state c.open_files.new.disk) i.keys i.ok)

@@ -1,4 +1,4 @@
-use Rattle.std.proofs.Common.{◌≡◌, ◌+◌, ◌≤◌, ℕ, List, sym, ap, subst, arith, ◌∷◌, [], ◌∙◌, rules, false, None, Some}
+use Rattle.std.proofs.Common.{◌≡◌, ℕ, List, sym, ap, subst, arith, ◌∷◌, [], ◌∙◌, rules, None, Some}
 use Rattle.slab.specs.Slab.{get, Updates}
 use Rattle.sc_lru.specs.LruCache.{total}
 use Rattle.sc_disk.specs.Disks.{Does}
@@ -15,8 +15,9 @@ invariant_of-self-2 g c = let s = c.self.inside in let i = c.self.invariant in l
     let n = c.insert_reserved-number.result in
     let e : Pending = record { key = c.in_ok-reserved_key.reserved_key; size = c.args.size } in
     let key : e.key ≡ c.args.key.now = search rules in
-    let path : c.in_ok-path.path ≡ temporary n = c.in_ok-path.ensures ∙ ap temporary (c.vacant_key-number.ensures.value ∙ sym r.key) in
-    let did : Does (Made (temporary n) c.args.now ∷ []) (state s.disk) (state c.create.new.self) = subst (λ (k : List ℕ). Does (Made k c.args.now ∷ []) (state s.disk) (state c.create.new.self)) path c.in_ok-create.ensures.ok in
+    let t = temporary (state s.disk).divided e.key n in
+    let path : c.in_ok-path.path ≡ t = search rules in
+    let did : Does (Made t c.args.now ∷ []) (state s.disk) (state c.create.new.self) = subst (λ (k : List ℕ). Does (Made k c.args.now ∷ []) (state s.disk) (state c.create.new.self)) path c.in_ok-create.ensures.ok in
     let more = declared-opened s.pending c.insert_reserved-number.new.self n e r.was_vacant r.updates in
     Keeps-opened s.index.entries s.index.capacity s.pending c.insert_reserved-number.new.self s.held _ s.capacity (state s.disk) (state c.create.new.self) n e c.args.now r.updates
     (ap is_temporary_path key ∙ c.requires.key) (omega (arith, i.reserved, more))
@@ -28,10 +29,12 @@ returns-clause-ok g c = let s = c.self.inside in let r = c.insert_reserved-numbe
     let e : Pending = record { key = c.in_ok-reserved_key.reserved_key; size = c.args.size } in
     let key : e.key ≡ c.args.key.now = search rules in
     let key2 : c.in_ok-key.key ≡ c.args.key.now = search rules in
-    let path : c.in_ok-path.path ≡ temporary n = c.in_ok-path.ensures ∙ ap temporary (c.vacant_key-number.ensures.value ∙ sym r.key) in
+    let d = c.is_divided-divided.result in let t = temporary d c.in_ok-key.key n in
+    let path : c.in_ok-path.path ≡ t = search rules in
     let more = declared-opened s.pending c.insert_reserved-number.new.self n e r.was_vacant r.updates in
     record {
       key = key2;
+      divided = c.is_divided-divided.ensures ∙ ap (λ w. w.disk.divided) v;
       opened = record {
         free = subst (λ w. get w.pending n ≡ None) v r.was_vacant;
         entry = subst (λ w. Updates w.pending c.insert_reserved-number.new.self n (Some (record { key = c.in_ok-key.key; size = c.args.size }))) v (opened_as s.pending c.insert_reserved-number.new.self n e.key c.in_ok-key.key c.args.size (key ∙ sym key2) r.updates);
@@ -39,5 +42,5 @@ returns-clause-ok g c = let s = c.self.inside in let r = c.insert_reserved-numbe
       };
       index = ap (λ w. w.index) v;
       capacity = ap (λ w. w.capacity) v;
-      disk = subst (λ w. Does (Made (temporary n) c.args.now ∷ []) w.disk (state c.create.new.self)) v (subst (λ (k : List ℕ). Does (Made k c.args.now ∷ []) (state s.disk) (state c.create.new.self)) path c.in_ok-create.ensures.ok);
+      disk = subst (λ w. Does (Made t c.args.now ∷ []) w.disk (state c.create.new.self)) v (subst (λ (k : List ℕ). Does (Made k c.args.now ∷ []) (state s.disk) (state c.create.new.self)) path c.in_ok-create.ensures.ok);
     }

@@ -1,9 +1,8 @@
-use Rattle.std.proofs.Common.{◌≡◌, List, ℕ, sym, ap, subst, ◌∷◌, [], ◌∙◌, None, Some, false, true}
+use Rattle.std.proofs.Common.{sym, ap, subst, [], ◌∙◌}
 use Rattle.sc_entry.specs.Keys.{is_file_key}
 use Rattle.sc_disk.specs.Disks.{Does}
 use Rattle.sc_disk.specs.Names.{temporary}
-use Rattle.sc_disk.specs.Store.{gone, firsts}
-use Rattle.sc_disk.specs.declared.change.Change.TheVariants.{Made}
+use Rattle.sc_disk.specs.Store.{gone, firsts, temporary_of}
 use Rattle.sc_disk.proofs.Names.{key_not_temporary}
 use Rattle.sc_disk.proofs.Tidying.{quiet-gone, tidy-opened, tidy-quiet, tidy-same}
 use Rattle.sc_disk.proofs.lru_disk_cache.LruDiskCache.prepare_add.Goals as goal
@@ -27,6 +26,6 @@ returns-in_err-entry-clause-tidy g c = λ h. let old = c.args.self.now in let mi
 pub returns-clause-tidy : goal.returns-clause-tidy
 returns-clause-tidy g c = λ h. let old = c.args.self.now in let mid = c.reserve_entry.new.self in let after = c.evict_to.new.self in let new = c.open_entry.new.self in
     let r = c.in_ok-reserve_entry.ensures in let e = c.in_ok-evict_to.ensures.evicts in let o = c.in_ok-entry.ensures.ok in
-    tidy-opened after.pending new.pending after.disk new.disk c.in_ok-entry.entry.number _ c.args.now [] o.opened.free o.opened.entry tt o.disk
+    tidy-opened after.pending new.pending after.disk new.disk c.in_ok-entry.entry.number (record { key = c.in_ok-entry.entry.key; size = c.args.size }) (temporary_of c.in_ok-entry.entry) c.args.now [] (ap (λ v. temporary v c.in_ok-entry.entry.key c.in_ok-entry.entry.number) o.divided) o.opened.free o.opened.entry tt o.disk
     (tidy-same old.pending.slots after.pending.slots after.disk (ap (λ p. p.slots) e.1.pending ∙ r.slots)
     (tidy-quiet old.pending.slots old.disk after.disk (gone (firsts e.0 mid.index)) (quiet-gone (firsts e.0 mid.index)) (subst (λ d. Does (gone (firsts e.0 mid.index)) d after.disk) r.disk e.1.disk) h))

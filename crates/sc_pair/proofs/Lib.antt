@@ -1,0 +1,9 @@
+pub mod Arms
+pub mod Boxes
+pub mod Changes
+pub mod Joined
+pub mod Keys
+pub mod Leaving
+pub mod Opened
+pub mod Shares
+pub mod Weaving

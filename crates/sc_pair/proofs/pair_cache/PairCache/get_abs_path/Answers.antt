@@ -1,0 +1,15 @@
+use Rattle.std.proofs.Common.{ap, ◌∙◌, subst}
+use Rattle.sc_disk.specs.Paths.{FindsPath, abs_path}
+use Rattle.sc_pair.specs.Pairs.{root_of}
+use Rattle.sc_pair.proofs.Changes.{path-absent, path-found}
+use Rattle.sc_pair.proofs.pair_cache.PairCache.get_abs_path.Goals as goal
+
+pub returns-in-Some-clause-path : goal.returns-in-Some-clause-path
+returns-in-Some-clause-path g c = let old = c.args.self.now in let key = c.args.key.now in let k = c.in_ok-both.both in
+    path-found c.args.part key k (root_of c.args.part old.store.disk.root old.pre_root) c.in_ok-path.path c.in-Some.field-0 old.store c.get_abs_path.new.self c.in_ok-both.ensures.key c.in_ok-both.ensures.good
+    (c.in_ok-path.ensures ∙ ap (λ r. abs_path r key) c.path.ensures) (subst (λ o. FindsPath k o old.store c.get_abs_path.new.self) c.in-Some.is c.in_ok-get_abs_path.ensures.path)
+
+pub returns-clause-path : goal.returns-clause-path
+returns-clause-path g c = let old = c.args.self.now in let key = c.args.key.now in let k = c.in_ok-both.both in
+    path-absent c.args.part key k (root_of c.args.part old.store.disk.root old.pre_root) old.store c.get_abs_path.new.self c.in_ok-both.ensures.key c.in_ok-both.ensures.good
+    (subst (λ o. FindsPath k o old.store c.get_abs_path.new.self) c.in-None.is c.in_ok-get_abs_path.ensures.path)

@@ -1,0 +1,5 @@
+pub mod Codes
+pub mod LazyLends
+pub mod Pairs
+pub mod Parts
+pub mod Twos
