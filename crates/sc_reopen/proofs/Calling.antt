@@ -1,26 +1,25 @@
 -- What a stop inside each call leaves.
-use Rattle.std.proofs.Common.{◌≡◌, ◌⊎◌, inl, inr, ℕ, zero, suc, ◌+◌, ◌≤◌, Bool, true, false, cond, is_some, bytes_eq, List, [], ◌∷◌, ◌++◌, take, drop, length, option_map, Option, Some, None, Result, refl, sym, ap, ◌∙◌, subst, arith, append_assoc}
-use Rattle.std.specs.Map.{lookup}
+use Rattle.std.proofs.Common.{◌≡◌, inl, inr, ℕ, ◌≤◌, Bool, true, false, List, [], ◌∷◌, ◌++◌, take, drop, option_map, Option, Some, None, Result, refl, sym, ap, ◌∙◌, subst, arith, append_assoc}
 use Rattle.sc_entry.specs.Causes.{IfTold}
 use Rattle.sc_lru.specs.LruCache.{total}
-use Rattle.sc_disk.specs.Calls.{Commits, Gets, Prepares, RefusesAdd, RefusesCommit, RefusesGet, Removes, removed_by, touched_by}
-use Rattle.sc_disk.specs.Disks.{Adopts, AdoptsPart, DiskFiles, DiskRecord, DiskState, Does, DoesPart, HasBytes, IsSize, change, did_all, disk_file, disk_file_at, files_now, replay}
+use Rattle.sc_disk.specs.Calls.{Commits, Prepares, RefusesAdd, RefusesCommit, removed_by, touched_by}
+use Rattle.sc_disk.specs.Disks.{Adopts, AdoptsPart, DiskFiles, DiskRecord, DiskState, Does, DoesPart, HasBytes, did_all, disk_file, disk_file_at, files_now, replay}
 use Rattle.sc_disk.specs.declared.disk_file.DiskFile.{DiskFile}
-use Rattle.sc_disk.specs.Inserting.{Fills, GivesUp, Inserts, Only, RefusesInsert, added, content}
+use Rattle.sc_disk.specs.Inserting.{Fills, Inserts, RefusesInsert, added, content}
 use Rattle.sc_disk.specs.Names.{is_temporary_path, temporary}
 use Rattle.sc_disk.specs.Sound.{IsSound}
 use Rattle.sc_disk.specs.Writing.{RefusesWriting}
 use Rattle.sc_disk.specs.declared.writing.InsertError.{InsertError}
-use Rattle.sc_disk.specs.Store.{AddEntry, Agrees, Alters, AreKeys, HasFiles, Store, firsts, gone, indexed, reserved, size_of, temporary_of}
+use Rattle.sc_disk.specs.Store.{AddEntry, AreKeys, HasFiles, Store, firsts, gone, size_of, temporary_of}
 use Rattle.sc_disk.specs.declared.change.Change.{Change}
 use Rattle.sc_disk.specs.declared.error.Error.{Error}
-use Rattle.sc_disk.specs.declared.change.Change.TheVariants.{Made, Added, Touched, Moved, Gone}
+use Rattle.sc_disk.specs.declared.change.Change.TheVariants.{Made, Added, Touched, Moved}
 use Rattle.sc_disk.proofs.Changing.{size}
 use Rattle.sc_disk.proofs.Doing.{does-after, replay-append}
 use Rattle.sc_disk.proofs.Pairs.{Index}
 use Rattle.sc_disk.proofs.Reopening.{AreKeys-dropped}
 use Rattle.sc_disk.proofs.Temporaries.{temporary_is}
-use Rattle.sc_reopen.specs.Moments.{Effect, Keeps, Moments, Removed, Stored, Used, removals, removals_by, used_by}
+use Rattle.sc_reopen.specs.Moments.{Effect, Keeps, Moments, Stored, removals, removals_by, used_by}
 use Rattle.sc_reopen.proofs.Playing.{AllHidden, Plays, filled-at, hidden-added, plays-append, plays-gone, plays-hiddens, plays-settled, plays-used, temporary-stays}
 use Rattle.sc_reopen.proofs.Within.{AllReduce, keeps-reduced, keeps-stored, reduce-append, reduce-removals}
 

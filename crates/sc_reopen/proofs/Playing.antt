@@ -1,8 +1,8 @@
 -- Changes of files one after another, and their effects on those that are no temporaries.
-use Rattle.std.proofs.Common.{◌≡◌, ◌⊎◌, inl, inr, ℕ, zero, suc, Bool, true, false, cond, bytes_eq, List, [], ◌∷◌, ◌++◌, take, drop, option_map, Option, Some, None, refl, sym, ap, ◌∙◌, subst, append_assoc}
+use Rattle.std.proofs.Common.{◌≡◌, ◌⊎◌, inl, inr, ℕ, zero, suc, Bool, true, false, cond, bytes_eq, List, [], ◌∷◌, ◌++◌, take, option_map, Option, Some, None, refl, sym, ap, ◌∙◌, subst, append_assoc}
 use Rattle.std.specs.FinMap as map
 use Rattle.sc_disk.specs.declared.disk_file.DiskFile.{DiskFile}
-use Rattle.sc_disk.specs.Disks.{DiskFiles, DiskState, Does, change, disk_file, disk_file_at, replay, with_disk_file}
+use Rattle.sc_disk.specs.Disks.{DiskFiles, change, disk_file, disk_file_at, replay, with_disk_file}
 use Rattle.sc_disk.specs.Inserting.{added, content}
 use Rattle.sc_disk.specs.Names.{is_temporary_path}
 use Rattle.sc_disk.specs.Store.{AreKeys, firsts, gone}

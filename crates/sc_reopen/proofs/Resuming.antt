@@ -1,5 +1,5 @@
 -- A store that is opened on what a stop left.
-use Rattle.std.proofs.Common.{◌≡◌, ℕ, zero, suc, ◌+◌, ◌<◌, ◌≤◌, Bool, true, false, cond, not, ◌&&◌, nat_le, is_some, List, [], ◌∷◌, ◌++◌, length, drop, slice_index_or, option_map, Option, Some, None, refl, sym, ap, ◌∙◌, subst, arith, length-append}
+use Rattle.std.proofs.Common.{◌≡◌, ℕ, zero, suc, ◌<◌, ◌≤◌, Bool, true, false, cond, not, ◌&&◌, nat_le, is_some, List, [], ◌∷◌, ◌++◌, length, drop, slice_index_or, option_map, Option, Some, None, refl, sym, ap, ◌∙◌, subst, arith, length-append}
 use Rattle.std.proofs.lemmas.Bool.Decides.{nat_tests}
 use Rattle.std.proofs.lemmas.List.Sorted.{IsPermutation-map, sum_by-IsPermutation}
 use Rattle.std.specs.List.Sorted.{IsPermutation}
@@ -10,17 +10,17 @@ use Rattle.sc_disk.specs.Disks.{DiskFiles, DiskRecord, DiskState, Does, did_all,
 use Rattle.sc_disk.specs.declared.disk_file.DiskFile.{DiskFile}
 use Rattle.sc_disk.specs.Lazy.{IsOpened}
 use Rattle.sc_disk.specs.Names.{is_temporary_path}
-use Rattle.sc_disk.specs.Opening.{Indexes, Reopens, dropped_of, kept_of, pair_of, pairs_of, paths_of, use_cmp}
+use Rattle.sc_disk.specs.Opening.{Indexes, Reopens, dropped_of, kept_of, pair_of, pairs_of, paths_of}
 use Rattle.sc_disk.specs.Sound.{IsSound}
-use Rattle.sc_disk.specs.Store.{HasFiles, Needed, NoStray, Store, firsts, gone, indexed, reserved, size_of}
+use Rattle.sc_disk.specs.Store.{HasFiles, Needed, NoStray, Store, firsts, gone, size_of}
 use Rattle.sc_disk.specs.declared.change.Change.{Change}
 use Rattle.sc_disk.specs.declared.change.Change.TheVariants.{Gone}
 use Rattle.sc_disk.specs.declared.disk.Listed.{Listed}
 use Rattle.sc_disk.specs.declared.pending.Pending.{Pending}
 use Rattle.sc_disk.proofs.Doing.{replay-append}
 use Rattle.sc_disk.proofs.Pairs.{Index}
-use Rattle.sc_reopen.specs.Moments.{Calls, Effect, HasHad, IsWithin, Keeps, LeftBy, Moments, Shows, Standing, effects_of, shown_of, stood}
-use Rattle.sc_reopen.specs.Reopening.{HasTold, ReopensBetween, ReopensInside, Resumes, StopsAt, temporaries_of}
+use Rattle.sc_reopen.specs.Moments.{Calls, Effect, IsWithin, Keeps, LeftBy, Moments, Shows, Standing, effects_of, shown_of, stood}
+use Rattle.sc_reopen.specs.Reopening.{HasTold, ReopensBetween, ReopensInside, Resumes, temporaries_of}
 use Rattle.sc_reopen.proofs.Playing.{AllHidden, left-last, plays-hiddens, stood-append, stood-same}
 use Rattle.sc_reopen.proofs.Within.{part-agrees, within-part}
 use Rattle.sc_disk.proofs.Changing.{size}

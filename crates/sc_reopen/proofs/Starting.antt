@@ -1,5 +1,5 @@
 -- A stop inside an opening, and a second opening.
-use Rattle.std.proofs.Common.{◌≡◌, ◌⊎◌, inl, inr, ℕ, zero, suc, ◌+◌, ◌<◌, ◌≤◌, List, [], ◌∷◌, ◌++◌, Option, Some, option_map, refl, sym, ap, ◌∙◌, subst, arith, append_assoc}
+use Rattle.std.proofs.Common.{◌≡◌, ◌⊎◌, inl, inr, ℕ, zero, suc, ◌≤◌, List, [], ◌∷◌, ◌++◌, Option, Some, option_map, refl, sym, ap, ◌∙◌, subst, arith, append_assoc}
 use Rattle.sc_entry.specs.Causes.{IfTold}
 use Rattle.sc_disk.specs.Disks.{DiskFiles, DiskRecord, DiskState, Does, change, did_all, files_now, listing, replay}
 use Rattle.sc_disk.specs.Opening.{Begins, Indexes, IsReopened, IsUseOrder, RefusesOpening, Reopens, dropped_of, pairs_of, paths_of}

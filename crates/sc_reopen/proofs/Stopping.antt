@@ -1,9 +1,9 @@
 -- Each call's clauses, and what a stop inside it leaves.
-use Rattle.std.proofs.Common.{◌≡◌, ◌⊎◌, inl, inr, ℕ, Bool, true, List, [], ◌∷◌, Result, is_some, bytes_eq}
+use Rattle.std.proofs.Common.{◌≡◌, ◌⊎◌, inl, inr, ℕ, true, List, [], ◌∷◌, Result, is_some, bytes_eq}
 use Rattle.std.specs.Map.{lookup}
 use Rattle.sc_disk.specs.Disks.{DiskState, Does, DoesPart}
 use Rattle.sc_disk.specs.Names.{is_temporary_path}
-use Rattle.sc_disk.specs.Store.{AddEntry, Store, firsts, temporary_of}
+use Rattle.sc_disk.specs.Store.{AddEntry, firsts, temporary_of}
 use Rattle.sc_disk.specs.declared.change.Change.TheVariants.{Added}
 use Rattle.sc_disk.proofs.Temporaries.{temporary_is}
 use Rattle.sc_reopen.specs.Moments.{removals, removals_by, used_by}

@@ -1,5 +1,5 @@
 -- What files take together.
-use Rattle.std.proofs.Common.{◌≡◌, ◌≢◌, ◌⊎◌, inl, inr, ℕ, zero, suc, ◌+◌, ◌≤◌, Bool, true, false, cond, not, bytes_eq, List, [], ◌∷◌, ◌++◌, length, option_map, Option, Some, None, refl, sym, ap, ◌∙◌, subst, arith}
+use Rattle.std.proofs.Common.{◌≡◌, ℕ, ◌+◌, ◌≤◌, Bool, true, false, cond, not, bytes_eq, List, [], ◌∷◌, ◌++◌, length, option_map, Option, Some, None, refl, sym, ap, ◌∙◌, subst, arith}
 use Rattle.std.proofs.lemmas.Map.Keys.{IsDistinct-tail}
 use Rattle.std.specs.List.{IsDistinct}
 use Rattle.std.specs.Map.{keys_of, lookup, remove_entry}
@@ -17,7 +17,7 @@ use Rattle.sc_disk.proofs.Files.{same_path, self_path}
 use Rattle.sc_disk.proofs.Pairs.{Index, absent_later, lookup-removed_other}
 use Rattle.sc_disk.proofs.Reopening.{files_listed}
 use Rattle.sc_reopen.proofs.Playing.{Plays}
-use Rattle.sc_reopen.specs.Moments.{Effect, HasHad, IsWithin, Keeps, LeftBy, Removed, Shows, Standing, Stored, Used, removals, shown_of, stood}
+use Rattle.sc_reopen.specs.Moments.{Effect, IsWithin, Keeps, Removed, Shows, Standing, Stored, Used, removals, shown_of, stood}
 
 some_none : (n : ℕ) → ◌≡◌ {A = Option ℕ} None (Some n) → ⊥
 some_none n h = cc

@@ -1,5 +1,5 @@
 -- What a store is that is opened on what a stop left.
-use Rattle.std.specs.Prelude.{◌≡◌, ℕ, cond, List, ◌++◌, Option, Some, None}
+use Rattle.std.specs.Prelude.{◌≡◌, ℕ, cond, List, ◌++◌, Some, None}
 use Rattle.std.specs.List.{filter}
 use Rattle.std.specs.List.Sorted.{IsPermutation, IsSorted}
 use Rattle.sc_entry.specs.Causes.{IfTold}

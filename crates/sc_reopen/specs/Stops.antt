@@ -2,11 +2,11 @@
 use Rattle.std.specs.Prelude.{◌≡◌, ◌⊎◌, ℕ, Bool, true, is_some, bytes_eq, List, [], ◌∷◌, ◌++◌, drop, Result}
 use Rattle.std.specs.Map.{lookup}
 use Rattle.sc_disk.specs.Calls.{Commits, Gets, Prepares, RefusesAdd, RefusesCommit, RefusesGet, Removes, removed_by}
-use Rattle.sc_disk.specs.Disks.{Adopts, AdoptsPart, DiskState, Does, DoesPart, HasBytes, HasOutside}
+use Rattle.sc_disk.specs.Disks.{Adopts, AdoptsPart, Does, DoesPart, HasBytes}
 use Rattle.sc_disk.specs.Inserting.{Fills, Inserts, RefusesInsert, content}
 use Rattle.sc_disk.specs.Sound.{IsSound}
 use Rattle.sc_disk.specs.Store.{AddEntry, Store, firsts, temporary_of}
-use Rattle.sc_disk.specs.Writing.{RefusesWriting, StoresWritten}
+use Rattle.sc_disk.specs.Writing.{RefusesWriting}
 use Rattle.sc_disk.specs.declared.change.Change.TheVariants.{Added}
 use Rattle.sc_disk.specs.declared.error.Error.{Error}
 use Rattle.sc_disk.specs.declared.writing.InsertError.{InsertError}
