@@ -11,3 +11,4 @@ pub mod Writing
 pub mod Lazy
 pub mod Paths
 pub mod Sound
+pub mod LazyLends

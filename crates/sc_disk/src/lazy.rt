@@ -1,65 +1,117 @@
-//! A store of files that is opened at its first use.
-ghost use Rattle.std.specs.Prelude.{◌≡◌, ◌↔◌, Some, IfErr, OnOk, IsTrue, is_some, true};
-ghost use Rattle.sc_disk.specs.Lazy.{HasCapacity, HasRoot, InitBy, IsUninit, StaysUninit};
+//! A store of files that is opened when it is first needed.
+ghost use Rattle.std.specs.Prelude.{◌≡◌, true, false, ◌||◌, is_some, Some, None, IfErr, IfSome, OnOk};
+ghost use Rattle.std.specs.Option.{option_copied_mut};
+ghost use Rattle.sc_disk.specs.Lazy.{IsOpened};
+ghost use Rattle.sc_disk.specs.Opening.{RefusesOpening};
+ghost use Rattle.sc_disk.specs.Refusals.{DiskRefusal};
 
 use crate::disk::Disk;
 use crate::error::Error;
 use crate::lru_disk_cache::LruDiskCache;
-use crate::opening::OpenError;
 use sc_entry::ByteText;
 use std::alloc::Global;
 
-/// Whether a store was opened.
-#[derive(Drop)]
-pub enum LazyState<D: Disk> {
-    /// Its disk, and the capacity that it is to have in bytes.
-    Uninit { disk: D, max_size: u64 },
-    Init(LruDiskCache<D>),
-}
-
-/// A store that is opened at its first use. A refused opening leaves it with its disk, so the next use opens it anew.
+/// A store of files that is opened when it is first needed. A refused opening leaves its disk, so the next use opens it anew.
 ///
-/// A clause sees its `state`, which is always there.
+/// A clause sees the store as `opened` once it is opened, and its disk as `disk` until then.
 #[derive(Drop)]
 pub struct LazyDiskCache<D: Disk> {
     alloc: Global,
-    // It is away only while the store is being opened.
-    state: Option<LazyState<D>>,
-    ghost present: { is_some state ≡ true },
+    max_size: u64,
+    disk: Option<D>,
+    opened: Option<LruDiskCache<D>>,
+    ghost one: { (is_some disk || is_some opened) ≡ true },
 }
 
 impl<D: Disk> LazyDiskCache<D> {
-    /// A store that isn't opened yet, on a disk, with this capacity in bytes.
+    /// A store of this capacity in bytes on a disk, which isn't opened yet.
     pub fn new(alloc: Global, disk: D, max_size: u64) -> LazyDiskCache<D>
-        ensures { IsUninit disk max_size result.state }
+        ensures disk { result.disk ≡ Some disk }
+        ensures max_size { result.max_size ≡ max_size }
     {
         LazyDiskCache {
             alloc,
-            state: Some(LazyState::Uninit { disk, max_size }),
+            max_size,
+            disk: Some(disk),
+            opened: None,
         }
+    }
+
+    /// Whether the store is opened.
+    pub fn is_opened(&self) -> bool
+        ensures opened { result ≡ is_some self.now.opened }
+        ensures disk { result ≡ false → is_some self.now.disk ≡ true }
+    {
+        self.opened.is_some()
+    }
+}
+
+impl<D: Disk + Drop> LazyDiskCache<D> {
+    /// Opens the store, unless it is opened; `get` lends it then. A refusal leaves its disk.
+    pub fn get_or_init(&mut self, now: u64) -> Result<(), Error>
+        ensures opened { OnOk result (is_some self.new.opened ≡ true) }
+        ensures same { is_some self.old.opened ≡ true → OnOk result (self.new.opened ≡ self.old.opened) }
+        ensures ok { OnOk result ((was : D) → self.old.opened ≡ None → self.old.disk ≡ Some was → IfSome self.new.opened (λ c. IsOpened self.old.max_size (D.state was) c)) }
+        ensures err { IfErr result (λ refused. (was : D) × (left : D) × (self.old.disk ≡ Some was) × (self.new.disk ≡ Some left) × RefusesOpening self.old.max_size (D.state was) (D.state left) × DiskRefusal (D.state was).faults (D.state left).faults refused) }
+        ensures max_size { self.new.max_size ≡ self.old.max_size }
+    {
+        if self.opened.is_some() {
+            return Ok(());
+        }
+        let Some(disk) = self.disk.take() else {
+            unreachable!()
+        };
+        match LruDiskCache::new(self.alloc, disk, self.max_size, now) {
+            Ok(cache) => {
+                self.opened = Some(cache);
+                Ok(())
+            }
+            Err(refused) => {
+                self.disk = Some(refused.disk);
+                Err(refused.error)
+            }
+        }
+    }
+}
+
+impl<D: Disk> LazyDiskCache<D> {
+    ghost use Rattle.std.specs.Borrow.{sem};
+    ghost use Rattle.sc_disk.specs.LazyLends.{lends_opened};
+
+    /// The store, once it is opened.
+    pub fn get(&mut self) -> Option<&mut LruDiskCache<D>>
+        ensures* writes_back { sem 𝓛 (lends_opened D.row D.Disk self.entry result) }
+        ensures value { option_copied_mut result ≡ self.old.opened }
+    {
+        self.opened.as_mut()
     }
 
     /// The most bytes that the files may take.
     pub fn capacity(&self) -> u64
-        ensures { HasCapacity self.now.state result }
+        ensures { result ≡ self.now.max_size }
     {
-        match &self.state {
-            Some(LazyState::Uninit { max_size, .. }) => *max_size,
-            Some(LazyState::Init(store)) => store.capacity(),
-            None => 0,
-        }
+        self.max_size
     }
-}
 
-impl<D: Disk> LazyDiskCache<D> {
     /// The path that the files stand under.
     pub fn path(&self) -> &ByteText
-        ensures { HasRoot D.state self.now.state result.now }
+        ensures opened { IfSome self.now.opened (λ c. result.now ≡ c.disk.root) }
+        ensures disk { self.now.opened ≡ None → IfSome self.now.disk (λ d. result.now ≡ (D.state d).root) }
     {
-        let state = self.state.as_ref().unwrap();
-        match state {
-            LazyState::Uninit { disk, .. } => disk.root(),
-            LazyState::Init(store) => store.path(),
+        match &self.opened {
+            Some(cache) => cache.path(),
+            None => self.unopened(),
+        }
+    }
+
+    // The path of the disk, while the store isn't opened.
+    fn unopened(&self) -> &ByteText
+        requires { self.now.opened ≡ None }
+        ensures { IfSome self.now.disk (λ d. result.now ≡ (D.state d).root) }
+    {
+        match &self.disk {
+            Some(disk) => disk.root(),
+            None => unreachable!(),
         }
     }
 }
