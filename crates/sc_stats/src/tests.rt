@@ -368,5 +368,5 @@ fn ample_clone_of_distribution(rt: HostRuntime) -> Result<(), Fail> {
 #[test]
 fn prints_on_standard_output(rt: HostRuntime) {
     let mut writer = StdoutServerStatsWriter { runtime: &rt };
-    writer.write("Compile requests 0");
+    writer.write("Cache location");
 }
