@@ -94,7 +94,7 @@ find-neither q h [] [] = refl
 find-neither q h [] (f ∷ fs) = ap (λ b. cond b (Some f.1) (find by_path q (files_in Pre fs))) (is_eq-slice_cmp q (in_part Pre f.0) ∙ h Pre f.0) ∙ find-neither q h [] fs
 find-neither q h (e ∷ es) fs = ap (λ b. cond b (Some e.1) (find by_path q (files_in Main es ++ files_in Pre fs))) (is_eq-slice_cmp q (in_part Main e.0) ∙ h Main e.0) ∙ find-neither q h es fs
 
-at-neither : (f g : DiskFiles) (q : List ℕ) → IsNeither q → disk_file_at (joined f g) q ≡ None
+pub at-neither : (f g : DiskFiles) (q : List ℕ) → IsNeither q → disk_file_at (joined f g) q ≡ None
 at-neither f g q h = at-joined f g q ∙ find-neither q h (map.entries f) (map.entries g)
 
 -- Each path is of one part or of neither.

@@ -4,6 +4,7 @@ pub mod Changes
 pub mod Joined
 pub mod Keys
 pub mod Leaving
+pub mod Placed
 pub mod Opened
 pub mod Shares
 pub mod Weaving

@@ -1,5 +1,5 @@
 -- The two parts of a pair of folders, and how their paths, files and changes are told as those of one folder.
-use Rattle.std.specs.Prelude.{ℕ, ◌==◌, Bool, ◌&&◌, cond, bytes_eq, List, [], ◌∷◌, ◌++◌, map as each, Option, Some, None}
+use Rattle.std.specs.Prelude.{◌≡◌, ℕ, ◌==◌, Bool, ◌&&◌, cond, bytes_eq, List, [], ◌∷◌, ◌++◌, map as each, Option, Some, None}
 use Rattle.std.specs.FinMap as map
 use Rattle.std.specs.Cmp.Lexicographic.{pointwise}
 use Rattle.sc_disk.specs.Disks.{DiskFiles, OutsideFiles, disk_file_at}
@@ -63,3 +63,7 @@ same_pair a b = bytes_eq a.0 b.0 && bytes_eq a.1 b.1
 -- the same bytes stand outside
 unfoldable pub same_outside : OutsideFiles → OutsideFiles → Bool
 same_outside a b = pointwise same_pair (map.entries a) (map.entries b)
+
+-- each file is of one of the parts
+abbrev pub ArePlaced : DiskFiles → Type 0
+ArePlaced f = (q : List ℕ) → cut_part q ≡ None → disk_file_at f q ≡ None

@@ -1,10 +1,11 @@
 //! Two folders that are opened as one store when it is first needed.
-ghost use Rattle.std.specs.Prelude.{◌≡◌, ℕ, Bool, true, false, ◌||◌, is_some, Option, Some, None, [], IfErr, IfSome, OnOk};
+ghost use Rattle.std.specs.Prelude.{◌≡◌, ℕ, Bool, true, false, ◌||◌, is_some, Option, Some, None, [], IfErr, IfSome, OnErr, OnOk};
 ghost use Rattle.std.specs.Option.{option_copied_mut};
 ghost use Rattle.sc_entry.specs.Causes.{IfTold};
 ghost use Rattle.sc_disk.specs.Disks.{files_now};
 ghost use Rattle.sc_disk.specs.Opening.{IsReopened, RefusesOpening, Reopens};
 ghost use Rattle.sc_disk.specs.Refusals.{DiskRefusal};
+ghost use Rattle.sc_disk.specs.Sound.{IsSound};
 ghost use Rattle.sc_disk.specs.Store.{IsTidy};
 ghost use Rattle.sc_pair.specs.Pairs.{root_of};
 ghost use Rattle.sc_pair.specs.Twos.{TwoState, disk_of, joined_state, joins};
@@ -56,7 +57,8 @@ impl<D: Disk + Drop> LazyPair<D> {
     pub fn get_or_init(&mut self, now: u64) -> Result<(), Error>
         ensures opened { OnOk result (is_some self.new.opened ≡ true) }
         ensures same { is_some self.old.opened ≡ true → OnOk result (self.new.opened ≡ self.old.opened) }
-        ensures ok { OnOk result ((was : TwoState) → self.old.opened ≡ None → self.old.disks ≡ Some was → IfSome self.new.opened (λ c. Reopens self.old.max_size c.store.index (joined_state was) c.store.disk × IfTold was.told (λ r. IsReopened self.old.max_size (files_now r) c.store.index) × (c.store.capacity ≡ self.old.max_size) × (c.store.pending.slots ≡ []) × IsTidy c.store × (c.pre_root ≡ was.pre.root))) }
+        ensures ok { OnOk result ((was : TwoState) → self.old.opened ≡ None → self.old.disks ≡ Some was → IfSome self.new.opened (λ c. Reopens self.old.max_size c.store.index (joined_state was) c.store.disk × IfTold was.told (λ r. IsReopened self.old.max_size (files_now r) c.store.index) × (c.store.capacity ≡ self.old.max_size) × (c.store.pending.slots ≡ []) × IsTidy c.store × (c.pre_root ≡ was.pre.root) × IsSound c.store)) }
+        ensures unopened { OnErr result ((self.old.opened ≡ None) × (self.new.opened ≡ None)) }
         ensures err { IfErr result (λ refused. (was : TwoState) × (left : TwoState) × (self.old.disks ≡ Some was) × (self.new.disks ≡ Some left) × RefusesOpening self.old.max_size (joined_state was) (joined_state left) × DiskRefusal (joined_state was).faults (joined_state left).faults refused) }
         ensures max_size { self.new.max_size ≡ self.old.max_size }
     {
@@ -68,6 +70,7 @@ impl<D: Disk + Drop> LazyPair<D> {
         };
         match PairCache::open(self.alloc, disks, self.max_size, now) {
             Ok(cache) => {
+                cache.keeps();
                 self.opened = Some(cache);
                 Ok(())
             }

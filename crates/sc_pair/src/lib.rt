@@ -8,6 +8,7 @@ mod pair_path;
 mod pair_writing;
 mod part;
 mod paths;
+mod sound;
 mod two;
 
 pub use lazy_pair::LazyPair;

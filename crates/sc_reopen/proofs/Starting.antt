@@ -121,7 +121,7 @@ reopens_opening capacity index a b d r c t told o stop has opened =
     let second : IsReopened capacity c t.index = of-told d.told has.0 c (λ f. IsReopened capacity f t.index) has.1 has.2 opened.reopened in
     again-late capacity i.n (files_now r) i.order left.0 left.1 o.0 t.index i.ordered i.evicted.0 i.removed left.2 (subst (λ f. IsReopened capacity f t.index) left.3 second)
 
-again-refused : (capacity : ℕ) (f : DiskFiles) (removed ls rs : List Path) (index : Index) → Begins capacity removed f → ls ++ rs ≡ removed → IsReopened capacity (replay f (gone ls)) index → IsReopened capacity f index
+pub again-refused : (capacity : ℕ) (f : DiskFiles) (removed ls rs : List Path) (index : Index) → Begins capacity removed f → ls ++ rs ≡ removed → IsReopened capacity (replay f (gone ls)) index → IsReopened capacity f index
 again-refused capacity f removed ls rs index (inl p) front r = again-early capacity f ls (rs ++ p.0) index (sym (append_assoc ls rs p.0) ∙ ap (λ l. l ++ p.0) front ∙ p.1) r
 again-refused capacity f removed ls rs index (inr p) front r = again-late capacity p.1 f p.0 ls rs removed index p.2 p.3 p.4 front r
 

@@ -1,0 +1,103 @@
+-- What a contract sees of a disk store of two folders, whether it is opened or not.
+use Rattle.std.specs.Prelude.{◌≡◌, ℕ, suc, Bool, true, false, is_some, List, [], ◌∷◌, ◌++◌, codes, Option, Some, None, slice_index_or}
+use Rattle.std.specs.Option.{option_map}
+use Rattle.sc_disk.specs.Disks.{DiskFiles, DiskRecord, DiskState, files_now, no_disk_files, untold_disk}
+use Rattle.sc_disk.specs.Names.{temporary}
+use Rattle.sc_disk.specs.Store.{Store, declared}
+use Rattle.sc_disk.specs.declared.disk.Disk as device
+use Rattle.sc_disk.specs.declared.pending.Pending.{Pending}
+use Rattle.sc_entry.specs.Keys.{make_key_path}
+use Rattle.sc_entry.specs.declared.cache_mode.CacheMode.{CacheMode}
+use Rattle.sc_model.specs.World.{Level}
+use Rattle.sc_model.specs.declared.level.LevelFacts.{LevelFacts}
+use Rattle.sc_model.specs.declared.level.LevelKind.TheVariants.{Disk}
+use Rattle.sc_pair.specs.Parts.{in_part}
+use Rattle.sc_pair.specs.Twos.{TwoState, joined_state}
+use Rattle.sc_pair.specs.declared.lazy_pair.LazyPair.{LazyPair}
+use Rattle.sc_pair.specs.declared.pair_cache.PairCache.{PairCache}
+use Rattle.sc_pair.specs.declared.part.Part.TheVariants.{Main, Pre}
+use Rattle.sc_disk_cache.specs.Reopened.{reopened}
+use Rattle.sc_disk_cache.specs.Shown.{Index, bytes_at, files_of}
+use Rattle.sc_disk_cache.specs.declared.disk_cache.DiskCache.{DiskCache}
+
+-- An open entry: the path of its file among those of both folders, the bytes that it declared, and those that it was
+-- filled with.
+pub record OpenEntry : Type 0 where
+  pub path : List ℕ
+  pub size : ℕ
+  pub bytes : List ℕ
+
+-- A disk store: what does not change of it, whether its disks tell what they hold, what it holds where they tell that, the
+-- bytes that its open entries have declared, and the open entries by their numbers.
+pub record DiskStore : Type 0 where
+  pub facts : LevelFacts
+  pub told : Bool
+  pub level : Level
+  pub reserved : ℕ
+  pub entries : List (Option OpenEntry)
+
+-- the files of a disk, where it tells them
+abbrev pub told_files : Option DiskRecord → DiskFiles
+told_files None = no_disk_files
+told_files (Some r) = files_now r
+
+abbrev pub disk_facts : CacheMode → ℕ → List ℕ → LevelFacts
+disk_facts mode capacity root = record { kind = Disk; wrapped = false; configured = mode; mode = mode; capacity = capacity; root = root }
+
+-- the files of this index, on this disk
+abbrev pub level_of : Bool → Index → DiskState → Level
+level_of opened index d = record { faults = d.faults; losses = 0; calls = None; opened = opened; main = files_of Main index (told_files d.told); pre = files_of Pre index (told_files d.told) }
+
+abbrev pub bytes_or : Option (List ℕ) → List ℕ
+bytes_or None = []
+bytes_or (Some bytes) = bytes
+
+abbrev pub open_entry : Bool → DiskFiles → ℕ → Pending → OpenEntry
+open_entry divided f number p = record { path = p.key; size = p.size; bytes = bytes_or (bytes_at f (temporary divided p.key number)) }
+
+-- the open entries from this number on
+abbrev pub entries_from : Bool → DiskFiles → ℕ → List (Option Pending) → List (Option OpenEntry)
+entries_from divided f number [] = []
+entries_from divided f number (slot ∷ slots) = option_map (open_entry divided f number) slot ∷ entries_from divided f (suc number) slots
+
+abbrev pub entries_of : Store → List (Option OpenEntry)
+entries_of s = entries_from s.disk.divided (told_files s.disk.told) 0 s.pending.slots
+
+-- the open entry of a number, if there is one
+abbrev pub entry_at : List (Option OpenEntry) → ℕ → Option OpenEntry
+entry_at entries number = slice_index_or entries number None
+
+-- where the file of a store key stands, among those of both folders
+abbrev pub entry_path : List ℕ → List ℕ
+entry_path key = in_part Main (make_key_path key)
+
+-- a store that is opened
+abbrev pub opened_store : CacheMode → ℕ → Store → DiskStore
+opened_store mode capacity s = record {
+  facts = disk_facts mode capacity s.disk.root;
+  told = is_some s.disk.told;
+  level = level_of true s.index s.disk;
+  reserved = declared s.pending.slots;
+  entries = entries_of s;
+}
+
+-- one that isn't, on this disk
+abbrev pub unopened_store : CacheMode → ℕ → DiskState → DiskStore
+unopened_store mode capacity d = record {
+  facts = disk_facts mode capacity d.root;
+  told = is_some d.told;
+  level = level_of false (reopened capacity (told_files d.told)) d;
+  reserved = 0;
+  entries = [];
+}
+
+abbrev pub state_of : Option TwoState → DiskState
+state_of None = untold_disk [] 0
+state_of (Some t) = joined_state t
+
+abbrev pub store_of : {D : Type 0} → CacheMode → ℕ → Option (PairCache D) → Option TwoState → DiskStore
+store_of mode capacity (Some c) t = opened_store mode capacity c.store
+store_of mode capacity None t = unopened_store mode capacity (state_of t)
+
+abbrev pub held_disk : {D : Type 0} {g : device.Ghosts D} → DiskCache D g → DiskStore
+held_disk c = store_of c.mode c.pair.max_size c.pair.opened c.pair.disks

@@ -1,0 +1,3 @@
+pub mod DiskStores
+pub mod Reopened
+pub mod Shown
