@@ -1,9 +1,34 @@
 //! The paths at which stores keep what stands under their keys.
 ghost use Rattle.std.specs.Prelude.{◌≡◌, ◌<◌, ◌++◌, ◌∷◌, [], string_bytes, IfOk, OnOk};
+ghost use Rattle.std.specs.List.{list_all};
 ghost use Rattle.sc_entry.specs.Keys as keys;
 
 use sc_entry::{NoMemory, Text};
 use std::alloc::Global;
+
+/// Whether a byte is an ASCII letter, a digit, `-` or `_`.
+fn is_key_byte(byte: u8) -> bool
+    ensures { result ≡ keys.is_key_byte byte }
+{
+    byte.is_ascii_digit()
+        || byte.is_ascii_uppercase()
+        || byte.is_ascii_lowercase()
+        || byte == b'-'
+        || byte == b'_'
+}
+
+fn are_key_bytes(bytes: &[u8]) -> bool
+    ensures { result ≡ list_all keys.is_key_byte bytes.now }
+{
+    bytes.iter().all(|byte| is_key_byte(*byte))
+}
+
+/// Whether a text is a store key: at least three such bytes.
+pub fn is_store_key(key: &Text) -> bool
+    ensures { result ≡ keys.is_store_key key.now }
+{
+    key.len() > 2 && are_key_bytes(key.as_bytes())
+}
 
 /// Adds a folder whose name is one byte.
 fn push_folder(path: &mut String, name: u8) -> Result<(), NoMemory>

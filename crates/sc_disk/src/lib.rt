@@ -30,7 +30,7 @@ pub use disk_file::DiskFile;
 pub use entry_file::EntryFile;
 pub use error::Error;
 pub use file_key::FileKey;
-pub use key_path::{make_key_path, normalize_key};
+pub use key_path::{is_store_key, make_key_path, normalize_key};
 pub use lazy::LazyDiskCache;
 pub use lru_disk_cache::LruDiskCache;
 pub use mem_disk::MemDisk;

@@ -1,6 +1,11 @@
+pub mod Askings
 pub mod Changing
 pub mod Evicting
 pub mod Finding
-pub mod Opening
+pub mod Lending
+pub mod Looking
+pub mod Openings
 pub mod Ordering
 pub mod Sizes
+pub mod Spellings
+pub mod Steadying

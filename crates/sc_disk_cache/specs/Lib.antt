@@ -1,3 +1,5 @@
 pub mod DiskStores
+pub mod Moving
 pub mod Reopened
 pub mod Shown
+pub mod Wholes

@@ -1,6 +1,11 @@
 //! A disk store of compile results over two folders, as a level of a daemon's store.
 #![tactic(auto)]
 
+mod asking;
 mod disk_cache;
+mod opening;
+mod reading;
+mod whole;
 
 pub use disk_cache::DiskCache;
+pub use whole::mode_answer;

@@ -1,6 +1,6 @@
 //! Two folders that are opened as one store when it is first needed.
 ghost use Rattle.std.specs.Prelude.{◌≡◌, ℕ, Bool, true, false, ◌||◌, is_some, Option, Some, None, [], IfErr, IfSome, OnErr, OnOk};
-ghost use Rattle.std.specs.Option.{option_copied_mut};
+ghost use Rattle.std.specs.Option.{option_copied, option_copied_mut};
 ghost use Rattle.sc_entry.specs.Causes.{IfTold};
 ghost use Rattle.sc_disk.specs.Disks.{files_now};
 ghost use Rattle.sc_disk.specs.Opening.{IsReopened, RefusesOpening, Reopens};
@@ -92,6 +92,13 @@ impl<D: Disk> LazyPair<D> {
         ensures value { option_copied_mut result ≡ self.old.opened }
     {
         self.opened.as_mut()
+    }
+
+    /// The store, once it is opened, to be read.
+    pub fn peek(&self) -> Option<&PairCache<D>>
+        ensures { option_copied result ≡ self.now.opened }
+    {
+        self.opened.as_ref()
     }
 
     /// The most bytes that the files of both parts may take together.

@@ -1,0 +1,78 @@
+-- What the calls of a disk store do.
+use Rattle.std.specs.Prelude.{◌≡◌, ◌≢◌, ◌⊎◌, ℕ, ◌+◌, ◌≤◌, Bool, true, false, IsTrue, List, [], ◌∷◌, ◌++◌, length, Option, Some, None}
+use Rattle.sc_disk.specs.Store.{AddEntry}
+use Rattle.sc_entry.specs.Causes.{Rose}
+use Rattle.sc_entry.specs.Entries.{objects}
+use Rattle.sc_entry.specs.Keys.{IsStoreKey}
+use Rattle.sc_pair.specs.declared.part.Part.{Part}
+use Rattle.sc_pair.specs.declared.part.Part.TheVariants.{Main, Pre}
+use Rattle.sc_model.specs.World.{Answers, Files, Asks, Causes, Commits, Evicts, Fills, Keeps_all, Later, Level, Opens_by, Reserves, Spells, causes, find_file}
+use Rattle.sc_model.specs.declared.event.Answer.{Answer}
+use Rattle.sc_model.specs.declared.event.Answer.TheVariants.{Hit, Miss, Refused, Size as SizeIs}
+use Rattle.sc_model.specs.declared.event.Mode.{Mode}
+use Rattle.sc_model.specs.declared.event.Mode.TheVariants.{Path, Pre as PreMode, Raw, Size as Sizes, Whole}
+use Rattle.sc_model.specs.declared.event.Written.{Written}
+use Rattle.sc_model.specs.declared.event.Written.TheVariants.{Done as WriteDone, Refused as WriteRefused}
+use Rattle.sc_model.specs.declared.level.Cause.{Cause}
+use Rattle.sc_model.specs.declared.level.Cause.TheVariants.{BadEntry, BadKey, FileTooLarge, Io, Reserved as NoRoom}
+use Rattle.sc_model.specs.declared.level.LevelKind.TheVariants.{Disk}
+use Rattle.sc_disk_cache.specs.DiskStores.{DiskStore, OpenEntry, entry_at, entry_path}
+
+-- nothing that is held changed
+pub record Steady (old new : DiskStore) : Type 0 where
+  pub facts : new.facts ≡ old.facts
+  pub told : new.told ≡ old.told
+  pub later : Later old.level new.level
+  pub main : new.level.main ≡ old.level.main
+  pub pre : new.level.pre ≡ old.level.pre
+  pub reserved : new.reserved ≡ old.reserved
+  pub entries : new.entries ≡ old.entries
+
+-- the files of a part of a level
+abbrev pub part_files : Part → Level → Files
+part_files Main v = v.main
+part_files Pre v = v.pre
+
+-- what a read at a path of a part of an opened store answers
+abbrev pub ReadsAt : Part → List ℕ → Answer → Bool → Level → Level → Type 0
+ReadsAt part path (Hit bytes mark) told v w = (mark ≡ false) × (told ≡ true → find_file (part_files part w) path ≡ Some bytes)
+ReadsAt part path Miss told v w = find_file (part_files part w) path ≡ None
+ReadsAt part path (Refused Io) told v w = Rose v.faults w.faults
+ReadsAt part path answer told v w = ⊥
+
+-- an opened store, unless the answer is a refusal
+abbrev pub OpensFor : Answer → Bool → Type 0
+OpensFor (Refused c) opened = Unit {0}
+OpensFor answer opened = opened ≡ true
+
+-- the lookups that read what stands under a key
+abbrev pub reads_key : Mode → Bool
+reads_key Whole = true
+reads_key Raw = true
+reads_key mode = false
+
+-- a refusal as a miss
+abbrev pub hit_or_miss : Answer → Answer
+hit_or_miss (Refused c) = Miss
+hit_or_miss answer = answer
+
+-- A lookup at a disk store whose disks tell what they hold.
+abbrev pub AsksDisk : List ℕ → Mode → Answer → DiskStore → DiskStore → Type 0
+AsksDisk key mode answer old new = old.told ≡ true → Asks objects old.facts old.reserved key mode answer old.level new.level
+
+-- Why a lookup was answered so, whether or not the disks tell what they hold. So far a hit has no mark.
+abbrev pub AskCause : Mode → Answer → List ℕ → Level → Level → Type 0
+AskCause Whole (Hit bytes mark) key before now = IsStoreKey key × Spells (objects bytes) × (mark ≡ false)
+AskCause Whole Miss key before now = IsStoreKey key
+AskCause Whole (Refused BadKey) key before now = IsStoreKey key → ⊥
+AskCause Whole (Refused BadEntry) key before now = IsStoreKey key
+AskCause Whole (Refused Io) key before now = IsStoreKey key × Rose before.faults now.faults
+AskCause Raw (Hit bytes mark) key before now = IsStoreKey key × (mark ≡ false)
+AskCause Raw Miss key before now = IsStoreKey key
+AskCause Raw (Refused BadKey) key before now = IsStoreKey key → ⊥
+AskCause Raw (Refused Io) key before now = IsStoreKey key × Rose before.faults now.faults
+AskCause PreMode (Hit bytes mark) key before now = IsStoreKey key × (mark ≡ false)
+AskCause PreMode Miss key before now = Unit {0}
+AskCause PreMode (Refused Io) key before now = IsStoreKey key × Rose before.faults now.faults
+AskCause Sizes (SizeIs size counters) key before now = Unit {0}
+AskCause mode answer key before now = ⊥

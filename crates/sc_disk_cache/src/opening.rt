@@ -1,0 +1,27 @@
+//! Opening a disk store when it is first needed.
+ghost use Rattle.std.specs.Prelude.{◌≡◌, true, false, is_some, IfOk};
+ghost use Rattle.sc_disk_cache.specs.DiskStores.{held_disk};
+ghost use Rattle.sc_disk_cache.specs.Moving.{Steady};
+ghost use Rattle.sc_entry.specs.Causes.{Rose};
+
+use crate::disk_cache::DiskCache;
+use sc_disk::{Disk, Error};
+use sc_entry::NoMemory;
+
+impl<D: Disk + Drop> DiskCache<D> {
+    /// Opens the store, unless it is opened. False where its disks refuse.
+    pub(crate) fn open(&mut self, now: u64) -> Result<bool, NoMemory>
+        ensures steady { Steady (held_disk self.old) (held_disk self.new) }
+        ensures opened { IfOk result (λ ok. ok ≡ true → is_some self.new.pair.opened ≡ true) }
+        ensures fault { IfOk result (λ ok. ok ≡ false → Rose (held_disk self.old).level.faults (held_disk self.new).level.faults × ((held_disk self.new).level.opened ≡ false)) }
+    {
+        if self.pair.is_opened() {
+            return Ok(true);
+        }
+        match self.pair.get_or_init(now) {
+            Ok(()) => Ok(true),
+            Err(Error::Io) => Ok(false),
+            Err(_) => Err(NoMemory),
+        }
+    }
+}

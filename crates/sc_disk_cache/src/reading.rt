@@ -1,0 +1,29 @@
+//! Reading an opened store.
+ghost use Rattle.std.specs.Prelude.{◌≡◌, ℕ, true, is_some, IfOk};
+ghost use Rattle.sc_disk_cache.specs.DiskStores.{level_of, opened_store};
+ghost use Rattle.sc_disk_cache.specs.Moving.{ReadsAt, Steady};
+ghost use Rattle.sc_entry.specs.declared.cache_mode.CacheMode.{CacheMode};
+
+use sc_disk::{Disk, Error, FileKey};
+use sc_entry::{ByteText, NoMemory};
+use sc_model::{Answer, Cause};
+use sc_pair::{PairCache, Part};
+
+/// What stands at a path of a part. So far no key keeps a mark.
+pub(crate) fn read<D: Disk>(
+    cache: &mut PairCache<D>,
+    part: Part,
+    path: &FileKey,
+    now: u64,
+) -> Result<Answer, NoMemory>
+    ensures steady { (mode : CacheMode) (capacity : ℕ) → Steady (opened_store mode capacity cache.old.store) (opened_store mode capacity cache.new.store) }
+    ensures answer { IfOk result (λ answer. ReadsAt part path.now answer (is_some cache.old.store.disk.told) (level_of true cache.old.store.index cache.old.store.disk) (level_of true cache.new.store.index cache.new.store.disk)) }
+{
+    cache.keeps();
+    match cache.get(part, path, now) {
+        Ok(file) => Ok(Answer::Hit(ByteText::from_vec(file.into_inner()), false)),
+        Err(Error::FileNotInCache) => Ok(Answer::Miss),
+        Err(Error::Io) => Ok(Answer::Refused(Cause::Io)),
+        Err(_) => Err(NoMemory),
+    }
+}
