@@ -6,6 +6,8 @@ pub mod Lending
 pub mod Looking
 pub mod Openings
 pub mod Ordering
+pub mod Preparing
+pub mod Rooms
 pub mod Sizes
 pub mod Spellings
 pub mod Steadying

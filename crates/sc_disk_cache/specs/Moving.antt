@@ -6,7 +6,7 @@ use Rattle.sc_entry.specs.Entries.{objects}
 use Rattle.sc_entry.specs.Keys.{IsStoreKey}
 use Rattle.sc_pair.specs.declared.part.Part.{Part}
 use Rattle.sc_pair.specs.declared.part.Part.TheVariants.{Main, Pre}
-use Rattle.sc_model.specs.World.{Answers, Files, Asks, Causes, Commits, Evicts, Fills, Keeps_all, Later, Level, Opens_by, Reserves, Spells, causes, find_file}
+use Rattle.sc_model.specs.World.{Answers, Files, Asks, Causes, Commits, Evicts, Fills, Keeps_all, Later, Level, Opens_by, Reserves, Spells, causes, find_file, room_cause}
 use Rattle.sc_model.specs.declared.event.Answer.{Answer}
 use Rattle.sc_model.specs.declared.event.Answer.TheVariants.{Hit, Miss, Refused, Size as SizeIs}
 use Rattle.sc_model.specs.declared.event.Mode.{Mode}
@@ -17,6 +17,8 @@ use Rattle.sc_model.specs.declared.level.Cause.{Cause}
 use Rattle.sc_model.specs.declared.level.Cause.TheVariants.{BadEntry, BadKey, FileTooLarge, Io, Reserved as NoRoom}
 use Rattle.sc_model.specs.declared.level.LevelKind.TheVariants.{Disk}
 use Rattle.sc_disk_cache.specs.DiskStores.{DiskStore, OpenEntry, entry_at, entry_path}
+use Rattle.sc_disk_cache.specs.declared.reserving.Reservation.{Reservation}
+use Rattle.sc_disk_cache.specs.declared.reserving.Reservation.TheVariants.{Open as IsOpened, Refused as IsRefused}
 
 -- nothing that is held changed
 pub record Steady (old new : DiskStore) : Type 0 where
@@ -76,3 +78,42 @@ AskCause PreMode Miss key before now = Unit {0}
 AskCause PreMode (Refused Io) key before now = IsStoreKey key × Rose before.faults now.faults
 AskCause Sizes (SizeIs size counters) key before now = Unit {0}
 AskCause mode answer key before now = ⊥
+
+-- how a reservation ended
+abbrev pub written_of : Reservation → Written
+written_of (IsOpened e) = WriteDone
+written_of (IsRefused c) = WriteRefused c
+
+-- what a call that may evict leaves alone
+pub record Stays (old new : DiskStore) : Type 0 where
+  pub facts : new.facts ≡ old.facts
+  pub told : new.told ≡ old.told
+  pub later : Later old.level new.level
+
+-- the same open entries, with the same bytes, and as much is reserved
+pub record SameEntries (old new : DiskStore) : Type 0 where
+  pub reserved : new.reserved ≡ old.reserved
+  pub entries : (number : ℕ) → entry_at new.entries number ≡ entry_at old.entries number
+
+-- An entry was opened, under a number that was free. It is empty, and its size is reserved.
+pub record Opens (path : List ℕ) (size : ℕ) (e : AddEntry) (old new : DiskStore) : Type 0 where
+  pub key : e.key ≡ path
+  pub divided : e.divided ≡ true
+  pub free : entry_at old.entries e.number ≡ None
+  pub opened : entry_at new.entries e.number ≡ Some (record { path = path; size = size; bytes = [] })
+  pub others : (number : ℕ) → number ≢ e.number → entry_at new.entries number ≡ entry_at old.entries number
+  pub reserved : new.reserved ≡ old.reserved + size
+
+abbrev pub OpensBy : List ℕ → ℕ → Reservation → DiskStore → DiskStore → Type 0
+OpensBy path size (IsOpened e) old new = Opens path size e old new
+OpensBy path size (IsRefused c) old new = SameEntries old new
+
+-- Why an entry was opened or not, whether or not the disks tell what they hold.
+abbrev pub ReserveCause : Causes → Reservation → Level → Level → Type 0
+ReserveCause expected (IsOpened e) before now = expected.all ≡ None
+ReserveCause expected (IsRefused Io) before now = (expected.early ≡ None) × Rose before.faults now.faults
+ReserveCause expected (IsRefused c) before now = expected.all ≡ Some c
+
+-- the causes of a reservation whose mode and key are good
+abbrev pub room_causes : ℕ → ℕ → ℕ → Causes
+room_causes capacity reserved size = record { early = None; all = room_cause Disk capacity reserved size }

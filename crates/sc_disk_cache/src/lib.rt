@@ -5,7 +5,9 @@ mod asking;
 mod disk_cache;
 mod opening;
 mod reading;
+mod reserving;
 mod whole;
 
 pub use disk_cache::DiskCache;
+pub use reserving::Reservation;
 pub use whole::mode_answer;

@@ -1,0 +1,22 @@
+use Rattle.sc_disk_cache.proofs.Preparing.{opens, prepared-moves, refused-entries, refused-moves}
+use Rattle.sc_disk_cache.proofs.reserving.prepare.Goals as goal
+
+pub returns-in-Ok-clause-moved : goal.returns-in-Ok-clause-moved
+returns-in-Ok-clause-moved g c = λ told. let p = c.in-Ok.ensures.ok in
+    prepared-moves c.args.cache.now.store c.prepare_add.new.self.store c.keeps.ensures.sound c.keeps.ensures.distinct c.keeps.ensures.placed c.in-Ok.entry _ c.args.size c.args.now p.0 p.1 told
+
+pub returns-in-Ok-clause-entry : goal.returns-in-Ok-clause-entry
+returns-in-Ok-clause-entry g c = λ mode capacity. let p = c.in-Ok.ensures.ok in
+    opens mode capacity c.args.cache.now.store c.prepare_add.new.self.store c.in-Ok.entry _ c.args.size c.args.now p.0 c.keeps.ensures.sound c.keeps.ensures.divided c.keeps.ensures.numbers c.keeps-in-Ok.ensures.numbers p.1
+
+pub returns-in-Err-Io-clause-moved : goal.returns-in-Err-Io-clause-moved
+returns-in-Err-Io-clause-moved g c = λ told. let p = c.in-Err-Io.ensures.err in
+    refused-moves c.args.cache.now.store c.prepare_add.new.self.store c.keeps.ensures.sound c.keeps.ensures.distinct c.keeps.ensures.placed c.in-Err-Io.field-0 _ c.args.size p.0 c.in-Err-Io.field-0-is p.1 told
+
+pub returns-in-Err-Io-clause-entry : goal.returns-in-Err-Io-clause-entry
+returns-in-Err-Io-clause-entry g c = λ mode capacity. let p = c.in-Err-Io.ensures.err in
+    refused-entries mode capacity c.args.cache.now.store c.prepare_add.new.self.store c.in-Err-Io.field-0 _ c.args.size p.0 c.keeps.ensures.sound p.1
+
+pub returns-in-Err-clause-kept : goal.returns-in-Err-clause-kept
+returns-in-Err-clause-kept g c = λ mode capacity. let p = c.in-Err.ensures.err in
+    refused-entries mode capacity c.args.cache.now.store c.prepare_add.new.self.store c.in-Err.field-0 _ c.args.size p.0 c.keeps.ensures.sound p.1
