@@ -1,8 +1,8 @@
 -- A store that is lent while it is opened.
-use Rattle.std.proofs.Common.{◌≡◌, ℕ, ◌+◌, ◌-◌, ◌^◌, ◌<◌, min, Bool, true, false, is_some, bytes_eq, IfOk, List, Option, Some, None, Result, Ok, Err, refl, sym, ap, ◌∙◌, subst, arith}
+use Rattle.std.proofs.Common.{◌≡◌, ℕ, ◌+◌, ◌-◌, ◌^◌, ◌<◌, min, Bool, true, false, is_some, bytes_eq, IfOk, IfSome, OnErr, OnOk, List, Option, Some, None, Result, Ok, Err, refl, sym, ap, ◌∙◌, subst, arith}
 use Rattle.std.specs.List.{IsDistinct}
 use Rattle.std.specs.Map.{keys_of}
-use Rattle.std.specs.Option.{OnSome}
+use Rattle.std.specs.Option.{OnSome, option_map_or}
 use Rattle.sc_entry.specs.Causes.{IfTold}
 use Rattle.sc_entry.specs.declared.cache_mode.CacheMode.{CacheMode}
 use Rattle.sc_entry.specs.declared.memory.NoMemory.{NoMemory}
@@ -10,6 +10,7 @@ use Rattle.sc_lru.specs.LruCache.{total}
 use Rattle.sc_disk.specs.Disks.{DiskRecord, files_now}
 use Rattle.sc_disk.specs.Sound.{IsSound}
 use Rattle.sc_disk.specs.Store.{AreKeys, HasFiles, Store, declared, indexed, reserved, size_of as measure}
+use Rattle.sc_disk.specs.declared.error.Error.{Error}
 use Rattle.sc_disk.specs.declared.pending.Pending.{Pending}
 use Rattle.sc_model.specs.World.{level_size, size_of}
 use Rattle.sc_model.specs.declared.event.Answer.{Answer}
@@ -19,10 +20,11 @@ use Rattle.sc_pair.specs.Twos.{TwoState}
 use Rattle.sc_pair.specs.declared.pair_cache.PairCache.{PairCache}
 use Rattle.sc_pair.specs.declared.part.Part.{Part}
 use Rattle.sc_pair.specs.declared.part.Part.TheVariants.{Main, Pre}
-use Rattle.sc_disk_cache.specs.DiskStores.{level_of, opened_store, store_of, told_files}
+use Rattle.sc_disk_cache.specs.DiskStores.{DiskStore, level_of, opened_store, store_of, told_files}
 use Rattle.sc_disk_cache.specs.Moving.{ReadsAt, Steady}
 use Rattle.sc_disk_cache.specs.Shown.{Index, files_of}
 use Rattle.sc_disk_cache.proofs.Sizes.{all-whole, sizes}
+use Rattle.sc_disk_cache.proofs.Steadying.{OpensOn}
 
 module _ {D : Type 0} (mode : CacheMode) (capacity after : ℕ) where
   pub lent-steady : (o o2 : Option (PairCache D)) (t t2 : Option TwoState) (was w : PairCache D) → o ≡ Some was → o2 ≡ Some w → after ≡ capacity
@@ -65,3 +67,43 @@ size-tells {D} mode capacity o t c e sound d placed n is small =
 pub of_some : {A P : Type 0} (r : Option A) (x : A) → r ≡ Some x → OnSome r P → P
 of_some None x e h = cc
 of_some (Some y) x e h = h
+
+-- what is so of an opened store is so of the disk store that lends it
+module _ {D : Type 0} (mode : CacheMode) (capacity after : ℕ) (o o2 : Option (PairCache D)) (t t2 : Option TwoState) (was w : PairCache D) (e : o ≡ Some was) (e2 : o2 ≡ Some w) (same : after ≡ capacity) where
+  pub lent : (P : DiskStore → DiskStore → Type 0) → P (opened_store mode capacity was.store) (opened_store mode capacity w.store) → P (store_of mode capacity o t) (store_of mode after o2 t2)
+  lent P h =
+      subst (λ (x : Option (PairCache D)). P (store_of mode capacity x t) (store_of mode after o2 t2)) (sym e)
+      (subst (λ (x : Option (PairCache D)). P (opened_store mode capacity was.store) (store_of mode after x t2)) (sym e2)
+      (subst (λ (n : ℕ). P (opened_store mode capacity was.store) (opened_store mode n w.store)) (sym same) h))
+
+  -- the store's capacity stays the disk store's
+  pub lent-limit : w.store.capacity ≡ was.store.capacity → option_map_or (λ (c : PairCache D). c.store.capacity) o capacity ≡ capacity → option_map_or (λ (c : PairCache D). c.store.capacity) o2 after ≡ after
+  lent-limit stays limit = ap (λ (x : Option (PairCache D)). option_map_or (λ c. c.store.capacity) x after) e2 ∙ stays ∙ sym (ap (λ (x : Option (PairCache D)). option_map_or (λ c. c.store.capacity) x capacity) e) ∙ limit ∙ sym same
+
+  pub limit-of : option_map_or (λ (c : PairCache D). c.store.capacity) o capacity ≡ capacity → was.store.capacity ≡ capacity
+  limit-of limit = sym (ap (λ (x : Option (PairCache D)). option_map_or (λ c. c.store.capacity) x capacity) e) ∙ limit
+
+opened_limit : {D : Type 0} (capacity after : ℕ) (o2 : Option (PairCache D)) (was : TwoState) → after ≡ capacity → IfSome o2 (λ c. c.store.capacity ≡ capacity) → option_map_or (λ (c : PairCache D). c.store.capacity) o2 after ≡ after
+opened_limit capacity after None was same h = refl
+opened_limit capacity after (Some c) was same h = h ∙ sym same
+
+only_limit : {D : Type 0} (capacity : ℕ) (o : Option (PairCache D)) (t : Option TwoState) (o2 : Option (PairCache D)) (was : TwoState) → o ≡ None → t ≡ Some was → OpensOn capacity o t o2 → IfSome o2 (λ c. c.store.capacity ≡ capacity)
+only_limit capacity o t None was none some h = tt
+only_limit capacity o t (Some c) was none some h = (h was none some).2
+
+has_some : (t : Option TwoState) → is_some t ≡ true → (was : TwoState) × (t ≡ Some was)
+has_some None h = cc
+has_some (Some was) h = (was, refl)
+
+none_of : {D : Type 0} (o : Option (PairCache D)) → is_some o ≡ false → o ≡ None
+none_of None h = refl
+none_of (Some c) h = cc
+
+pub open-limit : {D : Type 0} (r : Result (Unit {0}) Error) (capacity after : ℕ) (o o2 : Option (PairCache D)) (t : Option TwoState) → is_some o ≡ false → is_some t ≡ true → after ≡ capacity → OnOk r (OpensOn capacity o t o2) → OnErr r ((o ≡ None) × (o2 ≡ None))
+    → option_map_or (λ (c : PairCache D). c.store.capacity) o2 after ≡ after
+open-limit {D} (Ok u) capacity after o o2 t shut has same opens refuses = let some = has_some t has in opened_limit capacity after o2 some.0 same (only_limit capacity o t o2 some.0 (none_of o shut) some.1 opens)
+open-limit {D} (Err e) capacity after o o2 t shut has same opens refuses = ap (λ (x : Option (PairCache D)). option_map_or (λ c. c.store.capacity) x after) refuses.1
+
+pub on_err : {T E P Q : Type 0} (r : Result T E) → OnErr r P → (P → Q) → OnErr r Q
+on_err (Ok t) h f = tt
+on_err (Err e) h f = f h

@@ -7,6 +7,7 @@ pub mod Looking
 pub mod Openings
 pub mod Ordering
 pub mod Preparing
+pub mod Reservings
 pub mod Rooms
 pub mod Sizes
 pub mod Spellings

@@ -74,3 +74,7 @@ read-miss part path now touches old new refused is reads cause =
     let none = (subst (GetCause (is_file_key path) (is_some (lookup (bytes_eq path) (index_of part old.index))) old.disk.faults new.disk.faults) is cause).1 in
     held-part part new path ∙ ap (λ t. cond t (bytes_at (told_files new.disk.told) k) None)
     (ap (λ es. is_some (lookup (bytes_eq k) es)) (index_not part path now touches old new r) ∙ ap is_some (lookup-part part path old.index) ∙ none)
+
+pub unread-capacity : (refused : Error) (k : List ℕ) (now : ℕ) (touches : Bool) (old new : Store) → RefusesRead refused k now touches old new → new.capacity ≡ old.capacity
+unread-capacity refused k now touches old new (inl r) = r.capacity
+unread-capacity refused k now touches old new (inr (e, a)) = a.capacity

@@ -1,6 +1,6 @@
 //! A disk store over two folders.
 ghost use Rattle.std.specs.Prelude.{◌≡◌};
-ghost use Rattle.sc_disk_cache.specs.DiskStores.{held_disk};
+ghost use Rattle.std.specs.Option.{option_map_or};
 
 use sc_disk::Disk;
 use sc_entry::CacheMode;
@@ -16,13 +16,5 @@ pub struct DiskCache<D: Disk> {
     pub(crate) alloc: Global,
     pub(crate) pair: LazyPair<D>,
     pub(crate) mode: CacheMode,
-}
-
-impl<D: Disk> DiskCache<D> {
-    /// The mode that the store was made with.
-    pub fn configured(&self) -> CacheMode
-        ensures { result ≡ (held_disk self.now).facts.configured }
-    {
-        self.mode
-    }
+    ghost limit: { option_map_or (λ c. c.store.capacity) pair.opened pair.max_size ≡ pair.max_size },
 }

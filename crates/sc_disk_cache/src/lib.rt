@@ -3,6 +3,7 @@
 
 mod asking;
 mod disk_cache;
+mod facts;
 mod opening;
 mod reading;
 mod reserving;

@@ -17,6 +17,7 @@ pub(crate) fn read<D: Disk>(
     now: u64,
 ) -> Result<Answer, NoMemory>
     ensures steady { (mode : CacheMode) (capacity : ℕ) → Steady (opened_store mode capacity cache.old.store) (opened_store mode capacity cache.new.store) }
+    ensures capacity { cache.new.store.capacity ≡ cache.old.store.capacity }
     ensures answer { IfOk result (λ answer. ReadsAt part path.now answer (is_some cache.old.store.disk.told) (level_of true cache.old.store.index cache.old.store.disk) (level_of true cache.new.store.index cache.new.store.disk)) }
 {
     cache.keeps();

@@ -1,7 +1,8 @@
 //! Opening entries in a disk store.
-ghost use Rattle.std.specs.Prelude.{◌≡◌, ℕ, true, false, is_some, None, Some, Ok, IfOk, OnErr};
-ghost use Rattle.sc_disk_cache.specs.DiskStores.{entry_path, held_disk, level_of, opened_store};
+ghost use Rattle.std.specs.Prelude.{◌≡◌, ℕ, [], true, is_some, Some, Ok, IfOk, OnErr};
+ghost use Rattle.sc_disk_cache.specs.DiskStores.{disk_facts, entry_path, held_disk, level_of, opened_store};
 ghost use Rattle.sc_disk_cache.specs.Moving.{OpensBy, ReserveCause, SameEntries, Stays, room_causes, written_of};
+ghost use Rattle.sc_disk_cache.specs.declared.reserving.Reservation.TheVariants.{Refused as IsRefused};
 ghost use Rattle.sc_entry.specs.declared.cache_mode.CacheMode.{CacheMode};
 ghost use Rattle.sc_disk.specs.Store.{reserved};
 ghost use Rattle.sc_model.specs.World.{Reserves, causes, early_cause as early};
@@ -67,5 +68,65 @@ fn is_read_only(mode: CacheMode) -> bool
     match mode {
         CacheMode::ReadOnly => true,
         CacheMode::ReadWrite => false,
+    }
+}
+
+/// Why a write is refused before the store is opened: the mode of a single store, then the key.
+fn early_cause(policy: &Policy, configured: CacheMode, key: &Text) -> Option<Cause>
+    ensures { result ≡ early policy.now (disk_facts configured 0 []) key.now }
+{
+    if is_single(policy) && is_read_only(configured) {
+        return Some(Cause::ReadOnly(Store::Disk));
+    }
+    if is_store_key(key) {
+        None
+    } else {
+        Some(Cause::BadKey)
+    }
+}
+
+impl<D: Disk> DiskCache<D> {
+    /// Opens an entry in the main part of the opened store.
+    fn prepare(&mut self, path: &FileKey, size: u64, now: u64) -> Result<Reservation, NoMemory>
+        requires { is_some self.old.pair.opened ≡ true }
+        ensures stays { Stays (held_disk self.old) (held_disk self.new) }
+        ensures moved { IfOk result (λ how. (held_disk self.old).told ≡ true → Reserves (held_disk self.old).facts.capacity (room_causes (held_disk self.old).facts.capacity (held_disk self.old).reserved size) (held_disk self.old).reserved size (written_of how) (held_disk self.old).level (held_disk self.new).level) }
+        ensures entry { IfOk result (λ how. OpensBy (in_part Main path.now) size how (held_disk self.old) (held_disk self.new)) }
+        ensures kept { OnErr result (SameEntries (held_disk self.old) (held_disk self.new)) }
+        ensures cause { IfOk result (λ how. ReserveCause (room_causes (held_disk self.old).facts.capacity (held_disk self.old).reserved size) how (held_disk self.old).level (held_disk self.new).level) }
+        ensures opened { (held_disk self.new).level.opened ≡ true }
+    {
+        let Some(cache) = self.pair.get() else {
+            unreachable!()
+        };
+        prepare(cache, path, size, now)
+    }
+}
+
+impl<D: Disk + Drop> DiskCache<D> {
+    /// Opens an entry for a key, of this size: files are evicted until it fits. The mode of a single store and then the key
+    /// are looked at before the store is opened, the size after.
+    pub fn reserve(
+        &mut self,
+        policy: &Policy,
+        key: &Text,
+        size: u64,
+        now: u64,
+    ) -> Result<Reservation, NoMemory>
+        ensures stays { Stays (held_disk self.old) (held_disk self.new) }
+        ensures moved { IfOk result (λ how. (held_disk self.old).told ≡ true → Reserves (held_disk self.old).facts.capacity (causes policy.now (held_disk self.old).facts (held_disk self.old).reserved key.now size) (held_disk self.old).reserved size (written_of how) (held_disk self.old).level (held_disk self.new).level) }
+        ensures entry { IfOk result (λ how. OpensBy (entry_path key.now) size how (held_disk self.old) (held_disk self.new)) }
+        ensures kept { OnErr result (SameEntries (held_disk self.old) (held_disk self.new)) }
+        ensures cause { IfOk result (λ how. ReserveCause (causes policy.now (held_disk self.old).facts (held_disk self.old).reserved key.now size) how (held_disk self.old).level (held_disk self.new).level) }
+        ensures early { (c : CauseOf) → early policy.now (held_disk self.old).facts key.now ≡ Some c → (result ≡ Ok (IsRefused c)) × (self.new ≡ self.old) }
+    {
+        if let Some(cause) = early_cause(policy, self.mode, key) {
+            return Ok(Reservation::Refused(cause));
+        }
+        let path = FileKey::new(make_key_path(self.alloc, key)?);
+        if !self.open(now)? {
+            return Ok(Reservation::Refused(Cause::Io));
+        }
+        self.prepare(&path, size, now)
     }
 }

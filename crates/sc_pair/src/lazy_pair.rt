@@ -33,6 +33,7 @@ impl<D: Disk> LazyPair<D> {
     /// A store of this capacity on two disks, which isn't opened yet.
     pub fn new(alloc: Global, main: D, pre: D, max_size: u64) -> LazyPair<D>
         ensures disks { result.disks ≡ Some (joins (D.state main) (D.state pre)) }
+        ensures opened { result.opened ≡ None }
         ensures max_size { result.max_size ≡ max_size }
     {
         LazyPair {

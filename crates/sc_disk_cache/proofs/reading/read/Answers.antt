@@ -1,6 +1,6 @@
 use Rattle.std.proofs.Common.{refl, sym, ap, ◌∙◌, Some}
 use Rattle.sc_pair.specs.Parts.{in_part}
-use Rattle.sc_disk_cache.proofs.Looking.{gets-steady, read-hit, read-miss, unread-steady}
+use Rattle.sc_disk_cache.proofs.Looking.{gets-steady, read-hit, read-miss, unread-capacity, unread-steady}
 use Rattle.sc_disk_cache.proofs.reading.read.Goals as goal
 
 pub returns-in-Ok-clause-steady : goal.returns-in-Ok-clause-steady
@@ -20,4 +20,4 @@ returns-in-Err-Io-clause-steady g c = λ mode capacity. let e = c.in-Err-Io.ensu
 
 pub returns-in-Err : goal.returns-in-Err
 returns-in-Err g c = let e = c.in-Err.ensures.err in
-    record { steady = λ mode capacity. unread-steady mode capacity _ _ c.args.now e.0 c.args.cache.now.store c.get.new.self.store c.keeps.ensures.distinct e.1; answer = tt }
+    record { steady = λ mode capacity. unread-steady mode capacity _ _ c.args.now e.0 c.args.cache.now.store c.get.new.self.store c.keeps.ensures.distinct e.1; capacity = unread-capacity _ _ c.args.now e.0 c.args.cache.now.store c.get.new.self.store e.1; answer = tt }
