@@ -197,6 +197,7 @@ refused_commit refused told e p now n touches removes old mid late new k r u =
     let held = others_are e p old mid k in let size : p.size ≡ declared_at old e.number = sym (declared_is old e.number p k.was) in
     record {
       by_then = late.disk.faults;
+      counted = u.alters.disk.faults;
       cause = cause_told refused told (temporary_of e) (others old e.number) old late.disk.faults u.answer
           (cause_since refused (temporary_of e) (reserved mid) (others old e.number) mid old late.disk.faults held k.disk k.capacity r.cause);
       none = none_told refused told n u.answer r.none;

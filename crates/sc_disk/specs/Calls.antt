@@ -90,6 +90,7 @@ Leftover refused false before now = Rose before now
 pub record RefusesCommit (refused : Error) (e : AddEntry) (now n : ℕ) (touches removes : Bool) (old new : Store) : Type 0 where
   -- how often the disk had failed when it was refused
   pub by_then : ℕ
+  pub counted : by_then ≤ new.disk.faults
   pub cause : CommitCause refused (temporary_of e) (others old e.number) old by_then
   pub none : EvictsNone refused n
   pub evicted : NeededFor (temporary_of e) (others old e.number) (declared_at old e.number) n old

@@ -1,5 +1,6 @@
 pub mod Askings
 pub mod Changing
+pub mod Closings
 pub mod Evicting
 pub mod Finding
 pub mod Lending

@@ -1,4 +1,5 @@
 pub mod DiskStores
+pub mod Entries
 pub mod Moving
 pub mod Reopened
 pub mod Shown

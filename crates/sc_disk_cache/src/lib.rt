@@ -4,11 +4,13 @@
 mod asking;
 mod disk_cache;
 mod facts;
+mod filling;
 mod opening;
 mod reading;
 mod reserving;
 mod whole;
 
 pub use disk_cache::DiskCache;
+pub use filling::{EntryError, Filling};
 pub use reserving::Reservation;
 pub use whole::mode_answer;
