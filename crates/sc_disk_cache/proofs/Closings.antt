@@ -1,19 +1,20 @@
 -- Entries that are filled and closed.
 use Rattle.std.proofs.Common.{◌≡◌, ◌≢◌, ◌⊎◌, inl, inr, ℕ, zero, suc, ◌+◌, ◌-◌, ◌^◌, ◌<◌, ◌≤◌, max, Bool, true, false, cond, is_some, bytes_eq, option_map, OnErr, OnOk, Result, Ok, Err, List, [], ◌∷◌, ◌++◌, drop, take, length, slice_index_or, Option, Some, None, refl, sym, ap, ◌∙◌, subst, arith}
 use Rattle.std.specs.List.{IsDistinct, list_any}
-use Rattle.std.specs.Map.{keys_of, lookup}
+use Rattle.std.specs.Map.{keys_of, lookup, remove_entry}
 use Rattle.std.specs.Option.{option_map_or}
 use Rattle.slab.specs.Slab.{Slab, Updates, get}
 use Rattle.sc_entry.specs.Causes.{IfTold, Rose}
 use Rattle.sc_entry.specs.declared.cache_mode.CacheMode.{CacheMode}
 use Rattle.sc_disk.proofs.Doing.{does-after}
 use Rattle.sc_disk.proofs.Files.{self_path}
-use Rattle.sc_disk.proofs.Temporaries.{numbers-apart, temporary_is}
+use Rattle.sc_disk.proofs.Pairs.{lookup-last, lookup-push, lookup-removed, lookup-removed_other}
+use Rattle.sc_disk.proofs.Temporaries.{apart, numbers-apart, temporary_is}
 use Rattle.sc_disk.specs.Disks.{DiskFiles, DiskRecord, DiskState, Does, DoesPart, change, did_all, disk_file_at, files_now, replay}
 use Rattle.sc_disk.specs.Names.{is_temporary_path, temporary}
 use Rattle.sc_disk.specs.Refusals.{DiskRefusal}
 use Rattle.sc_disk.specs.Sound.{IsSound}
-use Rattle.sc_disk.specs.Store.{AddEntry, Closed, HasFiles, IsOpen, Store, declared, declared_at, firsts, gone, reserved, temporary_of}
+use Rattle.sc_disk.specs.Store.{AddEntry, AreKeys, Closed, HasFiles, IsOpen, Store, declared, declared_at, filed, firsts, gone, reserved, temporary_of}
 use Rattle.sc_disk.specs.declared.change.Change.{Change}
 use Rattle.sc_disk.specs.declared.change.Change.TheVariants.{Made, Added, Touched, Moved, Gone}
 use Rattle.sc_disk.specs.declared.disk_file.DiskFile.{DiskFile}
@@ -26,8 +27,8 @@ use Rattle.sc_pair.specs.declared.part.Part.TheVariants.{Main, Pre}
 use Rattle.sc_disk_cache.specs.DiskStores.{DiskStore, OpenEntry, bytes_or, entries_of, entry_at, level_of, open_entry, opened_store, told_files}
 use Rattle.sc_disk_cache.specs.Entries.{ClosesEntry, FillsEntry, OthersStay, size_at}
 use Rattle.sc_disk_cache.specs.Moving.{Stays}
-use Rattle.sc_disk_cache.specs.Shown.{Index, bytes_at, files_of}
-use Rattle.sc_disk_cache.proofs.Changing.{bytes-added}
+use Rattle.sc_disk_cache.specs.Shown.{Index, bytes_at, files_of, shown}
+use Rattle.sc_disk_cache.proofs.Changing.{bytes-added, bytes-moved, bytes-touched}
 use Rattle.sc_disk_cache.proofs.Rooms.{AllAway, AllHidden, entry-kept, entry-of, files-left, slot-in, stays}
 use Rattle.sc_disk_cache.proofs.Steadying.{files-did}
 
@@ -36,12 +37,12 @@ no_more : (xs : List Change) → xs ++ [] ≡ xs
 no_more [] = refl
 no_more (x ∷ xs) = ap (λ l. x ∷ l) (no_more xs)
 
-none_gone : (xs : List Change) (es : Index) → xs ≡ xs ++ gone (firsts 0 es)
-none_gone xs [] = sym (no_more xs)
-none_gone xs (e ∷ es) = sym (no_more xs)
+pub none-gone : (xs : List Change) (es : Index) → xs ≡ xs ++ gone (firsts 0 es)
+none-gone xs [] = sym (no_more xs)
+none-gone xs (e ∷ es) = sym (no_more xs)
 
 pub did-none : (xs : List Change) (es : Index) (a b : DiskState) → Does xs a b → Does (xs ++ gone (firsts 0 es)) a b
-did-none xs es a b d = subst (λ l. Does l a b) (none_gone xs es) d
+did-none xs es a b d = subst (λ l. Does l a b) (none-gone xs es) d
 
 none_dropped : (es : Index) → drop 0 es ≡ es
 none_dropped [] = refl
@@ -200,3 +201,33 @@ rose-since refused xs ys old mid new is cause later =
     let rose : Rose old.faults mid.faults = subst (DiskRefusal old.faults mid.faults) is cause in
     let more : mid.faults ≤ new.faults = either_more xs ys mid new later in
     omega (arith, rose, more)
+
+-- A commit of an entry that was filled with no more than it declared.
+find_new : (b : List ℕ) (s t : Bool) (x : Option (List ℕ)) → t ≡ false → cond s (Some b) (cond t None x) ≡ cond s (Some b) x
+find_new b s t x e = ap (λ u. cond s (Some b) (cond u None x)) e
+
+-- the bytes at a path that is no temporary's, once a temporary took its key's place
+committed_bytes : (f : DiskFiles) (t k b : List ℕ) (now : ℕ) (q : List ℕ) → bytes_at f t ≡ Some b → bytes_eq q t ≡ false → bytes_at (replay f (Moved t k ∷ Touched t now ∷ [])) q ≡ cond (bytes_eq q k) (Some b) (bytes_at f q)
+committed_bytes f t k b now q is apart =
+    let g = change (Touched t now) f in
+    bytes-moved g t k b q (bytes-touched f t now t ∙ is) ∙ find_new b (bytes_eq q k) (bytes_eq q t) (bytes_at g q) apart ∙ ap (cond (bytes_eq q k) (Some b)) (bytes-touched f t now q)
+
+-- what is looked up once a pair was put last
+abbrev pub looked : (s : Bool) (r : ℕ) (o : Option ℕ) → Option ℕ
+looked true r o = Some r
+looked false r o = o
+
+pub lookup-filed : (q k : List ℕ) (r : ℕ) (es : Index) → IsDistinct bytes_eq (keys_of es) → (s : Bool) → bytes_eq q k ≡ s → lookup (bytes_eq q) (filed k r es) ≡ looked s r (lookup (bytes_eq q) es)
+lookup-filed q k r es d true e = lookup-last q k r (remove_entry (bytes_eq k) es) e (lookup-removed q k es e d)
+lookup-filed q k r es d false e = lookup-push q k r (remove_entry (bytes_eq k) es) e ∙ lookup-removed_other q k es e
+
+shown_filed : (s : Bool) (r : ℕ) (o : Option ℕ) (b : List ℕ) (x y : Option (List ℕ)) → y ≡ cond s (Some b) x → cond (is_some (looked s r o)) y None ≡ cond s (Some b) (cond (is_some o) x None)
+shown_filed true r o b x y e = e
+shown_filed false r o b x y e = ap (λ z. cond (is_some o) z None) e
+
+-- what is shown at a path of a part, for a key that was filed
+pub shown-committed : (f g : DiskFiles) (es : Index) (t k b : List ℕ) (r now : ℕ) (q : List ℕ) → g ≡ replay f (Moved t k ∷ Touched t now ∷ []) → IsDistinct bytes_eq (keys_of es) → AreKeys es → is_temporary_path t ≡ true → is_temporary_path k ≡ false → bytes_at f t ≡ Some b
+    → is_temporary_path q ≡ false → shown (filed k r es) g q ≡ cond (bytes_eq q k) (Some b) (shown es f q)
+shown-committed f g es t k b r now q e d keys temporary_t plain_k is plain_q =
+    ap (λ o. cond (is_some o) (bytes_at g q) None) (lookup-filed q k r es d (bytes_eq q k) refl)
+    ∙ shown_filed (bytes_eq q k) r (lookup (bytes_eq q) es) b (bytes_at f q) (bytes_at g q) (ap (λ h. bytes_at h q) e ∙ committed_bytes f t k b now q is (apart q t plain_q temporary_t))

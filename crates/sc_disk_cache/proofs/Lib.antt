@@ -1,6 +1,7 @@
 pub mod Askings
 pub mod Changing
 pub mod Closings
+pub mod Commits
 pub mod Evicting
 pub mod Finding
 pub mod Lending
