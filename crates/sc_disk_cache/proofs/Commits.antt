@@ -1,5 +1,5 @@
 -- Commits of entries that were filled with no more than they declared.
-use Rattle.std.proofs.Common.{◌≡◌, ◌≢◌, ◌⊎◌, inl, inr, ℕ, zero, suc, ◌+◌, ◌-◌, ◌^◌, ◌<◌, ◌≤◌, max, Bool, true, false, cond, is_some, bytes_eq, option_map, List, [], ◌∷◌, ◌++◌, drop, length, slice_index_or, Option, Some, None, refl, sym, ap, ◌∙◌, subst, arith}
+use Rattle.std.proofs.Common.{◌≡◌, ◌≢◌, ◌⊎◌, inl, inr, ℕ, zero, suc, ◌+◌, ◌-◌, ◌^◌, ◌<◌, ◌≤◌, max, Bool, true, false, cond, is_some, ◌&&◌, bytes_eq, option_map, List, [], ◌∷◌, ◌++◌, drop, length, slice_index_or, Option, Some, None, refl, sym, ap, ◌∙◌, subst, arith}
 use Rattle.std.specs.List.{IsDistinct}
 use Rattle.std.specs.Map.{keys_of, lookup}
 use Rattle.std.specs.Option.{option_map_or}
@@ -8,11 +8,13 @@ use Rattle.sc_entry.specs.Causes.{IfTold, Rose}
 use Rattle.sc_entry.specs.declared.cache_mode.CacheMode.{CacheMode}
 use Rattle.sc_lru.specs.LruCache.{total}
 use Rattle.sc_disk.proofs.Temporaries.{apart-back, temporary_is}
+use mathlib.Core.Bool.{beq}
+use Rattle.sc_disk.proofs.Files.{self_path}
 use Rattle.sc_disk.specs.Calls.{CommitCause, Commits, NeededFor, RefusesCommit, removed_by, touched_by}
 use Rattle.sc_disk.specs.Disks.{DiskFiles, DiskRecord, DiskState, Does, IsSize, change, did_all, disk_file_at, files_now, replay}
 use Rattle.sc_disk.specs.Names.{is_temporary_path, temporary}
 use Rattle.sc_disk.specs.Sound.{IsSound}
-use Rattle.sc_disk.specs.Store.{AddEntry, AreKeys, Closed, HasFiles, IsOpen, Needed, Store, declared_at, filed, firsts, gone, indexed, others, reserved, size_of as measure, temporary_of}
+use Rattle.sc_disk.specs.Store.{AddEntry, AreKeys, Closed, HasFiles, IsOpen, Needed, is_open, is_open_slot, Store, declared_at, filed, firsts, gone, indexed, others, reserved, size_of as measure, temporary_of}
 use Rattle.sc_disk.specs.declared.change.Change.{Change}
 use Rattle.sc_disk.specs.declared.change.Change.TheVariants.{Touched, Moved}
 use Rattle.sc_disk.specs.declared.disk_file.DiskFile.{DiskFile}
@@ -20,14 +22,18 @@ use Rattle.sc_disk.specs.declared.error.Error.{Error}
 use Rattle.sc_disk.specs.declared.error.Error.TheVariants.{FileTooLarge, Io, NoMemory, Reserved}
 use Rattle.sc_disk.specs.declared.pending.Pending.{Pending}
 use Rattle.sc_model.specs.World.{find_file, put_file, same_maps}
+use Rattle.sc_model.specs.declared.event.Written.TheVariants.{Done as WriteDone, Refused as WriteRefused}
+use Rattle.sc_model.specs.declared.level.Cause.TheVariants.{FileTooLarge as ForSize, Io as ForIo, Reserved as ForRoom}
 use Rattle.sc_pair.specs.Parts.{in_part}
+use Rattle.sc_pair.specs.Twos.{TwoState}
+use Rattle.sc_pair.specs.declared.pair_cache.PairCache.{PairCache}
 use Rattle.sc_pair.specs.declared.part.Part.TheVariants.{Main, Pre}
-use Rattle.sc_disk_cache.specs.DiskStores.{DiskStore, OpenEntry, bytes_or, entries_of, entry_at, level_of, opened_store, told_files}
-use Rattle.sc_disk_cache.specs.Entries.{ClosesEntry}
+use Rattle.sc_disk_cache.specs.DiskStores.{DiskStore, OpenEntry, bytes_or, entries_of, entry_at, level_of, open_entry, opened_store, store_of, told_files}
+use Rattle.sc_disk_cache.specs.Entries.{ClosesEntry, CommitsEntry, IsOpenAt}
 use Rattle.sc_disk_cache.specs.Shown.{Index, bytes_at, files_of, shown}
 use Rattle.sc_disk_cache.proofs.Closings.{AtOnly, apart-from, closes, did-none, entry-is, hidden-maps, lookup-filed, none-gone, only-append, only-away, only-hidden, shown-committed, temporary-stands}
 use Rattle.sc_disk_cache.proofs.Finding.{find-files, find-put, same_map_files}
-use Rattle.sc_disk_cache.proofs.Rooms.{AllAway}
+use Rattle.sc_disk_cache.proofs.Rooms.{AllAway, entry-of}
 use Rattle.sc_disk_cache.proofs.Steadying.{files-did}
 
 -- At every path what was shown is shown, but at the key's.
@@ -189,3 +195,69 @@ never-too-large old new r e x m o told sound closed h small is_size =
     let fits = sound.fits in
     let measure : m ≡ length b.0 = measured_told old old.disk.told r t b.0 m told is_size b.1 in
     omega (arith, measure, long, small, own_size, size, sum, fits)
+
+has_record : (o : Option DiskRecord) → is_some o ≡ true → (r : DiskRecord) × (o ≡ Some r)
+has_record None h = cc
+has_record (Some r) h = (r, refl)
+
+over_and_not : (a b : ℕ) → a ≤ b → b < a → ⊥
+over_and_not a b p q = omega (arith, p, q)
+
+module _ (mode : CacheMode) (capacity : ℕ) (old new : Store) (e : AddEntry) (now : ℕ) (o : IsOpen old e) (sound : IsSound old) (d : IsDistinct bytes_eq (keys_of old.index)) (closed : Closed e.number old new) where
+  pub commits-done : (size n : ℕ) → Commits e size now n old new → CommitsEntry e.number WriteDone (opened_store mode capacity old) (opened_store mode capacity new)
+  commits-done size n c told x path h small is = let r = has_record old.disk.told told in commit-puts old new r.0 e path x size now n o r.1 sound d h small is c
+
+  pub commits-io : (refused : Error) (n : ℕ) (touches removes : Bool) → refused ≡ Io → RefusesCommit refused e now n touches removes old new → CommitsEntry e.number (WriteRefused ForIo) (opened_store mode capacity old) (opened_store mode capacity new)
+  commits-io refused n touches removes is c told x path h small at =
+      let r = has_record old.disk.told told in
+      let rose : Rose old.disk.faults c.by_then = subst (λ (f : Error). CommitCause f (temporary_of e) (others old e.number) old c.by_then) is c.cause in
+      (omega (arith, rose, c.counted), refused-maps old new r.0 e x refused now n touches removes o r.1 sound d closed h small c)
+
+  pub commits-too_large : (refused : Error) (n : ℕ) (touches removes : Bool) → refused ≡ FileTooLarge → RefusesCommit refused e now n touches removes old new → CommitsEntry e.number (WriteRefused ForSize) (opened_store mode capacity old) (opened_store mode capacity new)
+  commits-too_large refused n touches removes is c told x path h small at =
+      let r = has_record old.disk.told told in
+      let cause = subst (λ (f : Error). CommitCause f (temporary_of e) (others old e.number) old c.by_then) is c.cause in
+      let fits = never-too-large old new r.0 e x cause.0 o r.1 sound closed h small cause.1 in
+      absurd (over_and_not (cause.0 + others old e.number) old.capacity fits (omega (arith, cause.2)))
+
+  pub commits-reserved : (refused : Error) (n : ℕ) (touches removes : Bool) → refused ≡ Reserved → RefusesCommit refused e now n touches removes old new → CommitsEntry e.number (WriteRefused ForRoom) (opened_store mode capacity old) (opened_store mode capacity new)
+  commits-reserved refused n touches removes is c told x path h small at =
+      let r = has_record old.disk.told told in
+      let cause = subst (λ (f : Error). CommitCause f (temporary_of e) (others old e.number) old c.by_then) is c.cause in
+      let fits = never-too-large old new r.0 e x cause.0 o r.1 sound closed h small cause.1 in
+      absurd (over_and_not (cause.0 + others old e.number) old.capacity fits cause.3)
+
+-- the test of an open entry
+same_bool : (b : Bool) → b ≡ true → beq b true ≡ true
+same_bool true h = refl
+same_bool false h = cc
+
+opens_slot : (s : Store) (e : AddEntry) (g : Option Pending) (x : OpenEntry) → option_map (open_entry s.disk.divided (told_files s.disk.told) e.number) g ≡ Some x → x.path ≡ e.key → is_open_slot g e.key ≡ true
+opens_slot s e None x h path = cc
+opens_slot s e (Some p) x h path = ap (λ k. bytes_eq k e.key) (ap (λ (y : OpenEntry). y.path) (same_entry (open_entry s.disk.divided (told_files s.disk.told) e.number p) x h) ∙ path) ∙ self_path e.key
+  where
+    same_entry : (y z : OpenEntry) → Some y ≡ Some z → y ≡ z
+    same_entry y z k = cc
+
+both_true : (a b : Bool) → a ≡ true → b ≡ true → (a && b) ≡ true
+both_true true b p q = q
+both_true false b p q = cc
+
+open_tested : (mode : CacheMode) (capacity : ℕ) (s : Store) (e : AddEntry) → s.disk.divided ≡ true → IsOpenAt e (opened_store mode capacity s) → is_open s e ≡ true
+open_tested mode capacity s e divided h =
+    both_true (is_open_slot (get s.pending e.number) e.key) (beq e.divided s.disk.divided) (opens_slot s e (get s.pending e.number) h.1.0 (sym (entry-of s e.number) ∙ h.1.1) h.1.2)
+    (ap (beq e.divided) divided ∙ same_bool e.divided h.0)
+
+open_at : (mode : CacheMode) (capacity : ℕ) (s : Store) (e : AddEntry) → s.disk.divided ≡ true → IsOpen s e → IsOpenAt e (opened_store mode capacity s)
+open_at mode capacity s e divided o = (o.3 ∙ divided, (record { path = e.key; size = o.0.size; bytes = bytes_or (bytes_at (told_files s.disk.told) (temporary_of e)) }, entry-is s e o, refl))
+
+not_both : (b : Bool) → b ≡ false → b ≡ true → ⊥
+not_both true p q = cc
+not_both false p q = cc
+
+module _ {D : Type 0} (mode : CacheMode) (capacity : ℕ) (o : Option (PairCache D)) (t : Option TwoState) (c : PairCache D) (is : o ≡ Some c) (e : AddEntry) (divided : c.store.disk.divided ≡ true) where
+  pub is-open : IsOpen c.store e → IsOpenAt e (store_of mode capacity o t)
+  is-open h = subst (λ (x : Option (PairCache D)). IsOpenAt e (store_of mode capacity x t)) (sym is) (open_at mode capacity c.store e divided h)
+
+  pub is-not_open : is_open c.store e ≡ false → IsOpenAt e (store_of mode capacity o t) → ⊥
+  is-not_open h x = not_both (is_open c.store e) h (open_tested mode capacity c.store e divided (subst (λ (y : Option (PairCache D)). IsOpenAt e (store_of mode capacity y t)) is x))

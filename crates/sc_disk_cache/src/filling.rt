@@ -1,18 +1,19 @@
 //! Filling and committing entries of a disk store.
-ghost use Rattle.std.specs.Prelude.{◌≡◌, ℕ, IfOk};
-ghost use Rattle.sc_disk_cache.specs.DiskStores.{opened_store};
-ghost use Rattle.sc_disk_cache.specs.Entries.{FillsBy};
+ghost use Rattle.std.specs.Prelude.{◌≡◌, ℕ, true, false, is_some, Err, IfOk, IfErr, IfSome};
+ghost use Rattle.sc_disk_cache.specs.DiskStores.{held_disk, level_of, opened_store};
+ghost use Rattle.sc_disk_cache.specs.Entries.{ClosesEntry, CommitCause, CommitsEntry, FillsBy, IsOpenAt};
 ghost use Rattle.sc_disk_cache.specs.Moving.{Stays};
 ghost use Rattle.sc_disk.specs.Store.{IsOpen};
 ghost use Rattle.sc_disk.specs.declared.error.Error.TheVariants.{Io as IsDiskFault};
 ghost use Rattle.sc_disk_cache.specs.declared.filling.Filling.TheVariants.{Refused as IsRefused};
+ghost use Rattle.sc_disk_cache.specs.declared.filling.EntryError.TheVariants.{NotOpen as IsNotOpen};
 ghost use Rattle.sc_model.specs.declared.level.Cause.TheVariants.{Io as IsIo};
 ghost use Rattle.sc_entry.specs.declared.cache_mode.CacheMode.{CacheMode};
 
 use crate::disk_cache::DiskCache;
 use sc_disk::{Disk, Error, LruDiskCacheAddEntry};
 use sc_entry::NoMemory;
-use sc_model::Cause;
+use sc_model::{Cause, Written};
 use sc_pair::PairCache;
 
 /// How a fill ended.
@@ -58,6 +59,94 @@ fn fill<D: Disk>(
         Err(refused) => {
             let _given_up = cache.abandon(entry);
             refused_fill(refused)
+        }
+    }
+}
+
+/// Puts an open entry's file in its place, and closes the entry, also by a refusal.
+fn commit<D: Disk>(
+    cache: &mut PairCache<D>,
+    entry: LruDiskCacheAddEntry,
+    now: u64,
+) -> Result<Written, NoMemory>
+    requires { IsOpen cache.old.store entry }
+    ensures stays { (mode : CacheMode) (capacity : ℕ) → Stays (opened_store mode capacity cache.old.store) (opened_store mode capacity cache.new.store) }
+    ensures capacity { cache.new.store.capacity ≡ cache.old.store.capacity }
+    ensures closed { (mode : CacheMode) (capacity : ℕ) → ClosesEntry entry.number (opened_store mode capacity cache.old.store) (opened_store mode capacity cache.new.store) }
+    ensures committed { IfOk result (λ how. (mode : CacheMode) (capacity : ℕ) → CommitsEntry entry.number how (opened_store mode capacity cache.old.store) (opened_store mode capacity cache.new.store)) }
+    ensures cause { IfOk result (λ how. CommitCause how (level_of true cache.old.store.index cache.old.store.disk) (level_of true cache.new.store.index cache.new.store.disk)) }
+{
+    cache.keeps();
+    match cache.commit(entry, now) {
+        Ok(()) => Ok(Written::Done),
+        Err(Error::FileTooLarge) => Ok(Written::Refused(Cause::FileTooLarge)),
+        Err(Error::Reserved) => Ok(Written::Refused(Cause::Reserved)),
+        Err(Error::Io) => Ok(Written::Refused(Cause::Io)),
+        Err(_) => Err(NoMemory),
+    }
+}
+
+impl<D: Disk> DiskCache<D> {
+    /// Whether an entry is open in this store.
+    pub fn is_open(&self, entry: &LruDiskCacheAddEntry) -> bool
+        ensures opened { result ≡ true → IsOpenAt entry.now (held_disk self.now) }
+        ensures other { result ≡ false → IsOpenAt entry.now (held_disk self.now) → ⊥ }
+        ensures lent { result ≡ true → IfSome self.now.pair.opened (λ c. IsOpen c.store entry.now) × (is_some self.now.pair.opened ≡ true) }
+    {
+        match self.pair.peek() {
+            Some(cache) => {
+                cache.keeps();
+                cache.is_open(entry)
+            }
+            None => false,
+        }
+    }
+
+    /// Adds bytes behind those that an open entry was filled with. A refusal closes the entry, and removes its temporary.
+    pub fn fill(
+        &mut self,
+        entry: LruDiskCacheAddEntry,
+        bytes: &[u8],
+    ) -> Result<Filling, EntryError>
+        ensures stays { Stays (held_disk self.old) (held_disk self.new) }
+        ensures filled { IfOk result (λ how. IsOpenAt entry (held_disk self.old) × FillsBy entry bytes.now how (held_disk self.old) (held_disk self.new)) }
+        ensures not_open { IfErr result (λ refused. refused ≡ IsNotOpen → (IsOpenAt entry (held_disk self.old) → ⊥) × (self.new ≡ self.old)) }
+        ensures open { (IsOpenAt entry (held_disk self.old) → ⊥) → result ≡ Err IsNotOpen }
+    {
+        if !self.is_open(&entry) {
+            return Err(EntryError::NotOpen);
+        }
+        let Some(cache) = self.pair.get() else {
+            unreachable!()
+        };
+        match fill(cache, entry, bytes) {
+            Ok(how) => Ok(how),
+            Err(_) => Err(EntryError::NoMemory),
+        }
+    }
+
+    /// Puts an open entry's file in its key's place, and closes the entry, also by a refusal.
+    pub fn commit(
+        &mut self,
+        entry: LruDiskCacheAddEntry,
+        now: u64,
+    ) -> Result<Written, EntryError>
+        ensures stays { Stays (held_disk self.old) (held_disk self.new) }
+        ensures closed { IsOpenAt entry (held_disk self.old) → ClosesEntry entry.number (held_disk self.old) (held_disk self.new) }
+        ensures committed { IfOk result (λ how. IsOpenAt entry (held_disk self.old) × CommitsEntry entry.number how (held_disk self.old) (held_disk self.new)) }
+        ensures cause { IfOk result (λ how. CommitCause how (held_disk self.old).level (held_disk self.new).level) }
+        ensures not_open { IfErr result (λ refused. refused ≡ IsNotOpen → (IsOpenAt entry (held_disk self.old) → ⊥) × (self.new ≡ self.old)) }
+        ensures open { (IsOpenAt entry (held_disk self.old) → ⊥) → result ≡ Err IsNotOpen }
+    {
+        if !self.is_open(&entry) {
+            return Err(EntryError::NotOpen);
+        }
+        let Some(cache) = self.pair.get() else {
+            unreachable!()
+        };
+        match commit(cache, entry, now) {
+            Ok(how) => Ok(how),
+            Err(_) => Err(EntryError::NoMemory),
         }
     }
 }

@@ -1,0 +1,38 @@
+use Rattle.sc_disk_cache.proofs.Commits.{commit-closes, commits-done, commits-io, commits-reserved, commits-too_large, refused-closes}
+use Rattle.sc_disk_cache.proofs.filling.commit.Goals as goal
+
+pub returns-in-Ok-clause-closed : goal.returns-in-Ok-clause-closed
+returns-in-Ok-clause-closed g c = λ mode capacity. let p = c.in-Ok.ensures.ok in
+    commit-closes mode capacity c.args.cache.now.store c.commit.new.self.store c.args.entry p.0 c.args.now p.1 c.requires c.keeps.ensures.sound c.keeps.ensures.numbers p.2 c.commit.ensures.closed
+
+pub returns-in-Ok-clause-committed : goal.returns-in-Ok-clause-committed
+returns-in-Ok-clause-committed g c = λ mode capacity. let p = c.in-Ok.ensures.ok in
+    commits-done mode capacity c.args.cache.now.store c.commit.new.self.store c.args.entry c.args.now c.requires c.keeps.ensures.sound c.keeps.ensures.distinct c.commit.ensures.closed p.0 p.1 p.2
+
+pub returns-in-Err-FileTooLarge-clause-closed : goal.returns-in-Err-FileTooLarge-clause-closed
+returns-in-Err-FileTooLarge-clause-closed g c = λ mode capacity. let p = c.in-Err-FileTooLarge.ensures.err in
+    refused-closes mode capacity c.args.cache.now.store c.commit.new.self.store c.args.entry c.in-Err-FileTooLarge.field-0 c.args.now p.0 p.1 p.2 c.requires c.keeps.ensures.sound c.keeps.ensures.numbers p.3 c.commit.ensures.closed
+
+pub returns-in-Err-FileTooLarge-clause-committed : goal.returns-in-Err-FileTooLarge-clause-committed
+returns-in-Err-FileTooLarge-clause-committed g c = λ mode capacity. let p = c.in-Err-FileTooLarge.ensures.err in
+    commits-too_large mode capacity c.args.cache.now.store c.commit.new.self.store c.args.entry c.args.now c.requires c.keeps.ensures.sound c.keeps.ensures.distinct c.commit.ensures.closed c.in-Err-FileTooLarge.field-0 p.0 p.1 p.2 c.in-Err-FileTooLarge.field-0-is p.3
+
+pub returns-in-Err-Reserved-clause-closed : goal.returns-in-Err-Reserved-clause-closed
+returns-in-Err-Reserved-clause-closed g c = λ mode capacity. let p = c.in-Err-Reserved.ensures.err in
+    refused-closes mode capacity c.args.cache.now.store c.commit.new.self.store c.args.entry c.in-Err-Reserved.field-0 c.args.now p.0 p.1 p.2 c.requires c.keeps.ensures.sound c.keeps.ensures.numbers p.3 c.commit.ensures.closed
+
+pub returns-in-Err-Reserved-clause-committed : goal.returns-in-Err-Reserved-clause-committed
+returns-in-Err-Reserved-clause-committed g c = λ mode capacity. let p = c.in-Err-Reserved.ensures.err in
+    commits-reserved mode capacity c.args.cache.now.store c.commit.new.self.store c.args.entry c.args.now c.requires c.keeps.ensures.sound c.keeps.ensures.distinct c.commit.ensures.closed c.in-Err-Reserved.field-0 p.0 p.1 p.2 c.in-Err-Reserved.field-0-is p.3
+
+pub returns-in-Err-Io-clause-closed : goal.returns-in-Err-Io-clause-closed
+returns-in-Err-Io-clause-closed g c = λ mode capacity. let p = c.in-Err-Io.ensures.err in
+    refused-closes mode capacity c.args.cache.now.store c.commit.new.self.store c.args.entry c.in-Err-Io.field-0 c.args.now p.0 p.1 p.2 c.requires c.keeps.ensures.sound c.keeps.ensures.numbers p.3 c.commit.ensures.closed
+
+pub returns-in-Err-Io-clause-committed : goal.returns-in-Err-Io-clause-committed
+returns-in-Err-Io-clause-committed g c = λ mode capacity. let p = c.in-Err-Io.ensures.err in
+    commits-io mode capacity c.args.cache.now.store c.commit.new.self.store c.args.entry c.args.now c.requires c.keeps.ensures.sound c.keeps.ensures.distinct c.commit.ensures.closed c.in-Err-Io.field-0 p.0 p.1 p.2 c.in-Err-Io.field-0-is p.3
+
+pub returns-in-Err-clause-closed : goal.returns-in-Err-clause-closed
+returns-in-Err-clause-closed g c = λ mode capacity. let p = c.in-Err.ensures.err in
+    refused-closes mode capacity c.args.cache.now.store c.commit.new.self.store c.args.entry c.in-Err.field-0 c.args.now p.0 p.1 p.2 c.requires c.keeps.ensures.sound c.keeps.ensures.numbers p.3 c.commit.ensures.closed
