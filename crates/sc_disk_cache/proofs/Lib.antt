@@ -14,3 +14,4 @@ pub mod Rooms
 pub mod Sizes
 pub mod Spellings
 pub mod Steadying
+pub mod Within

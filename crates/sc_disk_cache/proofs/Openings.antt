@@ -41,24 +41,27 @@ listed_stands f e i = some_same (disk_file_at f e.path) ∙ ap is_some ((files_l
     some_same None = refl
     some_same (Some x) = refl
 
-abbrev Among : List Listed → List ℕ → Type 0
-Among xs q = (e : Listed) × In e xs × (e.path ≡ q)
+abbrev pub Among : List Listed → List ℕ → ℕ → Type 0
+Among xs q n = (e : Listed) × In e xs × (e.path ≡ q) × (e.size ≡ n)
 
-lookup-in : (xs : List Listed) (q : List ℕ) (n : ℕ) → lookup (bytes_eq q) (pairs_of xs) ≡ Some n → Among xs q
+same_size : (m n : ℕ) → Some m ≡ Some n → m ≡ n
+same_size m n h = cc
+
+lookup-in : (xs : List Listed) (q : List ℕ) (n : ℕ) → lookup (bytes_eq q) (pairs_of xs) ≡ Some n → Among xs q n
 lookup-in [] q n h = cc
-lookup-in (x ∷ xs) q n h = (elim (bytes_eq q x.path) as (λ t. bytes_eq q x.path ≡ t → cond t (Some x.size) (lookup (bytes_eq q) (pairs_of xs)) ≡ Some n → Among (x ∷ xs) q) [
-  | true ↦ λ t _. (x, inl refl, sym (same_path q x.path t))
-  | false ↦ λ _ l. let on = lookup-in xs q n l in (on.0, inr on.1, on.2)
+lookup-in (x ∷ xs) q n h = (elim (bytes_eq q x.path) as (λ t. bytes_eq q x.path ≡ t → cond t (Some x.size) (lookup (bytes_eq q) (pairs_of xs)) ≡ Some n → Among (x ∷ xs) q n) [
+  | true ↦ λ t l. (x, inl refl, sym (same_path q x.path t), same_size x.size n l)
+  | false ↦ λ _ l. let on = lookup-in xs q n l in (on.0, inr on.1, on.2, on.3)
 ]) refl h
 
-later : (x : Listed) (xs : List Listed) (q : List ℕ) → Among xs q → Among (x ∷ xs) q
-later x xs q a = (a.0, inr a.1, a.2)
+later : (x : Listed) (xs : List Listed) (q : List ℕ) (n : ℕ) → Among xs q n → Among (x ∷ xs) q n
+later x xs q n a = (a.0, inr a.1, a.2, a.3)
 
-suffix-in : (capacity : ℕ) (xs : List Listed) (q : List ℕ) (n : ℕ) → lookup (bytes_eq q) (suffix_within size_of capacity (pairs_of xs)) ≡ Some n → Among xs q
+pub suffix-in : (capacity : ℕ) (xs : List Listed) (q : List ℕ) (n : ℕ) → lookup (bytes_eq q) (suffix_within size_of capacity (pairs_of xs)) ≡ Some n → Among xs q n
 suffix-in capacity [] q n h = cc
-suffix-in capacity (x ∷ xs) q n h = (elim (nat_le (total size_of (pairs_of (x ∷ xs))) capacity) as (λ t. lookup (bytes_eq q) (if t then pairs_of (x ∷ xs) else suffix_within size_of capacity (pairs_of xs)) ≡ Some n → Among (x ∷ xs) q) [
+suffix-in capacity (x ∷ xs) q n h = (elim (nat_le (total size_of (pairs_of (x ∷ xs))) capacity) as (λ t. lookup (bytes_eq q) (if t then pairs_of (x ∷ xs) else suffix_within size_of capacity (pairs_of xs)) ≡ Some n → Among (x ∷ xs) q n) [
   | true ↦ λ l. lookup-in (x ∷ xs) q n l
-  | false ↦ λ l. later x xs q (suffix-in capacity xs q n l)
+  | false ↦ λ l. later x xs q n (suffix-in capacity xs q n l)
 ]) h
 
 -- each of the files that an opening would keep stands
@@ -66,7 +69,7 @@ reopened_stands : (capacity : ℕ) (f : DiskFiles) (q : List ℕ) (n : ℕ) → 
 unfolding reopened
 reopened_stands capacity f q n h =
     let kept = kept_of capacity (listing f) in
-    let a : Among (in_use_order kept) q = suffix-in capacity (in_use_order kept) q n h in
+    let a : Among (in_use_order kept) q n = suffix-in capacity (in_use_order kept) q n h in
     ap (λ k. is_some (bytes_at f k)) (sym a.2) ∙ listed_stands f a.0 (in-filter (is_kept capacity) (listing f) a.0 (perm-in kept (in_use_order kept) (same-order kept) a.0 a.1)).1
 
 -- a file that stands once others went is as it was

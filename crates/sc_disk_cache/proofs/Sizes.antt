@@ -58,12 +58,12 @@ pub record IsWhole (f : DiskFiles) (e : List ℕ × ℕ) : Type 0 where
   pub stands : bytes_at f e.0 ≡ Some bytes
   pub size : length bytes ≡ e.1
 
-size_in : (part : Part) (r b : List ℕ) (n : ℕ) (es : Index) (f : DiskFiles) → lookup (bytes_eq (in_part part r)) es ≡ None → bytes_at f (in_part part r) ≡ Some b → length b ≡ n
+pub size-in : (part : Part) (r b : List ℕ) (n : ℕ) (es : Index) (f : DiskFiles) → lookup (bytes_eq (in_part part r)) es ≡ None → bytes_at f (in_part part r) ≡ Some b → length b ≡ n
     → size_of (files_of Main ((in_part part r, n) ∷ es) f) + size_of (files_of Pre ((in_part part r, n) ∷ es) f) ≡ n + (size_of (files_of Main es f) + size_of (files_of Pre es f))
-size_in Main r b n es f none stands len =
+size-in Main r b n es f none stands len =
     let more : size_of (put_file (files_of Main es f) r b) ≡ length b + size_of (files_of Main es f) = size-put (files_of Main es f) r b (find-files Main es f r ∙ ap (λ o. cond (is_some o) (bytes_at f (in_part Main r)) None) none) in
     ap (λ o. size_of (with_shown (Some r) o (files_of Main es f)) + size_of (files_of Pre es f)) stands ∙ omega (arith, more, len)
-size_in Pre r b n es f none stands len =
+size-in Pre r b n es f none stands len =
     let more : size_of (put_file (files_of Pre es f) r b) ≡ length b + size_of (files_of Pre es f) = size-put (files_of Pre es f) r b (find-files Pre es f r ∙ ap (λ o. cond (is_some o) (bytes_at f (in_part Pre r)) None) none) in
     ap (λ o. size_of (files_of Main es f) + size_of (with_shown (Some r) o (files_of Pre es f))) stands ∙ omega (arith, more, len)
 
@@ -74,7 +74,7 @@ sizes (e ∷ es) f d a =
     let rest : size_of (files_of Main es f) + size_of (files_of Pre es f) ≡ total measure es = sizes es f (IsDistinct-tail bytes_eq e.0 (keys_of es) d) a.1 in
     let none : lookup (bytes_eq (in_part w.part w.path)) es ≡ None = ap (λ k. lookup (bytes_eq k) es) (sym w.placed) ∙ absent_later e es d in
     let one : size_of (files_of Main ((in_part w.part w.path, e.1) ∷ es) f) + size_of (files_of Pre ((in_part w.part w.path, e.1) ∷ es) f) ≡ e.1 + (size_of (files_of Main es f) + size_of (files_of Pre es f)) =
-      size_in w.part w.path w.bytes e.1 es f none (ap (bytes_at f) (sym w.placed) ∙ w.stands) w.size in
+      size-in w.part w.path w.bytes e.1 es f none (ap (bytes_at f) (sym w.placed) ∙ w.stands) w.size in
     ap (λ k. size_of (files_of Main ((k, e.1) ∷ es) f) + size_of (files_of Pre ((k, e.1) ∷ es) f)) w.placed ∙ one ∙ ap (λ n. e.1 + n) rest ∙ sym (total-cons measure e es)
 
 -- Each pair of a list of distinct keys is what its key is looked up as.

@@ -1,12 +1,14 @@
 //! What does not change of a disk store.
-ghost use Rattle.std.specs.Prelude.{◌≡◌};
+ghost use Rattle.std.specs.Prelude.{◌≡◌, ◌+◌, ◌≤◌, None, codes};
 ghost use Rattle.sc_disk_cache.specs.DiskStores.{held_disk, unopened_store};
+ghost use Rattle.sc_model.specs.World.{part_size};
+ghost use Rattle.sc_model.specs.declared.level.LevelKind.TheVariants.{Disk as IsDisk};
 ghost use Rattle.sc_pair.specs.Twos.{joined_state, joins};
 
 use crate::disk_cache::DiskCache;
 use sc_disk::Disk;
-use sc_entry::CacheMode;
-use sc_pair::LazyPair;
+use sc_entry::{ByteText, CacheMode};
+use sc_pair::{LazyPair, Part};
 use std::alloc::Global;
 
 impl<D: Disk> DiskCache<D> {
@@ -26,6 +28,41 @@ impl<D: Disk> DiskCache<D> {
             pair: LazyPair::new(alloc, main, pre, max_size),
             mode,
         }
+    }
+
+    /// What every disk store keeps, after each call and also after a refusal: the bytes of the files of both folders and those
+    /// that open entries have declared are at most its capacity.
+    pub fn keeps(&self)
+        ensures kind { (held_disk self.now).facts.kind ≡ IsDisk }
+        ensures calls { (held_disk self.now).level.calls ≡ None }
+        ensures within { part_size (held_disk self.now).level + (held_disk self.now).reserved ≤ (held_disk self.now).facts.capacity }
+    {
+        let _limit = self.mode;
+        if let Some(cache) = self.pair.peek() {
+            cache.keeps();
+        }
+    }
+
+    /// The path that the files of the main part stand under.
+    pub fn path(&self) -> &ByteText
+        ensures { result.now ≡ (held_disk self.now).facts.root }
+    {
+        let _opened = self.pair.is_opened();
+        self.pair.path(Part::Main)
+    }
+
+    /// The most bytes that the files of both folders may take.
+    pub fn max_size(&self) -> u64
+        ensures { result ≡ (held_disk self.now).facts.capacity }
+    {
+        self.pair.capacity()
+    }
+
+    /// What type of store it is, in a word.
+    pub fn cache_type_name(&self) -> &str
+        ensures { result.now ≡ codes "disk" }
+    {
+        "disk"
     }
 
     /// The mode that the store was made with.
