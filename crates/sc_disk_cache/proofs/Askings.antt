@@ -42,6 +42,7 @@ later_self v none = record { faults = omega arith; losses = omega arith; calls =
     none_self : (c : Option Calls) (f : ℕ) → c ≡ None → MakesOn c c f f
     none_self None f e = refl
     none_self (Some x) f e = cc
+
     opened_self : (b : Bool) → is_later b b ≡ true
     opened_self true = refl
     opened_self false = refl

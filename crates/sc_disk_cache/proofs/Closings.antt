@@ -181,12 +181,11 @@ gives-up mode capacity old mid new e more o sound d few part index pending later
     let first = part_did t more old.disk mid.disk part in
     let second = gone_did t mid.disk new.disk gone in
     let did = does-after old.disk mid.disk new.disk first.0 second.0 first.1 second.1 in
-    let only = only-append t second.0 first.0 second.2 first.2 in
-    (
+    let only = only-append t second.0 first.0 second.2 first.2 in (
       (
         hidden-maps (second.0 ++ first.0) old new (later ∙ index) did (only-hidden t (second.0 ++ first.0) (temporary_is e.divided e.key e.number) only) d sound,
         closes mode capacity old new e (second.0 ++ first.0) 0 o sound (did-none (second.0 ++ first.0) old.index old.disk new.disk did) (closed_since e.number old mid new pending closed)
-          (λ m p apart h. only-away t (temporary old.disk.divided p.key m) (second.0 ++ first.0) (apart-from old e m p few o apart h) only),
+            (λ m p apart h. only-away t (temporary old.disk.divided p.key m) (second.0 ++ first.0) (apart-from old e m p few o apart h) only),
       ),
       stays mode capacity old new (second.0 ++ first.0) did,
     )

@@ -69,6 +69,7 @@ measured (Some x) r b h k = let size : length x.bytes ≡ r = same_number (lengt
   where
     same_number : (m n : ℕ) → Some m ≡ Some n → m ≡ n
     same_number m n e = cc
+
     same_bytes : (a c : List ℕ) → Some a ≡ Some c → a ≡ c
     same_bytes a c e = cc
 
@@ -106,14 +107,13 @@ commit-puts old new r e p x size now n o told sound d h small path c =
     let key : e.key ≡ in_part Main p = sym own.0 ∙ path in
     let index : new.index ≡ filed (in_part Main p) size old.index = c.index ∙ (λ i. filed (key i) size (drop (none i) old.index)) ∙ ap (filed (in_part Main p) size) (none_dropped old.index) in
     let did : Does (Moved t (in_part Main p) ∷ Touched t now ∷ []) old.disk new.disk =
-      subst (λ l. Does l old.disk new.disk) (sym (none-gone (Moved t (in_part Main p) ∷ Touched t now ∷ []) old.index)) (subst (λ (m : ℕ). Does (Moved t (in_part Main p) ∷ Touched t now ∷ gone (firsts m old.index)) old.disk new.disk) none
-      (subst (λ (k : List ℕ). Does (Moved t k ∷ Touched t now ∷ gone (firsts n old.index)) old.disk new.disk) key c.disk)) in
+    subst (λ l. Does l old.disk new.disk) (sym (none-gone (Moved t (in_part Main p) ∷ Touched t now ∷ []) old.index)) (subst (λ (m : ℕ). Does (Moved t (in_part Main p) ∷ Touched t now ∷ gone (firsts m old.index)) old.disk new.disk) none
+    (subst (λ (k : List ℕ). Does (Moved t k ∷ Touched t now ∷ gone (firsts n old.index)) old.disk new.disk) key c.disk)) in
     let f = files_now r in
     let g = files_now (did_all (Moved t (in_part Main p) ∷ Touched t now ∷ []) r) in
     let later : new.disk.told ≡ Some (did_all (Moved t (in_part Main p) ∷ Touched t now ∷ []) r) = did.told ∙ ap (option_map (did_all (Moved t (in_part Main p) ∷ Touched t now ∷ []))) told in
     let plain : is_temporary_path (in_part Main p) ≡ false = ap is_temporary_path (sym key) ∙ plain-key old e sound o in
-    let made = files-did r (Moved t (in_part Main p) ∷ Touched t now ∷ []) in
-    (
+    let made = files-did r (Moved t (in_part Main p) ∷ Touched t now ∷ []) in (
       (λ i. files_of Main (index i) (told_files (later i))) ∙ main_put f g old.index t p b.0 size now made d sound.keys hidden plain b.1 ∙ (λ i. put_file (files_of Main old.index (told_files (sym told i))) p (sym own.2 i)),
       (λ i. files_of Pre (index i) (told_files (later i))) ∙ pre_stays f g old.index t p b.0 size now made d sound.keys hidden plain b.1 ∙ (λ i. files_of Pre old.index (told_files (sym told i))),
     )
@@ -178,7 +178,7 @@ refused-maps old new r e x refused now n touches removes o told sound d closed h
     let none : n ≡ 0 = none_evicted old r t b.0 (declared_at old e.number) (others old e.number) n told b.1 (omega (arith, small, size, own_size, long)) (omega (arith, sum)) fits c.evicted in
     let xs = once removes touches t now in
     let did : Does xs old.disk new.disk = subst (λ l. Does l old.disk new.disk) (sym (none-gone xs old.index)) (subst (λ (m : ℕ). Does (xs ++ gone (firsts m old.index)) old.disk new.disk) none
-      (subst (λ l. Does l old.disk new.disk) (once_then removes touches t now (gone (firsts n old.index))) c.disk)) in
+    (subst (λ l. Does l old.disk new.disk) (once_then removes touches t now (gone (firsts n old.index))) c.disk)) in
     hidden-maps xs old new (c.index ∙ ap (λ m. drop m old.index) none ∙ none_dropped old.index) did (only-hidden t xs (temporary_is e.divided e.key e.number) (once_only removes touches t now)) d sound
 
 -- an entry that was filled with no more than it declared is refused neither for its size nor for what is reserved

@@ -56,9 +56,8 @@ evictions capacity more (suc n) (e ∷ es) f v w d a needed main pre =
     let over : capacity < total measure (e ∷ es) + more = needed 0 (omega arith) in
     let none : lookup (bytes_eq (in_part x.part x.path)) es ≡ None = ap (λ k. lookup (bytes_eq k) es) (sym x.placed) ∙ absent_later e es d in
     let goes : drop_part (is_main x.part) x.path (holding v (e ∷ es) f) ≡ holding v es f =
-      ap (λ k. drop_part (is_main x.part) x.path (holding v ((k, e.1) ∷ es) f)) x.placed ∙ first_goes x.part x.path e.1 es f v none in
-    let later = evictions capacity more n es f v w rest a.1 (λ m l. needed (suc m) (omega (arith, l))) main pre in
-    (
+    ap (λ k. drop_part (is_main x.part) x.path (holding v ((k, e.1) ∷ es) f)) x.placed ∙ first_goes x.part x.path e.1 es f v none in
+    let later = evictions capacity more n es f v w rest a.1 (λ m l. needed (suc m) (omega (arith, l))) main pre in (
       (is_main x.part, x.path) ∷ later.0,
       (
         subst (λ (z : ℕ). capacity < z + more) (sym all) over,

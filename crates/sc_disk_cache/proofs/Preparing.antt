@@ -49,11 +49,10 @@ module _ (old new : Store) (sound : IsSound old) (d : IsDistinct bytes_eq (keys_
   pub prepared-moves : (e : AddEntry) (k : List ℕ) (size now n : ℕ) → Prepares e k size now n old new → is_some old.disk.told ≡ true
       → Reserves old.capacity (room_causes old.capacity (reserved old) size) (reserved old) size WriteDone (level_of true old.index old.disk) (level_of true new.index new.disk)
   prepared-moves e k size now n p told =
-      let free = room-free old.capacity (reserved old) size p.fits in
-      (
+      let free = room-free old.capacity (reserved old) size p.fits in (
         free,
         subst (λ (o : Option Cause). Evicts_unless o old.capacity (reserved old + size) (level_of true old.index old.disk) (level_of true new.index new.disk)) (sym free)
-          (evicted old.capacity (reserved old + size) n (Made (temporary_of e) now ∷ []) old new told sound d placed (temporary_is e.divided e.key e.number, tt) p.index p.disk (λ m l. omega (arith, p.fits, p.evicted.0 m l))),
+            (evicted old.capacity (reserved old + size) n (Made (temporary_of e) now ∷ []) old new told sound d placed (temporary_is e.divided e.key e.number, tt) p.index p.disk (λ m l. omega (arith, p.fits, p.evicted.0 m l))),
         refl,
       )
 
@@ -61,12 +60,11 @@ module _ (old new : Store) (sound : IsSound old) (d : IsDistinct bytes_eq (keys_
       → Reserves old.capacity (room_causes old.capacity (reserved old) size) (reserved old) size (WriteRefused ForIo) (level_of true old.index old.disk) (level_of true new.index new.disk)
   refused-moves refused k size n is p told =
       let cause = subst (AddCause (is_file_key k) size (reserved old) old.capacity old.disk.faults new.disk.faults) is p.cause in
-      let free = room-free old.capacity (reserved old) size cause.1 in
-      (
+      let free = room-free old.capacity (reserved old) size cause.1 in (
         refl,
         cause.2,
         subst (λ (o : Option Cause). Evicts_unless o old.capacity (reserved old + size) (level_of true old.index old.disk) (level_of true new.index new.disk)) (sym free)
-          (evicted old.capacity (reserved old + size) n [] old new told sound d placed tt p.index p.disk (λ m l. omega (arith, cause.1, p.evicted m l))),
+            (evicted old.capacity (reserved old + size) n [] old new told sound d placed tt p.index p.disk (λ m l. omega (arith, cause.1, p.evicted m l))),
       )
 
 pub refused-entries : (mode : CacheMode) (capacity : ℕ) (old new : Store) (refused : Error) (k : List ℕ) (size n : ℕ) → IsSound old → RefusesAdd refused k size n old new → SameEntries (opened_store mode capacity old) (opened_store mode capacity new)
@@ -91,7 +89,7 @@ opens mode capacity old new e k size now n sound divided few more p =
     let number : e.number < 2 ^ 64 = let l = slot-in new.pending.slots e.number own p.opened.entry.changed in omega (arith, l, more) in
     let where_it_is : temporary new.disk.divided e.key e.number ≡ temporary_of e = ap (λ v. temporary v e.key e.number) (p.disk.divided ∙ sym p.divided) in
     let empty : bytes_or (bytes_at (told_files new.disk.told) (temporary new.disk.divided e.key e.number)) ≡ [] =
-      ap (λ t. bytes_or (bytes_at (told_files new.disk.told) t)) where_it_is ∙ made_empty old.disk.told new.disk.told (gone (firsts n old.index)) (temporary_of e) now p.disk.told in
+    ap (λ t. bytes_or (bytes_at (told_files new.disk.told) t)) where_it_is ∙ made_empty old.disk.told new.disk.told (gone (firsts n old.index)) (temporary_of e) now p.disk.told in
     record {
       key = p.key;
       divided = p.divided ∙ divided;

@@ -153,7 +153,7 @@ pub entry-kept : (xs : List Change) (n : ℕ) (old new : Store) (m : ℕ) → Do
 entry-kept xs n old new m did keys same away =
     entry-of new m ∙ ap (option_map (open_entry new.disk.divided (told_files new.disk.told) m)) same
     ∙ kept_entry old.disk.divided new.disk.divided (told_files old.disk.told) (told_files new.disk.told) m (get old.pending m) did.divided
-      (λ p e. temporary_kept xs n old.index old.disk.told new.disk.told (temporary old.disk.divided p.key m) did.told keys (temporary_is old.disk.divided p.key m) (away p e))
+    (λ p e. temporary_kept xs n old.index old.disk.told new.disk.told (temporary old.disk.divided p.key m) did.told keys (temporary_is old.disk.divided p.key m) (away p e))
     ∙ sym (entry-of old m)
 
 -- the number of a slot that has something

@@ -74,7 +74,7 @@ sizes (e ∷ es) f d a =
     let rest : size_of (files_of Main es f) + size_of (files_of Pre es f) ≡ total measure es = sizes es f (IsDistinct-tail bytes_eq e.0 (keys_of es) d) a.1 in
     let none : lookup (bytes_eq (in_part w.part w.path)) es ≡ None = ap (λ k. lookup (bytes_eq k) es) (sym w.placed) ∙ absent_later e es d in
     let one : size_of (files_of Main ((in_part w.part w.path, e.1) ∷ es) f) + size_of (files_of Pre ((in_part w.part w.path, e.1) ∷ es) f) ≡ e.1 + (size_of (files_of Main es f) + size_of (files_of Pre es f)) =
-      size-in w.part w.path w.bytes e.1 es f none (ap (bytes_at f) (sym w.placed) ∙ w.stands) w.size in
+    size-in w.part w.path w.bytes e.1 es f none (ap (bytes_at f) (sym w.placed) ∙ w.stands) w.size in
     ap (λ k. size_of (files_of Main ((k, e.1) ∷ es) f) + size_of (files_of Pre ((k, e.1) ∷ es) f)) w.placed ∙ one ∙ ap (λ n. e.1 + n) rest ∙ sym (total-cons measure e es)
 
 -- Each pair of a list of distinct keys is what its key is looked up as.

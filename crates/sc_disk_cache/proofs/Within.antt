@@ -47,13 +47,13 @@ one_more : (es : Index) (f : DiskFiles) (e : List ℕ × ℕ) → lookup (bytes_
     → size_of (files_of Main (e ∷ es) f) + size_of (files_of Pre (e ∷ es) f) ≤ e.1 + (size_of (files_of Main es f) + size_of (files_of Pre es f))
 one_more es f e none s (inl (part, r, is)) =
     let one : size_of (files_of Main ((in_part part r, e.1) ∷ es) f) + size_of (files_of Pre ((in_part part r, e.1) ∷ es) f) ≡ e.1 + (size_of (files_of Main es f) + size_of (files_of Pre es f)) =
-      size-in part r s.bytes e.1 es f (ap (λ k. lookup (bytes_eq k) es) (sym is) ∙ none) (ap (bytes_at f) (sym is) ∙ s.stands) s.size in
+    size-in part r s.bytes e.1 es f (ap (λ k. lookup (bytes_eq k) es) (sym is) ∙ none) (ap (bytes_at f) (sym is) ∙ s.stands) s.size in
     let same : size_of (files_of Main (e ∷ es) f) + size_of (files_of Pre (e ∷ es) f) ≡ size_of (files_of Main ((in_part part r, e.1) ∷ es) f) + size_of (files_of Pre ((in_part part r, e.1) ∷ es) f) =
-      ap (λ k. size_of (files_of Main ((k, e.1) ∷ es) f) + size_of (files_of Pre ((k, e.1) ∷ es) f)) is in
+    ap (λ k. size_of (files_of Main ((k, e.1) ∷ es) f) + size_of (files_of Pre ((k, e.1) ∷ es) f)) is in
     omega (arith, one, same)
 one_more es f e none s (inr (apart, cut)) =
     let same : size_of (files_of Main (e ∷ es) f) + size_of (files_of Pre (e ∷ es) f) ≡ size_of (files_of Main es f) + size_of (files_of Pre es f) =
-      ap (λ o. size_of (with_shown (own_key Main o) (bytes_at f e.0) (files_of Main es f)) + size_of (with_shown (own_key Pre o) (bytes_at f e.0) (files_of Pre es f))) cut in
+    ap (λ o. size_of (with_shown (own_key Main o) (bytes_at f e.0) (files_of Main es f)) + size_of (with_shown (own_key Pre o) (bytes_at f e.0) (files_of Pre es f))) cut in
     omega (arith, same)
 
 sizes_most : (es : Index) (f : DiskFiles) → IsDistinct bytes_eq (keys_of es) → AllByRecursion (Stands f) es → size_of (files_of Main es f) + size_of (files_of Pre es f) ≤ total measure es
@@ -136,14 +136,14 @@ reopened_stand capacity f q n h =
     let a : Among (in_use_order kept) q n = suffix-in capacity (in_use_order kept) q n h in
     let listed : In a.0 (listing f) = (in-filter (is_kept capacity) (listing f) a.0 (perm-in kept (in_use_order kept) (same-order kept) a.0 a.1)).1 in
     let size : option_map (λ (file : DiskFile). length file.bytes) (disk_file_at f q) ≡ Some n =
-      ap (λ k. option_map (λ (file : DiskFile). length file.bytes) (disk_file_at f k)) (sym a.2) ∙ (files_listed f).same a.0.path ∙ sized-lookup (listing f) a.0 (files_listed f).distinct listed ∙ ap Some a.3 in
+    ap (λ k. option_map (λ (file : DiskFile). length file.bytes) (disk_file_at f k)) (sym a.2) ∙ (files_listed f).same a.0.path ∙ sized-lookup (listing f) a.0 (files_listed f).distinct listed ∙ ap Some a.3 in
     let s = sized_bytes (disk_file_at f q) n size in
     record { bytes = s.0; stands = s.1; size = s.2 }
 
 reopened_within : (capacity : ℕ) (f : DiskFiles) → size_of (files_of Main (reopened capacity f) f) + size_of (files_of Pre (reopened capacity f) f) ≤ capacity
 reopened_within capacity f =
     let most : size_of (files_of Main (reopened capacity f) f) + size_of (files_of Pre (reopened capacity f) f) ≤ total measure (reopened capacity f) =
-      sizes_most (reopened capacity f) f (distinct_reopened capacity f) (each-pair (Stands f) (reopened capacity f) (distinct_reopened capacity f) (reopened_stand capacity f)) in
+    sizes_most (reopened capacity f) f (distinct_reopened capacity f) (each-pair (Stands f) (reopened capacity f) (distinct_reopened capacity f) (reopened_stand capacity f)) in
     let fits : total measure (reopened capacity f) ≤ capacity = fits_reopened capacity f in
     omega (arith, most, fits)
 
@@ -153,7 +153,7 @@ untold_size es = (λ i. size_of (files-untold Main es [] i) + size_of (files-unt
 opened_within : (s : Store) (o : Option DiskRecord) → s.disk.told ≡ o → IsSound s → IsDistinct bytes_eq (keys_of s.index) → IfTold s.disk.told (λ r. ArePlaced (files_now r)) → part_size (level_of true s.index s.disk) + declared s.pending.slots ≤ s.capacity
 opened_within s None e sound d placed =
     let none : size_of (files_of Main s.index (told_files s.disk.told)) + size_of (files_of Pre s.index (told_files s.disk.told)) ≡ 0 =
-      ap (λ x. size_of (files_of Main s.index (told_files x)) + size_of (files_of Pre s.index (told_files x))) e ∙ untold_size s.index in
+    ap (λ x. size_of (files_of Main s.index (told_files x)) + size_of (files_of Pre s.index (told_files x))) e ∙ untold_size s.index in
     omega (arith, none, sound.fits)
 opened_within s (Some r) e sound d placed =
     let sum : size_of (level_of true s.index s.disk).main + size_of (level_of true s.index s.disk).pre ≡ indexed s = store-sized s sound d placed (ap is_some e) in

@@ -14,13 +14,7 @@ use std::alloc::Global;
 impl<D: Disk> DiskCache<D> {
     /// A store on two disks, of entries and of preprocessor entries, whose files take at most `max_size` bytes together.
     /// It isn't opened yet.
-    pub fn new(
-        alloc: Global,
-        main: D,
-        pre: D,
-        max_size: u64,
-        mode: CacheMode,
-    ) -> DiskCache<D>
+    pub fn new(alloc: Global, main: D, pre: D, max_size: u64, mode: CacheMode) -> DiskCache<D>
         ensures { held_disk result ≡ unopened_store mode max_size (joined_state (joins (D.state main) (D.state pre))) }
     {
         DiskCache {

@@ -103,11 +103,7 @@ impl<D: Disk> DiskCache<D> {
     }
 
     /// Adds bytes behind those that an open entry was filled with. A refusal closes the entry, and removes its temporary.
-    pub fn fill(
-        &mut self,
-        entry: LruDiskCacheAddEntry,
-        bytes: &[u8],
-    ) -> Result<Filling, EntryError>
+    pub fn fill(&mut self, entry: LruDiskCacheAddEntry, bytes: &[u8]) -> Result<Filling, EntryError>
         ensures stays { Stays (held_disk self.old) (held_disk self.new) }
         ensures filled { IfOk result (λ how. IsOpenAt entry (held_disk self.old) × FillsBy entry bytes.now how (held_disk self.old) (held_disk self.new)) }
         ensures not_open { IfErr result (λ refused. refused ≡ IsNotOpen → (IsOpenAt entry (held_disk self.old) → ⊥) × (self.new ≡ self.old)) }
@@ -126,11 +122,7 @@ impl<D: Disk> DiskCache<D> {
     }
 
     /// Puts an open entry's file in its key's place, and closes the entry, also by a refusal.
-    pub fn commit(
-        &mut self,
-        entry: LruDiskCacheAddEntry,
-        now: u64,
-    ) -> Result<Written, EntryError>
+    pub fn commit(&mut self, entry: LruDiskCacheAddEntry, now: u64) -> Result<Written, EntryError>
         ensures stays { Stays (held_disk self.old) (held_disk self.new) }
         ensures closed { IsOpenAt entry (held_disk self.old) → ClosesEntry entry.number (held_disk self.old) (held_disk self.new) }
         ensures committed { IfOk result (λ how. IsOpenAt entry (held_disk self.old) × CommitsEntry entry.number how (held_disk self.old) (held_disk self.new)) }

@@ -7,8 +7,11 @@ use Rattle.sc_disk_cache.proofs.Closings.{either-did, fills, gives-up, rose-sinc
 use Rattle.sc_disk_cache.proofs.filling.fill.Goals as goal
 
 pub returns-in-Ok-clause-filled : goal.returns-in-Ok-clause-filled
-returns-in-Ok-clause-filled g c = λ mode capacity. (refl, fills mode capacity c.args.cache.now.store c.fill.new.self.store c.args.entry c.args.bytes.now c.requires c.keeps.ensures.sound c.keeps.ensures.distinct c.keeps.ensures.numbers
-    c.in-Ok.ensures.ok c.fill.ensures.index c.fill.ensures.pending)
+returns-in-Ok-clause-filled g c = λ mode capacity. (
+  refl,
+  fills mode capacity c.args.cache.now.store c.fill.new.self.store c.args.entry c.args.bytes.now c.requires c.keeps.ensures.sound c.keeps.ensures.distinct c.keeps.ensures.numbers
+      c.in-Ok.ensures.ok c.fill.ensures.index c.fill.ensures.pending,
+)
 
 pub returns-in-Err-clause-filled : goal.returns-in-Err-clause-filled
 returns-in-Err-clause-filled g c =
@@ -18,5 +21,5 @@ returns-in-Err-clause-filled g c =
     let gone = either-did c.abandon-given_up.result c.abandon-given_up.ensures.ok c.abandon-given_up.ensures.err in
     if_ok c.refused_fill.result c.refused_fill.ensures (λ how h mode capacity. subst (λ (x : Filling). FillsBy c.args.entry c.args.bytes.now x (opened_store mode capacity old) (opened_store mode capacity new)) (sym h.0)
     (let given = gives-up mode capacity old mid new c.args.entry c.args.bytes.now c.requires c.keeps.ensures.sound c.keeps.ensures.distinct c.keeps.ensures.numbers c.in-Err.ensures.err c.fill.ensures.index c.fill.ensures.pending
-      c.abandon-given_up.ensures.index c.abandon-given_up.ensures.closed gone in
+    c.abandon-given_up.ensures.index c.abandon-given_up.ensures.closed gone in
     (rose-since c.in-Err.refused _ _ old.disk mid.disk new.disk h.1 c.in-Err.ensures.cause gone, given.0.0, given.0.1)))

@@ -7,8 +7,11 @@ pub returns-in-Ok-clause-steady : goal.returns-in-Ok-clause-steady
 returns-in-Ok-clause-steady g c = λ mode capacity. gets-steady mode capacity _ _ c.args.now c.args.cache.now.store c.get.new.self.store c.keeps.ensures.distinct c.in-Ok.ensures.ok
 
 pub returns-in-Ok-clause-answer : goal.returns-in-Ok-clause-answer
-returns-in-Ok-clause-answer g c = (refl, λ told. let gets = c.in-Ok.ensures.ok in
-    read-hit c.args.part c.args.path.now _ c.args.now c.args.cache.now.store c.get.new.self.store c.keeps.ensures.distinct gets told ∙ ap Some (sym (c.from_vec.ensures ∙ ap (λ v. v.items) c.into_inner.ensures)))
+returns-in-Ok-clause-answer g c = (
+  refl,
+  λ told. let gets = c.in-Ok.ensures.ok in
+      read-hit c.args.part c.args.path.now _ c.args.now c.args.cache.now.store c.get.new.self.store c.keeps.ensures.distinct gets told ∙ ap Some (sym (c.from_vec.ensures ∙ ap (λ v. v.items) c.into_inner.ensures)),
+)
 
 pub returns-in-Err-FileNotInCache-clause-answer : goal.returns-in-Err-FileNotInCache-clause-answer
 returns-in-Err-FileNotInCache-clause-answer g c = let e = c.in-Err-FileNotInCache.ensures.err in

@@ -6,8 +6,10 @@ use Rattle.sc_disk_cache.proofs.disk_cache.DiskCache.commit.Goals as goal
 
 pub invariant_of-self : goal.invariant_of-self
 invariant_of-self g c = let h = of_some c.get.result _ c.in-Some.is (c.get.follows.holds c.commit.new.cache) in
-    record { limit = lent-limit c.args.self.now.mode c.args.self.now.pair.max_size (c.get.follows.lender c.commit.new.cache).max_size c.args.self.now.pair.opened (c.get.follows.lender c.commit.new.cache).opened c.args.self.now.pair.disks
-    (c.get.follows.lender c.commit.new.cache).disks c.in-Some.cache.now c.commit.new.cache (sym c.in-Some.ensures.value) h.0 h.1 c.commit.ensures.capacity c.args.self.now.limit }
+    record {
+      limit = lent-limit c.args.self.now.mode c.args.self.now.pair.max_size (c.get.follows.lender c.commit.new.cache).max_size c.args.self.now.pair.opened (c.get.follows.lender c.commit.new.cache).opened c.args.self.now.pair.disks
+          (c.get.follows.lender c.commit.new.cache).disks c.in-Some.cache.now c.commit.new.cache (sym c.in-Some.ensures.value) h.0 h.1 c.commit.ensures.capacity c.args.self.now.limit;
+    }
 
 pub returns-in-Ok-clause-stays : goal.returns-in-Ok-clause-stays
 returns-in-Ok-clause-stays g c = let h = of_some c.get.result _ c.in-Some.is (c.get.follows.holds c.commit.new.cache) in
@@ -27,9 +29,11 @@ returns-in-Ok-clause-closed g c = λ opened. let h = of_some c.get.result _ c.in
     (c.get.follows.lender c.commit.new.cache).disks c.in-Some.cache.now c.commit.new.cache (sym c.in-Some.ensures.value) h.0 h.1 (ClosesEntry c.args.entry.number) (c.in-Ok.ensures.closed c.args.self.now.mode c.args.self.now.pair.max_size)
 
 pub returns-in-Ok-clause-committed : goal.returns-in-Ok-clause-committed
-returns-in-Ok-clause-committed g c = let h = of_some c.get.result _ c.in-Some.is (c.get.follows.holds c.commit.new.cache) in
-    (c.if-not-is_open.ensures.opened refl, lent c.args.self.now.mode c.args.self.now.pair.max_size (c.get.follows.lender c.commit.new.cache).max_size c.args.self.now.pair.opened (c.get.follows.lender c.commit.new.cache).opened c.args.self.now.pair.disks
-    (c.get.follows.lender c.commit.new.cache).disks c.in-Some.cache.now c.commit.new.cache (sym c.in-Some.ensures.value) h.0 h.1 (CommitsEntry c.args.entry.number c.in-Ok.how) (c.in-Ok.ensures.committed c.args.self.now.mode c.args.self.now.pair.max_size))
+returns-in-Ok-clause-committed g c = let h = of_some c.get.result _ c.in-Some.is (c.get.follows.holds c.commit.new.cache) in (
+  c.if-not-is_open.ensures.opened refl,
+  lent c.args.self.now.mode c.args.self.now.pair.max_size (c.get.follows.lender c.commit.new.cache).max_size c.args.self.now.pair.opened (c.get.follows.lender c.commit.new.cache).opened c.args.self.now.pair.disks
+      (c.get.follows.lender c.commit.new.cache).disks c.in-Some.cache.now c.commit.new.cache (sym c.in-Some.ensures.value) h.0 h.1 (CommitsEntry c.args.entry.number c.in-Ok.how) (c.in-Ok.ensures.committed c.args.self.now.mode c.args.self.now.pair.max_size),
+)
 
 pub returns-in-Ok-clause-cause : goal.returns-in-Ok-clause-cause
 returns-in-Ok-clause-cause g c = let h = of_some c.get.result _ c.in-Some.is (c.get.follows.holds c.commit.new.cache) in

@@ -6,8 +6,10 @@ use Rattle.sc_disk_cache.proofs.disk_cache.DiskCache.fill.Goals as goal
 
 pub invariant_of-self : goal.invariant_of-self
 invariant_of-self g c = let h = of_some c.get.result _ c.in-Some.is (c.get.follows.holds c.fill.new.cache) in
-    record { limit = lent-limit c.args.self.now.mode c.args.self.now.pair.max_size (c.get.follows.lender c.fill.new.cache).max_size c.args.self.now.pair.opened (c.get.follows.lender c.fill.new.cache).opened c.args.self.now.pair.disks
-    (c.get.follows.lender c.fill.new.cache).disks c.in-Some.cache.now c.fill.new.cache (sym c.in-Some.ensures.value) h.0 h.1 c.fill.ensures.capacity c.args.self.now.limit }
+    record {
+      limit = lent-limit c.args.self.now.mode c.args.self.now.pair.max_size (c.get.follows.lender c.fill.new.cache).max_size c.args.self.now.pair.opened (c.get.follows.lender c.fill.new.cache).opened c.args.self.now.pair.disks
+          (c.get.follows.lender c.fill.new.cache).disks c.in-Some.cache.now c.fill.new.cache (sym c.in-Some.ensures.value) h.0 h.1 c.fill.ensures.capacity c.args.self.now.limit;
+    }
 
 pub returns-in-Ok-clause-stays : goal.returns-in-Ok-clause-stays
 returns-in-Ok-clause-stays g c = let h = of_some c.get.result _ c.in-Some.is (c.get.follows.holds c.fill.new.cache) in
@@ -22,6 +24,8 @@ returns-in-Err-clause-stays g c = let h = of_some c.get.result _ c.in-Some.is (c
     (c.fill.ensures.stays c.args.self.now.mode c.args.self.now.pair.max_size)
 
 pub returns-in-Ok-clause-filled : goal.returns-in-Ok-clause-filled
-returns-in-Ok-clause-filled g c = let h = of_some c.get.result _ c.in-Some.is (c.get.follows.holds c.fill.new.cache) in
-    (c.if-not-is_open.ensures.opened refl, lent c.args.self.now.mode c.args.self.now.pair.max_size (c.get.follows.lender c.fill.new.cache).max_size c.args.self.now.pair.opened (c.get.follows.lender c.fill.new.cache).opened c.args.self.now.pair.disks
-    (c.get.follows.lender c.fill.new.cache).disks c.in-Some.cache.now c.fill.new.cache (sym c.in-Some.ensures.value) h.0 h.1 (FillsBy c.args.entry c.args.bytes.now c.in-Ok.how) (c.in-Ok.ensures.filled c.args.self.now.mode c.args.self.now.pair.max_size))
+returns-in-Ok-clause-filled g c = let h = of_some c.get.result _ c.in-Some.is (c.get.follows.holds c.fill.new.cache) in (
+  c.if-not-is_open.ensures.opened refl,
+  lent c.args.self.now.mode c.args.self.now.pair.max_size (c.get.follows.lender c.fill.new.cache).max_size c.args.self.now.pair.opened (c.get.follows.lender c.fill.new.cache).opened c.args.self.now.pair.disks
+      (c.get.follows.lender c.fill.new.cache).disks c.in-Some.cache.now c.fill.new.cache (sym c.in-Some.ensures.value) h.0 h.1 (FillsBy c.args.entry c.args.bytes.now c.in-Ok.how) (c.in-Ok.ensures.filled c.args.self.now.mode c.args.self.now.pair.max_size),
+)

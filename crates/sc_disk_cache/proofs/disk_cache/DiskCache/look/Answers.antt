@@ -18,5 +18,7 @@ returns-clause-answer g c = let h = of_some c.get.result _ c.in-Some.is (c.get.f
 
 pub invariant_of-self : goal.invariant_of-self
 invariant_of-self g c = let h = of_some c.get.result _ c.in-Some.is (c.get.follows.holds c.read.new.cache) in
-    record { limit = lent-limit c.args.self.now.mode c.args.self.now.pair.max_size (c.get.follows.lender c.read.new.cache).max_size c.args.self.now.pair.opened (c.get.follows.lender c.read.new.cache).opened c.args.self.now.pair.disks
-    (c.get.follows.lender c.read.new.cache).disks c.in-Some.cache.now c.read.new.cache (sym c.in-Some.ensures.value) h.0 h.1 c.read.ensures.capacity c.args.self.now.limit }
+    record {
+      limit = lent-limit c.args.self.now.mode c.args.self.now.pair.max_size (c.get.follows.lender c.read.new.cache).max_size c.args.self.now.pair.opened (c.get.follows.lender c.read.new.cache).opened c.args.self.now.pair.disks
+          (c.get.follows.lender c.read.new.cache).disks c.in-Some.cache.now c.read.new.cache (sym c.in-Some.ensures.value) h.0 h.1 c.read.ensures.capacity c.args.self.now.limit;
+    }

@@ -14,9 +14,15 @@ returns-in-Err-Io-clause-steady g c = let e = c.in-Err-Io.ensures.err in let u =
 
 pub returns-in-Err : goal.returns-in-Err
 returns-in-Err g c = let e = c.in-Err.ensures.err in let u = c.in-Err.ensures.unopened in
-    record { steady = refuses-steady c.args.self.now.mode c.args.self.now.pair.max_size c.get_or_init.new.self.max_size c.args.self.now.pair.opened c.get_or_init.new.self.opened c.args.self.now.pair.disks c.get_or_init.new.self.disks
-    e.0 e.1 u.0 u.1 e.2 e.3 c.get_or_init.ensures.max_size e.4; opened = tt; fault = tt }
+    record {
+      steady = refuses-steady c.args.self.now.mode c.args.self.now.pair.max_size c.get_or_init.new.self.max_size c.args.self.now.pair.opened c.get_or_init.new.self.opened c.args.self.now.pair.disks c.get_or_init.new.self.disks
+          e.0 e.1 u.0 u.1 e.2 e.3 c.get_or_init.ensures.max_size e.4;
+      opened = tt;
+      fault = tt;
+    }
 
 pub invariant_of-self : goal.invariant_of-self
-invariant_of-self g c = record { limit = open-limit c.get_or_init.result c.args.self.now.pair.max_size c.get_or_init.new.self.max_size c.args.self.now.pair.opened c.get_or_init.new.self.opened c.args.self.now.pair.disks
-    (sym c.if-is_opened.ensures.opened) (c.if-is_opened.ensures.disks refl) c.get_or_init.ensures.max_size c.get_or_init.ensures.ok c.get_or_init.ensures.unopened }
+invariant_of-self g c = record {
+  limit = open-limit c.get_or_init.result c.args.self.now.pair.max_size c.get_or_init.new.self.max_size c.args.self.now.pair.opened c.get_or_init.new.self.opened c.args.self.now.pair.disks
+      (sym c.if-is_opened.ensures.opened) (c.if-is_opened.ensures.disks refl) c.get_or_init.ensures.max_size c.get_or_init.ensures.ok c.get_or_init.ensures.unopened;
+}

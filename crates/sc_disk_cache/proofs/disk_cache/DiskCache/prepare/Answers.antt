@@ -11,8 +11,10 @@ use Rattle.sc_disk_cache.proofs.disk_cache.DiskCache.prepare.Goals as goal
 
 pub invariant_of-self : goal.invariant_of-self
 invariant_of-self g c = let h = of_some c.get.result _ c.in-Some.is (c.get.follows.holds c.prepare.new.cache) in
-    record { limit = lent-limit c.args.self.now.mode c.args.self.now.pair.max_size (c.get.follows.lender c.prepare.new.cache).max_size c.args.self.now.pair.opened (c.get.follows.lender c.prepare.new.cache).opened c.args.self.now.pair.disks
-    (c.get.follows.lender c.prepare.new.cache).disks c.in-Some.cache.now c.prepare.new.cache (sym c.in-Some.ensures.value) h.0 h.1 c.prepare.ensures.capacity c.args.self.now.limit }
+    record {
+      limit = lent-limit c.args.self.now.mode c.args.self.now.pair.max_size (c.get.follows.lender c.prepare.new.cache).max_size c.args.self.now.pair.opened (c.get.follows.lender c.prepare.new.cache).opened c.args.self.now.pair.disks
+          (c.get.follows.lender c.prepare.new.cache).disks c.in-Some.cache.now c.prepare.new.cache (sym c.in-Some.ensures.value) h.0 h.1 c.prepare.ensures.capacity c.args.self.now.limit;
+    }
 
 pub returns-clause-stays : goal.returns-clause-stays
 returns-clause-stays g c = let h = of_some c.get.result _ c.in-Some.is (c.get.follows.holds c.prepare.new.cache) in
