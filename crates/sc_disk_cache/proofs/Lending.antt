@@ -107,3 +107,7 @@ open-limit {D} (Err e) capacity after o o2 t shut has same opens refuses = ap (�
 pub on_err : {T E P Q : Type 0} (r : Result T E) → OnErr r P → (P → Q) → OnErr r Q
 on_err (Ok t) h f = tt
 on_err (Err e) h f = f h
+
+pub on_err_of : {T E P : Type 0} (r : Result T E) → P → OnErr r P
+on_err_of (Ok t) p = tt
+on_err_of (Err e) p = p

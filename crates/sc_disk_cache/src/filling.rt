@@ -1,5 +1,5 @@
 //! Filling and committing entries of a disk store.
-ghost use Rattle.std.specs.Prelude.{◌≡◌, ℕ, true, false, is_some, Err, IfOk, IfErr, IfSome};
+ghost use Rattle.std.specs.Prelude.{◌≡◌, ℕ, true, false, is_some, Err, IfOk, IfErr, IfSome, OnErr};
 ghost use Rattle.sc_disk_cache.specs.DiskStores.{held_disk, level_of, opened_store};
 ghost use Rattle.sc_disk_cache.specs.Entries.{ClosesEntry, CommitCause, CommitsEntry, FillsBy, IsOpenAt};
 ghost use Rattle.sc_disk_cache.specs.Moving.{Stays};
@@ -52,6 +52,7 @@ fn fill<D: Disk>(
     ensures stays { (mode : CacheMode) (capacity : ℕ) → Stays (opened_store mode capacity cache.old.store) (opened_store mode capacity cache.new.store) }
     ensures capacity { cache.new.store.capacity ≡ cache.old.store.capacity }
     ensures filled { IfOk result (λ how. (mode : CacheMode) (capacity : ℕ) → FillsBy entry bytes.now how (opened_store mode capacity cache.old.store) (opened_store mode capacity cache.new.store)) }
+    ensures closed { OnErr result ((mode : CacheMode) (capacity : ℕ) → ClosesEntry entry.number (opened_store mode capacity cache.old.store) (opened_store mode capacity cache.new.store)) }
 {
     cache.keeps();
     match cache.fill(&entry, bytes) {
@@ -102,10 +103,11 @@ impl<D: Disk> DiskCache<D> {
         }
     }
 
-    /// Adds bytes behind those that an open entry was filled with. A refusal closes the entry, and removes its temporary.
+    /// Adds bytes behind those that an open entry was filled with. A refusal closes the entry, and so does want of memory.
     pub fn fill(&mut self, entry: LruDiskCacheAddEntry, bytes: &[u8]) -> Result<Filling, EntryError>
         ensures stays { Stays (held_disk self.old) (held_disk self.new) }
         ensures filled { IfOk result (λ how. IsOpenAt entry (held_disk self.old) × FillsBy entry bytes.now how (held_disk self.old) (held_disk self.new)) }
+        ensures closed { OnErr result (IsOpenAt entry (held_disk self.old) → ClosesEntry entry.number (held_disk self.old) (held_disk self.new)) }
         ensures not_open { IfErr result (λ refused. refused ≡ IsNotOpen → (IsOpenAt entry (held_disk self.old) → ⊥) × (self.new ≡ self.old)) }
         ensures open { (IsOpenAt entry (held_disk self.old) → ⊥) → result ≡ Err IsNotOpen }
     {

@@ -14,3 +14,6 @@ pub use disk_cache::DiskCache;
 pub use filling::{EntryError, Filling};
 pub use reserving::Reservation;
 pub use whole::mode_answer;
+
+#[cfg(test)]
+mod tests;

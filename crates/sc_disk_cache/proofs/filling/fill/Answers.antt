@@ -4,6 +4,7 @@ use Rattle.sc_disk_cache.specs.Entries.{FillsBy}
 use Rattle.sc_disk_cache.specs.declared.filling.Filling.{Filling}
 use Rattle.sc_disk_cache.proofs.Askings.{if_ok}
 use Rattle.sc_disk_cache.proofs.Closings.{either-did, fills, gives-up, rose-since}
+use Rattle.sc_disk_cache.proofs.Lending.{on_err_of}
 use Rattle.sc_disk_cache.proofs.filling.fill.Goals as goal
 
 pub returns-in-Ok-clause-filled : goal.returns-in-Ok-clause-filled
@@ -23,3 +24,12 @@ returns-in-Err-clause-filled g c =
     (let given = gives-up mode capacity old mid new c.args.entry c.args.bytes.now c.requires c.keeps.ensures.sound c.keeps.ensures.distinct c.keeps.ensures.numbers c.in-Err.ensures.err c.fill.ensures.index c.fill.ensures.pending
     c.abandon-given_up.ensures.index c.abandon-given_up.ensures.closed gone in
     (rose-since c.in-Err.refused _ _ old.disk mid.disk new.disk h.1 c.in-Err.ensures.cause gone, given.0.0, given.0.1)))
+
+pub returns-in-Err-clause-closed : goal.returns-in-Err-clause-closed
+returns-in-Err-clause-closed g c =
+    let old = c.args.cache.now.store in
+    let mid = c.fill.new.self.store in
+    let new = c.abandon-given_up.new.self.store in
+    let gone = either-did c.abandon-given_up.result c.abandon-given_up.ensures.ok c.abandon-given_up.ensures.err in
+    on_err_of c.refused_fill.result (λ mode capacity. (gives-up mode capacity old mid new c.args.entry c.args.bytes.now c.requires c.keeps.ensures.sound c.keeps.ensures.distinct c.keeps.ensures.numbers c.in-Err.ensures.err
+    c.fill.ensures.index c.fill.ensures.pending c.abandon-given_up.ensures.index c.abandon-given_up.ensures.closed gone).0.1)
