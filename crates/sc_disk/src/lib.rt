@@ -36,3 +36,6 @@ pub use lru_disk_cache::LruDiskCache;
 pub use mem_disk::MemDisk;
 pub use opening::OpenError;
 pub use writing::{FileWriter, InsertError};
+
+#[cfg(test)]
+mod tests;
