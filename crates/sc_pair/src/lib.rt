@@ -15,3 +15,6 @@ pub use lazy_pair::LazyPair;
 pub use pair_cache::{PairCache, part_key};
 pub use part::Part;
 pub use two::Two;
+
+#[cfg(test)]
+mod tests;

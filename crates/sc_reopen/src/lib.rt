@@ -55,3 +55,6 @@ pub fn reopens_opening()
     ensures opening { ReopensOpening }
     ensures refused { ReopensRefusedOpening }
 {}
+
+#[cfg(test)]
+mod tests;
