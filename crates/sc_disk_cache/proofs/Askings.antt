@@ -1,5 +1,5 @@
 -- Lookups at a disk store, as the daemon's definitions have them.
-use Rattle.std.proofs.Common.{◌≡◌, ◌≢◌, ◌⊎◌, inl, inr, ℕ, ◌-◌, ◌^◌, min, ◌≤◌, ◌+◌, Bool, true, false, is_some, IfOk, List, Option, Some, None, Result, Ok, Err, refl, sym, ap, ◌∙◌, subst, arith}
+use Rattle.std.proofs.Common.{◌≡◌, inl, inr, ℕ, ◌≤◌, Bool, true, false, IfOk, List, Option, Some, None, Result, Ok, Err, refl, sym, ◌∙◌, subst, arith}
 use Rattle.sc_entry.specs.Causes.{Rose}
 use Rattle.sc_entry.specs.Entries.{objects}
 use Rattle.sc_entry.specs.Keys.{IsStoreKey, is_store_key, make_key_path, normalize_key}
@@ -7,12 +7,11 @@ use Rattle.sc_entry.specs.declared.cache_mode.CacheMode.{CacheMode}
 use Rattle.sc_entry.specs.declared.memory.NoMemory.{NoMemory}
 use Rattle.sc_entry.specs.declared.object.Object.{Object}
 use Rattle.sc_model.specs.Devices.{Calls, MakesOn}
-use Rattle.sc_model.specs.World.{Answers_pre, Answers_whole, Answers_raw, Asks, Keeps_all, Later, Level, Misses, Opens_by, Spells, find_file, is_later, level_size}
+use Rattle.sc_model.specs.World.{Answers_pre, Answers_whole, Answers_raw, Asks, Keeps_all, Later, Level, Opens_by, Spells, find_file, is_later}
 use Rattle.sc_model.specs.declared.event.Answer.{Answer}
 use Rattle.sc_model.specs.declared.event.Answer.TheVariants.{Found as FoundAt, Hit, Miss, Refused, Size as SizeIs}
 use Rattle.sc_model.specs.declared.event.Mode.{Mode}
 use Rattle.sc_model.specs.declared.event.Mode.TheVariants.{Path, Pre as PreMode, Raw, Size as Sizes, Whole}
-use Rattle.sc_model.specs.declared.level.Cause.{Cause}
 use Rattle.sc_model.specs.declared.level.Cause.TheVariants.{BadEntry, BadKey, FileTooLarge, Io, ReadOnly as ForReading, RemoteFault as RemoteRefused, Reserved as NoRoom}
 use Rattle.sc_model.specs.declared.level.LevelFacts.{LevelFacts}
 use Rattle.sc_model.specs.declared.level.LevelKind.{LevelKind}
@@ -24,7 +23,6 @@ use Rattle.sc_pair.specs.declared.part.Part.TheVariants.{Main, Pre}
 use Rattle.sc_disk_cache.specs.DiskStores.{DiskStore, store_of}
 use Rattle.sc_disk_cache.specs.Moving.{AskCause, AsksDisk, OpensFor, ReadsAt, Steady, hit_or_miss, reads_key}
 use Rattle.sc_disk_cache.specs.Wholes.{hit_of, if_spells, mode_answer, whole_answer}
-use Rattle.sc_disk_cache.proofs.Steadying.{later-then, steady-then}
 
 -- what every disk store is
 module _ {D : Type 0} (mode : CacheMode) (capacity : ℕ) where

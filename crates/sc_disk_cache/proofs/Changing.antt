@@ -1,5 +1,5 @@
 -- What changes make of the bytes at a path.
-use Rattle.std.proofs.Common.{◌≡◌, ℕ, zero, suc, Bool, true, false, ◌||◌, cond, is_some, bytes_eq, option_map, List, [], ◌∷◌, ◌++◌, drop, Option, Some, None, refl, sym, ap, ◌∙◌, subst}
+use Rattle.std.proofs.Common.{◌≡◌, ℕ, zero, suc, Bool, true, false, ◌||◌, cond, bytes_eq, option_map, List, [], ◌∷◌, ◌++◌, drop, Option, Some, None, refl, sym, ap, ◌∙◌}
 use Rattle.std.proofs.lemmas.Map.Keys.{IsDistinct-tail}
 use Rattle.std.specs.FinMap as map
 use Rattle.std.specs.List.{IsDistinct, list_any}
@@ -9,7 +9,6 @@ use Rattle.sc_disk.proofs.Files.{at-insert, at-removed, same_path}
 use Rattle.sc_disk.proofs.Pairs.{absent_later}
 use Rattle.sc_disk.specs.Disks.{DiskFiles, change, disk_file, disk_file_at, replay, with_disk_file}
 use Rattle.sc_disk.specs.Store.{firsts, gone}
-use Rattle.sc_disk.specs.declared.change.Change.{Change}
 use Rattle.sc_disk.specs.declared.change.Change.TheVariants.{Made, Added, Touched, Moved, Gone}
 use Rattle.sc_disk.specs.declared.disk_file.DiskFile.{DiskFile}
 use Rattle.sc_disk_cache.specs.Shown.{Index, bytes_at}

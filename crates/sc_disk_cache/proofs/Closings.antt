@@ -1,6 +1,6 @@
 -- Entries that are filled and closed.
-use Rattle.std.proofs.Common.{◌≡◌, ◌≢◌, ◌⊎◌, inl, inr, ℕ, zero, suc, ◌+◌, ◌-◌, ◌^◌, ◌<◌, ◌≤◌, max, Bool, true, false, cond, is_some, bytes_eq, option_map, OnErr, OnOk, Result, Ok, Err, List, [], ◌∷◌, ◌++◌, drop, take, length, slice_index_or, Option, Some, None, refl, sym, ap, ◌∙◌, subst, arith}
-use Rattle.std.specs.List.{IsDistinct, list_any}
+use Rattle.std.proofs.Common.{◌≡◌, ◌≢◌, ◌⊎◌, inl, inr, ℕ, ◌+◌, ◌^◌, ◌<◌, ◌≤◌, Bool, true, false, cond, is_some, bytes_eq, option_map, OnErr, OnOk, Result, Ok, Err, List, [], ◌∷◌, ◌++◌, drop, take, length, Option, Some, None, refl, sym, ap, ◌∙◌, subst, arith}
+use Rattle.std.specs.List.{IsDistinct}
 use Rattle.std.specs.Map.{keys_of, lookup, remove_entry}
 use Rattle.std.specs.Option.{option_map_or}
 use Rattle.slab.specs.Slab.{Slab, Updates, get}
@@ -14,7 +14,7 @@ use Rattle.sc_disk.specs.Disks.{DiskFiles, DiskRecord, DiskState, Does, DoesPart
 use Rattle.sc_disk.specs.Names.{is_temporary_path, temporary}
 use Rattle.sc_disk.specs.Refusals.{DiskRefusal}
 use Rattle.sc_disk.specs.Sound.{IsSound}
-use Rattle.sc_disk.specs.Store.{AddEntry, AreKeys, Closed, HasFiles, IsOpen, Store, declared, declared_at, filed, firsts, gone, reserved, temporary_of}
+use Rattle.sc_disk.specs.Store.{AddEntry, AreKeys, Closed, HasFiles, IsOpen, Store, declared, filed, firsts, gone, reserved, temporary_of}
 use Rattle.sc_disk.specs.declared.change.Change.{Change}
 use Rattle.sc_disk.specs.declared.change.Change.TheVariants.{Made, Added, Touched, Moved, Gone}
 use Rattle.sc_disk.specs.declared.disk_file.DiskFile.{DiskFile}
@@ -24,8 +24,8 @@ use Rattle.sc_disk.specs.declared.pending.Pending.{Pending}
 use Rattle.sc_model.specs.World.{same_maps}
 use Rattle.sc_pair.specs.declared.part.Part.{Part}
 use Rattle.sc_pair.specs.declared.part.Part.TheVariants.{Main, Pre}
-use Rattle.sc_disk_cache.specs.DiskStores.{DiskStore, OpenEntry, bytes_or, entries_of, entry_at, level_of, open_entry, opened_store, told_files}
-use Rattle.sc_disk_cache.specs.Entries.{ClosesEntry, FillsEntry, OthersStay, size_at}
+use Rattle.sc_disk_cache.specs.DiskStores.{OpenEntry, bytes_or, entries_of, entry_at, level_of, open_entry, opened_store, told_files}
+use Rattle.sc_disk_cache.specs.Entries.{ClosesEntry, FillsEntry, OthersStay}
 use Rattle.sc_disk_cache.specs.Moving.{Stays}
 use Rattle.sc_disk_cache.specs.Shown.{Index, bytes_at, files_of, shown}
 use Rattle.sc_disk_cache.proofs.Changing.{bytes-added, bytes-moved, bytes-touched}

@@ -1,7 +1,7 @@
 -- Commits of entries that were filled with no more than they declared.
-use Rattle.std.proofs.Common.{◌≡◌, ◌≢◌, ◌⊎◌, inl, inr, ℕ, zero, suc, ◌+◌, ◌-◌, ◌^◌, ◌<◌, ◌≤◌, max, Bool, true, false, cond, is_some, ◌&&◌, bytes_eq, option_map, List, [], ◌∷◌, ◌++◌, drop, length, slice_index_or, Option, Some, None, refl, sym, ap, ◌∙◌, subst, arith}
+use Rattle.std.proofs.Common.{◌≡◌, inl, inr, ℕ, zero, suc, ◌+◌, ◌-◌, ◌^◌, ◌<◌, ◌≤◌, max, Bool, true, false, cond, is_some, ◌&&◌, bytes_eq, option_map, List, [], ◌∷◌, ◌++◌, drop, length, Option, Some, None, refl, sym, ap, ◌∙◌, subst, arith}
 use Rattle.std.specs.List.{IsDistinct}
-use Rattle.std.specs.Map.{keys_of, lookup}
+use Rattle.std.specs.Map.{keys_of}
 use Rattle.std.specs.Option.{option_map_or}
 use Rattle.slab.specs.Slab.{get}
 use Rattle.sc_entry.specs.Causes.{IfTold, Rose}
@@ -11,7 +11,7 @@ use Rattle.sc_disk.proofs.Temporaries.{apart-back, temporary_is}
 use mathlib.Core.Bool.{beq}
 use Rattle.sc_disk.proofs.Files.{self_path}
 use Rattle.sc_disk.specs.Calls.{CommitCause, Commits, NeededFor, RefusesCommit, removed_by, touched_by}
-use Rattle.sc_disk.specs.Disks.{DiskFiles, DiskRecord, DiskState, Does, IsSize, change, did_all, disk_file_at, files_now, replay}
+use Rattle.sc_disk.specs.Disks.{DiskFiles, DiskRecord, Does, IsSize, did_all, disk_file_at, files_now, replay}
 use Rattle.sc_disk.specs.Names.{is_temporary_path, temporary}
 use Rattle.sc_disk.specs.Sound.{IsSound}
 use Rattle.sc_disk.specs.Store.{AddEntry, AreKeys, Closed, HasFiles, IsOpen, Needed, is_open, is_open_slot, Store, declared_at, filed, firsts, gone, indexed, others, reserved, size_of as measure, temporary_of}
@@ -19,21 +19,21 @@ use Rattle.sc_disk.specs.declared.change.Change.{Change}
 use Rattle.sc_disk.specs.declared.change.Change.TheVariants.{Touched, Moved}
 use Rattle.sc_disk.specs.declared.disk_file.DiskFile.{DiskFile}
 use Rattle.sc_disk.specs.declared.error.Error.{Error}
-use Rattle.sc_disk.specs.declared.error.Error.TheVariants.{FileTooLarge, Io, NoMemory, Reserved}
+use Rattle.sc_disk.specs.declared.error.Error.TheVariants.{FileTooLarge, Io, Reserved}
 use Rattle.sc_disk.specs.declared.pending.Pending.{Pending}
-use Rattle.sc_model.specs.World.{find_file, put_file, same_maps}
+use Rattle.sc_model.specs.World.{put_file, same_maps}
 use Rattle.sc_model.specs.declared.event.Written.TheVariants.{Done as WriteDone, Refused as WriteRefused}
 use Rattle.sc_model.specs.declared.level.Cause.TheVariants.{FileTooLarge as ForSize, Io as ForIo, Reserved as ForRoom}
 use Rattle.sc_pair.specs.Parts.{in_part}
 use Rattle.sc_pair.specs.Twos.{TwoState}
 use Rattle.sc_pair.specs.declared.pair_cache.PairCache.{PairCache}
 use Rattle.sc_pair.specs.declared.part.Part.TheVariants.{Main, Pre}
-use Rattle.sc_disk_cache.specs.DiskStores.{DiskStore, OpenEntry, bytes_or, entries_of, entry_at, level_of, open_entry, opened_store, store_of, told_files}
-use Rattle.sc_disk_cache.specs.Entries.{ClosesEntry, CommitsEntry, IsOpenAt}
+use Rattle.sc_disk_cache.specs.DiskStores.{OpenEntry, bytes_or, entries_of, entry_at, level_of, open_entry, opened_store, store_of, told_files}
+use Rattle.sc_disk_cache.specs.Entries.{ClosesEntry, CommitCause as RefusedCommit, CommitsEntry, CommitsNothing, IsMeasured, IsOpenAt}
 use Rattle.sc_disk_cache.specs.Shown.{Index, bytes_at, files_of, shown}
-use Rattle.sc_disk_cache.proofs.Closings.{AtOnly, apart-from, closes, did-none, entry-is, hidden-maps, lookup-filed, none-gone, only-append, only-away, only-hidden, shown-committed, temporary-stands}
+use Rattle.sc_disk_cache.proofs.Closings.{AtOnly, apart-from, closes, entry-is, hidden-maps, lookup-filed, none-gone, only-away, only-hidden, shown-committed, temporary-stands}
 use Rattle.sc_disk_cache.proofs.Finding.{find-files, find-put, same_map_files}
-use Rattle.sc_disk_cache.proofs.Rooms.{AllAway, entry-of}
+use Rattle.sc_disk_cache.proofs.Rooms.{entry-of}
 use Rattle.sc_disk_cache.proofs.Steadying.{files-did}
 
 -- At every path what was shown is shown, but at the key's.
@@ -206,6 +206,39 @@ over_and_not a b p q = omega (arith, p, q)
 module _ (mode : CacheMode) (capacity : ℕ) (old new : Store) (e : AddEntry) (now : ℕ) (o : IsOpen old e) (sound : IsSound old) (d : IsDistinct bytes_eq (keys_of old.index)) (closed : Closed e.number old new) where
   pub commits-done : (size n : ℕ) → Commits e size now n old new → CommitsEntry e.number WriteDone (opened_store mode capacity old) (opened_store mode capacity new)
   commits-done size n c told x path h small is = let r = has_record old.disk.told told in commit-puts old new r.0 e path x size now n o r.1 sound d h small is c
+
+  -- what was measured is what the entry was filled with, where the disk tells
+  measured-bytes : (m : ℕ) → IsSize (temporary_of e) m old.disk → IsMeasured e.number m (opened_store mode capacity old)
+  measured-bytes m is_size told x h =
+      let r = has_record old.disk.told told in
+      let b = filled old r.0 e o r.1 sound in
+      let own = entry-bytes old r.0 e o b.0 x r.1 b.1 h in
+      measured_told old old.disk.told r.0 (temporary_of e) b.0 m r.1 is_size b.1 ∙ sym (ap length own.2)
+
+  pub cause-io : (refused : Error) (n : ℕ) (touches removes : Bool) → refused ≡ Io → RefusesCommit refused e now n touches removes old new → RefusedCommit e.number (WriteRefused ForIo) (opened_store mode capacity old) (opened_store mode capacity new)
+  cause-io refused n touches removes is c =
+      let rose : Rose old.disk.faults c.by_then = subst (λ (f : Error). CommitCause f (temporary_of e) (others old e.number) old c.by_then) is c.cause in
+      omega (arith, rose, c.counted)
+
+  pub cause-too_large : (refused : Error) (n : ℕ) (touches removes : Bool) → old.capacity ≡ capacity → refused ≡ FileTooLarge → RefusesCommit refused e now n touches removes old new
+      → RefusedCommit e.number (WriteRefused ForSize) (opened_store mode capacity old) (opened_store mode capacity new)
+  cause-too_large refused n touches removes same is c =
+      let cause = subst (λ (f : Error). CommitCause f (temporary_of e) (others old e.number) old c.by_then) is c.cause in
+      (cause.0, measured-bytes cause.0 cause.1, subst (λ (z : ℕ). z < cause.0) same cause.2)
+
+  pub cause-reserved : (refused : Error) (n : ℕ) (touches removes : Bool) → old.capacity ≡ capacity → refused ≡ Reserved → RefusesCommit refused e now n touches removes old new
+      → RefusedCommit e.number (WriteRefused ForRoom) (opened_store mode capacity old) (opened_store mode capacity new)
+  cause-reserved refused n touches removes same is c =
+      let cause = subst (λ (f : Error). CommitCause f (temporary_of e) (others old e.number) old c.by_then) is c.cause in
+      let sum : reserved new + declared_at old e.number ≡ reserved old = closed.reserved in
+      let over : old.capacity < cause.0 + (reserved old - declared_at old e.number) = cause.3 in
+      (cause.0, measured-bytes cause.0 cause.1, subst (λ (z : ℕ). cause.0 ≤ z) same cause.2, subst (λ (z : ℕ). z < cause.0 + reserved new) same (omega (arith, sum, over)))
+
+  -- want of memory
+  pub commits-nothing : (refused : Error) (n : ℕ) (touches removes : Bool) → RefusesCommit refused e now n touches removes old new → CommitsNothing e.number (opened_store mode capacity old) (opened_store mode capacity new)
+  commits-nothing refused n touches removes c told x h small =
+      let r = has_record old.disk.told told in
+      refused-maps old new r.0 e x refused now n touches removes o r.1 sound d closed h small c
 
   pub commits-io : (refused : Error) (n : ℕ) (touches removes : Bool) → refused ≡ Io → RefusesCommit refused e now n touches removes old new → CommitsEntry e.number (WriteRefused ForIo) (opened_store mode capacity old) (opened_store mode capacity new)
   commits-io refused n touches removes is c told x path h small at =

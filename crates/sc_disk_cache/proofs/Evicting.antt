@@ -8,11 +8,11 @@ use Rattle.sc_disk.proofs.Files.{same_path}
 use Rattle.sc_disk.proofs.Pairs.{absent_later}
 use Rattle.sc_disk.specs.Disks.{DiskFiles}
 use Rattle.sc_disk.specs.Store.{size_of as measure}
-use Rattle.sc_model.specs.World.{Evicts, Files, Level, drop_file, drop_part, find_file, part_size, size_of}
+use Rattle.sc_model.specs.World.{Evicts, Files, Level, drop_file, drop_part, size_of}
 use Rattle.sc_pair.specs.Parts.{in_part}
 use Rattle.sc_pair.specs.declared.part.Part.{Part}
 use Rattle.sc_pair.specs.declared.part.Part.TheVariants.{Main, Pre}
-use Rattle.sc_disk_cache.specs.Shown.{Index, bytes_at, files_of, shown}
+use Rattle.sc_disk_cache.specs.Shown.{Index, bytes_at, files_of}
 use Rattle.sc_disk_cache.proofs.Finding.{find-drop, find-files, same_map_files}
 use Rattle.sc_disk_cache.proofs.Sizes.{IsWhole, sizes}
 

@@ -1,5 +1,5 @@
 -- A store that is lent while it is opened.
-use Rattle.std.proofs.Common.{◌≡◌, ℕ, ◌+◌, ◌-◌, ◌^◌, ◌<◌, min, Bool, true, false, is_some, bytes_eq, IfOk, IfSome, OnErr, OnOk, List, Option, Some, None, Result, Ok, Err, refl, sym, ap, ◌∙◌, subst, arith}
+use Rattle.std.proofs.Common.{◌≡◌, ℕ, ◌+◌, ◌-◌, ◌^◌, ◌<◌, min, true, false, is_some, bytes_eq, IfOk, IfSome, OnErr, OnOk, List, Option, Some, None, Result, Ok, Err, refl, sym, ap, ◌∙◌, subst, arith}
 use Rattle.std.specs.List.{IsDistinct}
 use Rattle.std.specs.Map.{keys_of}
 use Rattle.std.specs.Option.{OnSome, option_map_or}
@@ -9,9 +9,8 @@ use Rattle.sc_entry.specs.declared.memory.NoMemory.{NoMemory}
 use Rattle.sc_lru.specs.LruCache.{total}
 use Rattle.sc_disk.specs.Disks.{DiskRecord, files_now}
 use Rattle.sc_disk.specs.Sound.{IsSound}
-use Rattle.sc_disk.specs.Store.{AreKeys, HasFiles, Store, declared, indexed, reserved, size_of as measure}
+use Rattle.sc_disk.specs.Store.{AreKeys, HasFiles, Store, indexed, reserved, size_of as measure}
 use Rattle.sc_disk.specs.declared.error.Error.{Error}
-use Rattle.sc_disk.specs.declared.pending.Pending.{Pending}
 use Rattle.sc_model.specs.World.{level_size, size_of}
 use Rattle.sc_model.specs.declared.event.Answer.{Answer}
 use Rattle.sc_model.specs.declared.level.LevelKind.TheVariants.{Disk}
@@ -20,9 +19,9 @@ use Rattle.sc_pair.specs.Twos.{TwoState}
 use Rattle.sc_pair.specs.declared.pair_cache.PairCache.{PairCache}
 use Rattle.sc_pair.specs.declared.part.Part.{Part}
 use Rattle.sc_pair.specs.declared.part.Part.TheVariants.{Main, Pre}
-use Rattle.sc_disk_cache.specs.DiskStores.{DiskStore, level_of, opened_store, store_of, told_files}
+use Rattle.sc_disk_cache.specs.DiskStores.{DiskStore, bytes_of, if_opened, level_of, opened_store, store_of, told_files}
 use Rattle.sc_disk_cache.specs.Moving.{ReadsAt, Steady}
-use Rattle.sc_disk_cache.specs.Shown.{Index, files_of}
+use Rattle.sc_disk_cache.specs.Shown.{files_of}
 use Rattle.sc_disk_cache.proofs.Sizes.{all-whole, sizes}
 use Rattle.sc_disk_cache.proofs.Steadying.{OpensOn}
 
@@ -63,6 +62,13 @@ pub size-tells : {D : Type 0} (mode : CacheMode) (capacity : ℕ) (o : Option (P
 size-tells {D} mode capacity o t c e sound d placed n is small =
     subst (λ (x : Option (PairCache D)). (store_of mode capacity x t).told ≡ true → Some n ≡ level_size Disk (store_of mode capacity x t).level (store_of mode capacity x t).reserved) (sym e)
     (λ told. whole_size n (size_of (level_of true c.store.index c.store.disk).main) (size_of (level_of true c.store.index c.store.disk).pre) (reserved c.store) (indexed c.store) is (store-sized c.store sound d placed told) small)
+
+-- what is indexed and reserved, whether or not the disks tell
+pub indexed-size : {D : Type 0} (mode : CacheMode) (capacity : ℕ) (o : Option (PairCache D)) (t : Option TwoState) (c : PairCache D) → o ≡ Some c → (n : ℕ) → n ≡ indexed c.store + reserved c.store → Some n ≡ if_opened (store_of mode capacity o t).level.opened (bytes_of capacity o t + (store_of mode capacity o t).reserved)
+indexed-size {D} mode capacity o t c e n is = subst (λ (x : Option (PairCache D)). Some n ≡ if_opened (store_of mode capacity x t).level.opened (bytes_of capacity x t + (store_of mode capacity x t).reserved)) (sym e) (ap Some is)
+
+pub unopened-size : {D : Type 0} (mode : CacheMode) (capacity : ℕ) (o : Option (PairCache D)) (t : Option TwoState) → o ≡ None → None ≡ if_opened (store_of mode capacity o t).level.opened (bytes_of capacity o t + (store_of mode capacity o t).reserved)
+unopened-size {D} mode capacity o t e = subst (λ (x : Option (PairCache D)). None ≡ if_opened (store_of mode capacity x t).level.opened (bytes_of capacity x t + (store_of mode capacity x t).reserved)) (sym e) refl
 
 pub of_some : {A P : Type 0} (r : Option A) (x : A) → r ≡ Some x → OnSome r P → P
 of_some None x e h = cc

@@ -1,15 +1,14 @@
 -- What a read at an opened store answers.
-use Rattle.std.proofs.Common.{◌≡◌, ◌⊎◌, inl, inr, ℕ, Bool, true, false, cond, is_some, bytes_eq, option_map, List, [], ◌∷◌, Option, Some, None, refl, sym, ap, ◌∙◌, subst}
+use Rattle.std.proofs.Common.{◌≡◌, inl, inr, ℕ, Bool, true, false, cond, is_some, bytes_eq, option_map, List, [], ◌∷◌, Option, Some, None, refl, ap, ◌∙◌, subst}
 use Rattle.std.specs.List.{IsDistinct}
 use Rattle.std.specs.Map.{keys_of, lookup}
 use Rattle.sc_entry.specs.Causes.{IfTold}
 use Rattle.sc_entry.specs.declared.cache_mode.CacheMode.{CacheMode}
-use Rattle.sc_lru.specs.Order.{touched}
 use Rattle.sc_disk.proofs.Pairs.{lookup-touched}
 use Rattle.sc_disk.specs.Calls.{Gets, touched_by, used_unless}
 use Rattle.sc_disk.specs.Refusals.{GetCause}
 use Rattle.sc_entry.specs.Keys.{is_file_key}
-use Rattle.sc_disk.specs.Disks.{DiskRecord, DiskState, HasBytes, disk_file_at, files_now}
+use Rattle.sc_disk.specs.Disks.{DiskRecord, disk_file_at, files_now}
 use Rattle.sc_disk.specs.Store.{Store}
 use Rattle.sc_disk.specs.declared.change.Change.TheVariants.{Touched}
 use Rattle.sc_disk.specs.declared.error.Error.{Error}
@@ -22,7 +21,7 @@ use Rattle.sc_pair.specs.declared.part.Part.{Part}
 use Rattle.sc_pair.specs.declared.part.Part.TheVariants.{Main, Pre}
 use Rattle.sc_disk_cache.specs.DiskStores.{level_of, opened_store, told_files}
 use Rattle.sc_disk_cache.specs.Moving.{Steady, part_files}
-use Rattle.sc_disk_cache.specs.Shown.{Index, bytes_at, files_of, shown}
+use Rattle.sc_disk_cache.specs.Shown.{Index, bytes_at, shown}
 use Rattle.sc_disk_cache.proofs.Finding.{find-files}
 use Rattle.sc_disk_cache.proofs.Steadying.{AllTouched, still_told, uses-steady}
 

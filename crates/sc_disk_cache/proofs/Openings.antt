@@ -1,18 +1,15 @@
 -- A store that is opened holds what it held before.
-use Rattle.std.proofs.Common.{◌≡◌, ◌⊎◌, inl, inr, ℕ, Bool, true, false, cond, if◌then◌else◌, is_some, nat_le, bytes_eq, option_map, List, [], ◌∷◌, ◌++◌, length, Option, Some, None, refl, sym, ap, ◌∙◌, subst, arith}
+use Rattle.std.proofs.Common.{◌≡◌, inl, inr, ℕ, Bool, true, false, cond, if◌then◌else◌, is_some, nat_le, bytes_eq, option_map, List, [], ◌∷◌, ◌++◌, length, Option, Some, None, refl, sym, ap, ◌∙◌, subst}
 use Rattle.std.specs.Cmp.Lexicographic.{slice_cmp}
 use Rattle.std.specs.FinMap as map
 use Rattle.std.specs.List.{list_any}
 use Rattle.std.specs.Map.{lookup}
 use Rattle.std.specs.Ordering.{nat_cmp}
-use Rattle.sc_entry.specs.Causes.{IfTold}
 use Rattle.sc_lru.specs.LruCache.{suffix_within, total}
-use Rattle.sc_disk.proofs.Doing.{replay-append}
 use Rattle.sc_disk.proofs.Files.{same_path, self_path}
 use Rattle.sc_disk.proofs.Reopening.{files_listed}
-use Rattle.sc_disk.specs.Disks.{DiskFiles, DiskRecord, DiskState, Does, did_all, disk_file_at, files_now, listing, no_disk_files, replay}
-use Rattle.sc_disk.specs.Names.{is_temporary_path}
-use Rattle.sc_disk.specs.Opening.{Begins, IsReopened, RefusesOpening, Reopens, is_kept, kept_of, pair_of, pairs_of}
+use Rattle.sc_disk.specs.Disks.{DiskFiles, disk_file_at, listing, no_disk_files, replay}
+use Rattle.sc_disk.specs.Opening.{Begins, IsReopened, is_kept, kept_of, pairs_of}
 use Rattle.sc_disk.specs.Store.{Agrees, AreKeys, gone, size_of}
 use Rattle.sc_disk.specs.declared.disk.Listed.{Listed}
 use Rattle.sc_disk.specs.declared.disk_file.DiskFile.{DiskFile}
@@ -20,7 +17,6 @@ use Rattle.sc_pair.specs.Parts.{in_part}
 use Rattle.sc_pair.specs.declared.part.Part.{Part}
 use Rattle.sc_reopen.proofs.Rising.{In, in-filter, perm-in}
 use Rattle.sc_reopen.proofs.Starting.{again-refused}
-use Rattle.sc_disk_cache.specs.DiskStores.{told_files}
 use Rattle.sc_disk_cache.specs.Reopened.{in_use_order, reopened}
 use Rattle.sc_disk_cache.specs.Shown.{Index, bytes_at, files_of, shown}
 use Rattle.sc_disk_cache.proofs.Changing.{bytes-all_gone}

@@ -1,9 +1,9 @@
 -- The files that an opening keeps have one order of use.
-use Rattle.std.proofs.Common.{◌≡◌, ℕ, zero, suc, ◌+◌, ◌<◌, Bool, true, false, cond, List, [], ◌∷◌, length, get_or, refl, sym, ap, ◌∙◌, subst, arith}
+use Rattle.std.proofs.Common.{◌≡◌, ℕ, zero, suc, ◌+◌, Bool, true, false, cond, List, [], ◌∷◌, get_or, refl, sym, ap, ◌∙◌, subst, arith}
 use Rattle.std.proofs.lemmas.List.Sorted.{IsPermutation-cons, IsPermutation-middle, IsPermutation-refl, IsPermutation-sym, IsPermutation-trans, ranks_by}
 use Rattle.std.specs.Cmp.{IsStrictWeakOrder, IsTotalOrder, nat_cmp_total, on_total, then_total}
 use Rattle.std.specs.Cmp.Lexicographic.{nat_list_cmp_total}
-use Rattle.std.specs.List.Sorted.{IsPermutation, IsSorted, IsSortedBy}
+use Rattle.std.specs.List.Sorted.{IsPermutation, IsSortedBy}
 use Rattle.std.specs.Ordering.{is_lt}
 use Rattle.sc_lru.specs.LruCache.{suffix_within}
 use Rattle.sc_disk.specs.Disks.{DiskFiles, listing}
@@ -11,7 +11,7 @@ use Rattle.sc_disk.specs.Opening.{IsReopened, IsUseOrder, kept_of, pairs_of, use
 use Rattle.sc_disk.specs.Store.{size_of}
 use Rattle.sc_disk.specs.declared.disk.Listed.{Listed}
 use Rattle.sc_reopen.proofs.Remaining.{rises-order}
-use Rattle.sc_reopen.proofs.Rising.{In, OneWay, all-in, in-perm, perm-in, same-rising, sorted-first, sorted-rest}
+use Rattle.sc_reopen.proofs.Rising.{OneWay, in-perm, perm-in, same-rising, sorted-first, sorted-rest}
 use Rattle.sc_disk_cache.specs.Reopened.{in_use_order, put_by_use, reopened}
 use Rattle.sc_disk_cache.specs.Shown.{Index}
 

@@ -1,23 +1,21 @@
 -- An entry is opened, or it isn't.
-use Rattle.std.proofs.Common.{◌≡◌, ◌≢◌, ◌⊎◌, inl, inr, ℕ, ◌+◌, ◌-◌, ◌^◌, ◌<◌, ◌≤◌, Bool, true, false, cond, is_some, bytes_eq, option_map, slice_index_or, IfErr, List, [], ◌∷◌, ◌++◌, drop, length, nat_lt, Option, Some, None, Result, Ok, Err, refl, sym, ap, ◌∙◌, subst, arith}
+use Rattle.std.proofs.Common.{◌≡◌, ℕ, ◌+◌, ◌^◌, ◌<◌, ◌≤◌, true, false, cond, is_some, bytes_eq, option_map, slice_index_or, List, [], ◌∷◌, length, nat_lt, Option, Some, None, refl, sym, ap, ◌∙◌, subst, arith}
 use Rattle.std.proofs.lemmas.Bool.{le-ltb}
 use Rattle.std.specs.List.{IsDistinct}
 use Rattle.std.specs.Map.{keys_of}
-use Rattle.slab.specs.Slab.{get}
-use Rattle.sc_entry.specs.Causes.{IfTold, Rose}
+use Rattle.sc_entry.specs.Causes.{IfTold}
 use Rattle.sc_entry.specs.Keys.{is_file_key}
 use Rattle.sc_entry.specs.declared.cache_mode.CacheMode.{CacheMode}
-use Rattle.sc_lru.specs.LruCache.{total}
 use Rattle.sc_disk.proofs.Files.{self_path}
 use Rattle.sc_disk.proofs.Temporaries.{numbers-apart, temporary_is}
 use Rattle.sc_disk.specs.Calls.{Prepares, RefusesAdd}
-use Rattle.sc_disk.specs.Disks.{DiskRecord, Does, did_all, files_now, replay}
+use Rattle.sc_disk.specs.Disks.{DiskRecord, did_all, files_now, replay}
 use Rattle.sc_disk.specs.Names.{temporary}
 use Rattle.sc_disk.specs.Refusals.{AddCause}
 use Rattle.sc_disk.specs.Sound.{IsSound}
-use Rattle.sc_disk.specs.Store.{AddEntry, Store, declared, firsts, gone, reserved, size_of as measure, temporary_of}
+use Rattle.sc_disk.specs.Store.{AddEntry, Store, declared, firsts, gone, reserved, temporary_of}
 use Rattle.sc_disk.specs.declared.change.Change.{Change}
-use Rattle.sc_disk.specs.declared.change.Change.TheVariants.{Made, Gone}
+use Rattle.sc_disk.specs.declared.change.Change.TheVariants.{Made}
 use Rattle.sc_disk.specs.declared.error.Error.{Error}
 use Rattle.sc_disk.specs.declared.error.Error.TheVariants.{Io}
 use Rattle.sc_disk.specs.declared.pending.Pending.{Pending}
@@ -27,8 +25,8 @@ use Rattle.sc_model.specs.declared.level.Cause.{Cause}
 use Rattle.sc_model.specs.declared.level.Cause.TheVariants.{Io as ForIo}
 use Rattle.sc_model.specs.declared.level.LevelKind.TheVariants.{Disk}
 use Rattle.sc_pair.specs.Parts.{ArePlaced}
-use Rattle.sc_disk_cache.specs.DiskStores.{OpenEntry, bytes_or, entries_of, entry_at, level_of, open_entry, opened_store, told_files}
-use Rattle.sc_disk_cache.specs.Moving.{Opens, SameEntries, room_causes}
+use Rattle.sc_disk_cache.specs.DiskStores.{bytes_or, level_of, open_entry, opened_store, told_files}
+use Rattle.sc_disk_cache.specs.Moving.{EvictsFor, Opens, SameEntries, room_causes}
 use Rattle.sc_disk_cache.specs.Shown.{bytes_at}
 use Rattle.std.specs.Cmp.Lexicographic.{slice_cmp}
 use Rattle.std.specs.FinMap as map
@@ -66,6 +64,10 @@ module _ (old new : Store) (sound : IsSound old) (d : IsDistinct bytes_eq (keys_
         subst (λ (o : Option Cause). Evicts_unless o old.capacity (reserved old + size) (level_of true old.index old.disk) (level_of true new.index new.disk)) (sym free)
             (evicted old.capacity (reserved old + size) n [] old new told sound d placed tt p.index p.disk (λ m l. omega (arith, cause.1, p.evicted m l))),
       )
+
+  -- want of memory
+  pub refused-evicts : (mode : CacheMode) (refused : Error) (k : List ℕ) (size n : ℕ) → RefusesAdd refused k size n old new → EvictsFor size (opened_store mode old.capacity old) (opened_store mode old.capacity new)
+  refused-evicts mode refused k size n p told = evicted old.capacity (reserved old + size) n [] old new told sound d placed tt p.index p.disk (λ m l. omega (arith, p.evicted m l))
 
 pub refused-entries : (mode : CacheMode) (capacity : ℕ) (old new : Store) (refused : Error) (k : List ℕ) (size n : ℕ) → IsSound old → RefusesAdd refused k size n old new → SameEntries (opened_store mode capacity old) (opened_store mode capacity new)
 refused-entries mode capacity old new refused k size n sound p = record {

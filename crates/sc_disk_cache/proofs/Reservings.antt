@@ -1,12 +1,12 @@
 -- A reservation at a disk store, as the daemon's definitions have it.
-use Rattle.std.proofs.Common.{◌≡◌, ◌≢◌, ℕ, ◌+◌, ◌≤◌, ◌<◌, Bool, true, false, ◌&&◌, not, is_some, nat_lt, IfOk, List, [], ◌∷◌, Option, Some, None, Result, Ok, Err, refl, sym, ap, ◌∙◌, subst, arith}
+use Rattle.std.proofs.Common.{◌≡◌, ℕ, ◌+◌, ◌≤◌, ◌<◌, Bool, true, false, ◌&&◌, not, nat_lt, IfOk, OnErr, List, [], ◌∷◌, Option, Some, None, Result, Ok, Err, refl, sym, ap, ◌∙◌, subst}
 use Rattle.sc_entry.specs.Causes.{Rose}
 use Rattle.sc_entry.specs.Keys.{IsStoreKey, is_store_key}
 use Rattle.sc_entry.specs.declared.cache_mode.CacheMode.{CacheMode}
 use Rattle.sc_entry.specs.declared.memory.NoMemory.{NoMemory}
-use Rattle.sc_model.specs.Plan.{is_disk, reads_only}
+use Rattle.sc_model.specs.Plan.{reads_only}
 use Rattle.sc_model.specs.Script.{is_single}
-use Rattle.sc_model.specs.World.{Causes, Evicts, Evicts_unless, IsRefused, Keeps_all, Level, Opens_refused, Reserves, causes, drop_file, drop_part, early_cause, or_cause, part_size, read_only_store, room_cause, size_of, write_cause}
+use Rattle.sc_model.specs.World.{Evicts, Evicts_unless, IsRefused, Level, Reserves, causes, drop_file, drop_part, early_cause, or_cause, read_only_store, room_cause, size_of, write_cause}
 use Rattle.sc_model.specs.declared.event.Written.{Written}
 use Rattle.sc_model.specs.declared.event.Written.TheVariants.{Done as WriteDone, Refused as WriteRefused}
 use Rattle.sc_model.specs.declared.level.Cause.{Cause}
@@ -18,11 +18,11 @@ use Rattle.sc_model.specs.declared.level.Policy.{Policy}
 use Rattle.sc_pair.specs.Twos.{TwoState}
 use Rattle.sc_pair.specs.declared.pair_cache.PairCache.{PairCache}
 use Rattle.sc_disk_cache.specs.DiskStores.{DiskStore, disk_facts, store_of}
-use Rattle.sc_disk_cache.specs.Moving.{OpensBy, ReserveCause, SameEntries, Stays, Steady, room_causes, written_of}
+use Rattle.sc_disk_cache.specs.Moving.{EvictsFor, ReserveCause, Steady, room_causes, written_of}
 use Rattle.sc_disk_cache.specs.declared.reserving.Reservation.{Reservation}
 use Rattle.sc_disk_cache.specs.declared.reserving.Reservation.TheVariants.{Open as IsOpened, Refused as IsRefused_of}
 use Rattle.sc_disk_cache.proofs.Askings.{rose_before}
-use Rattle.sc_disk_cache.proofs.Steadying.{later-then}
+use Rattle.sc_disk_cache.proofs.Lending.{on_err}
 
 -- the causes that are found before the store is opened hang on its mode alone
 pub early-held : {D : Type 0} (mode : CacheMode) (capacity : ℕ) (o : Option (PairCache D)) (t : Option TwoState) (p : Policy) (k : List ℕ) → early_cause p (store_of mode capacity o t).facts k ≡ early_cause p (disk_facts mode 0 []) k
@@ -186,3 +186,10 @@ module _ (old mid new : DiskStore) (steady : Steady old mid) (kind : old.facts.k
   reserved-cause h = if_ok r h (λ how f. told_from p old.facts old.reserved k n how old.level mid.level new.level kind early steady.later.faults
       (subst (λ (x : LevelFacts). ReserveCause (room_causes x.capacity old.reserved n) how mid.level new.level) steady.facts
       (subst (λ (z : ℕ). ReserveCause (room_causes mid.facts.capacity z n) how mid.level new.level) steady.reserved f)))
+
+  pub reserved-evicts : OnErr r (EvictsFor n mid new) → OnErr r (EvictsFor n old new)
+  reserved-evicts h = on_err r h (λ f told. let x = f (steady.told ∙ told) in (
+    x.0,
+    evicts_from old.facts.capacity (old.reserved + n) x.0 old.level mid.level new.level steady.main steady.pre
+        (subst (λ (y : LevelFacts). Evicts y.capacity (old.reserved + n) x.0 mid.level new.level) steady.facts (subst (λ (z : ℕ). Evicts mid.facts.capacity (z + n) x.0 mid.level new.level) steady.reserved x.1)),
+  ))

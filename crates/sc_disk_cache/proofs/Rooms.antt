@@ -1,7 +1,7 @@
 -- Calls that evict files for others, and open or close entries.
-use Rattle.std.proofs.Common.{◌≡◌, ◌≢◌, ◌⊎◌, inl, inr, ℕ, zero, suc, ◌+◌, ◌-◌, ◌^◌, ◌<◌, ◌≤◌, Bool, true, false, cond, is_some, bytes_eq, option_map, List, [], ◌∷◌, ◌++◌, drop, length, slice_index_or, Option, Some, None, refl, sym, ap, ◌∙◌, subst, arith}
+use Rattle.std.proofs.Common.{◌≡◌, ℕ, zero, suc, ◌+◌, ◌<◌, Bool, true, false, cond, is_some, bytes_eq, option_map, List, [], ◌∷◌, ◌++◌, drop, length, slice_index_or, Option, Some, None, refl, sym, ap, ◌∙◌, arith}
 use Rattle.std.specs.FinMap as map
-use Rattle.std.specs.List.{AllByRecursion, IsDistinct, list_any}
+use Rattle.std.specs.List.{AllByRecursion, IsDistinct}
 use Rattle.std.specs.Map.{keys_of, lookup}
 use Rattle.slab.specs.Slab.{get}
 use Rattle.sc_entry.specs.Causes.{IfTold}
@@ -9,10 +9,10 @@ use Rattle.sc_entry.specs.declared.cache_mode.CacheMode.{CacheMode}
 use Rattle.sc_lru.specs.LruCache.{total}
 use Rattle.sc_disk.proofs.Changing.{at-with}
 use Rattle.sc_disk.proofs.Doing.{replay-append}
-use Rattle.sc_disk.proofs.Files.{at-removed, self_path}
+use Rattle.sc_disk.proofs.Files.{at-removed}
 use Rattle.sc_disk.proofs.Sizes.{at-evicted}
-use Rattle.sc_disk.proofs.Temporaries.{apart, numbers-apart, temporary_is}
-use Rattle.sc_disk.specs.Disks.{DiskFiles, DiskRecord, DiskState, Does, change, did_all, disk_file_at, files_now, replay}
+use Rattle.sc_disk.proofs.Temporaries.{apart, temporary_is}
+use Rattle.sc_disk.specs.Disks.{DiskFiles, DiskRecord, Does, change, did_all, disk_file_at, files_now, replay}
 use Rattle.sc_disk.specs.Names.{is_temporary_path, temporary}
 use Rattle.sc_disk.specs.Sound.{IsSound}
 use Rattle.sc_disk.specs.Store.{AreKeys, HasFiles, Store, firsts, gone, size_of as measure}
@@ -24,13 +24,12 @@ use Rattle.sc_model.specs.World.{Evicts}
 use Rattle.sc_pair.specs.Parts.{ArePlaced, in_part}
 use Rattle.sc_pair.specs.declared.part.Part.{Part}
 use Rattle.sc_pair.specs.declared.part.Part.TheVariants.{Main, Pre}
-use Rattle.sc_disk_cache.specs.DiskStores.{OpenEntry, bytes_or, entries_from, entries_of, entry_at, level_of, open_entry, opened_store, told_files}
+use Rattle.sc_disk_cache.specs.DiskStores.{bytes_or, entries_from, entries_of, entry_at, level_of, open_entry, opened_store, told_files}
 use Rattle.sc_disk_cache.specs.Moving.{Stays}
 use Rattle.sc_disk_cache.specs.Shown.{Index, bytes_at, files_of}
 use Rattle.sc_disk_cache.proofs.Changing.{bytes-added, bytes-all_gone, bytes-gone, bytes-made, bytes-touched, left_apart, lookup-dropped}
 use Rattle.sc_disk_cache.proofs.Evicting.{evictions}
 use Rattle.sc_disk_cache.proofs.Finding.{same-shown}
-use Rattle.sc_disk_cache.proofs.Openings.{files-untold}
 use Rattle.sc_disk_cache.proofs.Sizes.{IsWhole, all-whole, key_is_no_temporary}
 use Rattle.sc_disk_cache.proofs.Steadying.{files-did, still_told}
 

@@ -1,5 +1,5 @@
 -- Openings, and other calls that change nothing that is held.
-use Rattle.std.proofs.Common.{◌≡◌, ◌⊎◌, inl, inr, ℕ, suc, ◌≤◌, Bool, true, false, cond, is_some, bytes_eq, option_map, IfSome, List, [], ◌∷◌, ◌++◌, length, Option, Some, None, refl, sym, ap, ◌∙◌, subst, arith}
+use Rattle.std.proofs.Common.{◌≡◌, ℕ, suc, Bool, true, false, cond, is_some, bytes_eq, option_map, IfSome, List, [], ◌∷◌, Option, Some, None, refl, sym, ap, ◌∙◌, subst, arith}
 use Rattle.std.specs.Map.{lookup}
 use Rattle.sc_entry.specs.Causes.{IfTold}
 use Rattle.sc_entry.specs.declared.cache_mode.CacheMode.{CacheMode}
@@ -13,7 +13,7 @@ use Rattle.sc_disk.specs.declared.change.Change.{Change}
 use Rattle.sc_disk.specs.declared.change.Change.TheVariants.{Made, Added, Touched, Moved, Gone}
 use Rattle.sc_disk.specs.declared.pending.Pending.{Pending}
 use Rattle.sc_model.specs.Devices.{Calls, MakesOn}
-use Rattle.sc_model.specs.World.{Files, Later, Level, is_later}
+use Rattle.sc_model.specs.World.{Later, Level, is_later}
 use Rattle.sc_pair.specs.Parts.{in_part}
 use Rattle.sc_pair.specs.Twos.{TwoState, joined_state}
 use Rattle.sc_pair.specs.declared.pair_cache.PairCache.{PairCache}

@@ -1,15 +1,15 @@
 -- A disk store takes at most its capacity.
-use Rattle.std.proofs.Common.{◌≡◌, ◌⊎◌, inl, inr, ℕ, ◌+◌, ◌≤◌, Bool, true, false, cond, if◌then◌else◌, is_some, nat_le, bytes_eq, option_map, List, [], ◌∷◌, length, Option, Some, None, refl, sym, ap, ◌∙◌, subst, arith}
+use Rattle.std.proofs.Common.{◌≡◌, inl, inr, ℕ, ◌+◌, ◌≤◌, Bool, true, false, cond, if◌then◌else◌, is_some, nat_le, bytes_eq, option_map, List, [], ◌∷◌, length, Option, Some, None, refl, sym, ap, ◌∙◌, subst, arith}
 use Rattle.std.proofs.lemmas.Bool.{leb-true}
 use Rattle.std.proofs.lemmas.List.Sorted.{IsPermutation-map}
 use Rattle.std.proofs.lemmas.Map.Keys.{IsDistinct-IsPermutation, IsDistinct-cons, IsDistinct-head, IsDistinct-tail}
 use Rattle.std.specs.Cmp.Lexicographic.{nat_list_eq_equiv}
-use Rattle.std.specs.List.{AllByRecursion, IsDistinct, filter}
+use Rattle.std.specs.List.{AllByRecursion, IsDistinct}
 use Rattle.std.specs.Map.{keys_of, lookup}
 use Rattle.std.specs.Option.{option_map_or}
 use Rattle.sc_entry.specs.Causes.{IfTold}
 use Rattle.sc_entry.specs.declared.cache_mode.CacheMode.{CacheMode}
-use Rattle.sc_lru.proofs.Measures.{suffix_within-fits, suffix_within-over, total-cons}
+use Rattle.sc_lru.proofs.Measures.{total-cons}
 use Rattle.sc_lru.specs.LruCache.{suffix_within, total}
 use Rattle.sc_disk.proofs.Files.{self_path}
 use Rattle.sc_disk.proofs.Pairs.{absent_later}
@@ -20,16 +20,15 @@ use Rattle.sc_disk.specs.Sound.{IsSound}
 use Rattle.sc_disk.specs.Store.{Store, declared, indexed, size_of as measure}
 use Rattle.sc_disk.specs.declared.disk.Listed.{Listed}
 use Rattle.sc_disk.specs.declared.disk_file.DiskFile.{DiskFile}
-use Rattle.sc_model.specs.World.{part_size, put_file, size_of}
+use Rattle.sc_model.specs.World.{part_size, size_of}
 use Rattle.sc_pair.proofs.Joined.{Kind, kind_of}
 use Rattle.sc_pair.specs.Pairs.{own_key}
-use Rattle.sc_pair.specs.Parts.{ArePlaced, cut_part, in_part}
+use Rattle.sc_pair.specs.Parts.{ArePlaced, in_part}
 use Rattle.sc_pair.specs.Twos.{TwoState}
 use Rattle.sc_pair.specs.declared.pair_cache.PairCache.{PairCache}
-use Rattle.sc_pair.specs.declared.part.Part.{Part}
 use Rattle.sc_pair.specs.declared.part.Part.TheVariants.{Main, Pre}
 use Rattle.sc_reopen.proofs.Rising.{In, in-filter, perm-in}
-use Rattle.sc_disk_cache.specs.DiskStores.{level_of, opened_store, state_of, store_of, told_files, unopened_store}
+use Rattle.sc_disk_cache.specs.DiskStores.{bytes_of, level_of, opened_store, state_of, store_of, told_files, unopened_store}
 use Rattle.sc_disk_cache.specs.Reopened.{in_use_order, reopened}
 use Rattle.sc_disk_cache.specs.Shown.{Index, bytes_at, files_of, with_shown}
 use Rattle.sc_disk_cache.proofs.Lending.{store-sized}
@@ -178,3 +177,16 @@ within-unopened {D} mode capacity o t is = subst (λ (x : Option (PairCache D)).
 pub capacity-is : {D : Type 0} (mode : CacheMode) (capacity : ℕ) (o : Option (PairCache D)) (t : Option TwoState) → (store_of mode capacity o t).facts.capacity ≡ capacity
 capacity-is mode capacity (Some c) t = refl
 capacity-is mode capacity None t = refl
+
+-- the same of what is indexed, whether or not the disks tell
+pub bound-opened : {D : Type 0} (mode : CacheMode) (capacity : ℕ) (o : Option (PairCache D)) (t : Option TwoState) (c : PairCache D) → o ≡ Some c → option_map_or (λ (x : PairCache D). x.store.capacity) o capacity ≡ capacity → IsSound c.store
+    → bytes_of capacity o t + (store_of mode capacity o t).reserved ≤ capacity
+bound-opened {D} mode capacity o t c is limit sound =
+    let same : c.store.capacity ≡ capacity = ap (λ (x : Option (PairCache D)). option_map_or (λ y. y.store.capacity) x capacity) (sym is) ∙ limit in
+    subst (λ (x : Option (PairCache D)). bytes_of capacity x t + (store_of mode capacity x t).reserved ≤ capacity) (sym is) (subst (λ (n : ℕ). indexed c.store + declared c.store.pending.slots ≤ n) same sound.fits)
+
+unopened_bound : (mode : CacheMode) (capacity : ℕ) (d : DiskState) → total measure (reopened capacity (told_files d.told)) + 0 ≤ capacity
+unopened_bound mode capacity d = let most : total measure (reopened capacity (told_files d.told)) ≤ capacity = fits_reopened capacity (told_files d.told) in omega (arith, most)
+
+pub bound-unopened : {D : Type 0} (mode : CacheMode) (capacity : ℕ) (o : Option (PairCache D)) (t : Option TwoState) → o ≡ None → bytes_of capacity o t + (store_of mode capacity o t).reserved ≤ capacity
+bound-unopened {D} mode capacity o t is = subst (λ (x : Option (PairCache D)). bytes_of capacity x t + (store_of mode capacity x t).reserved ≤ capacity) (sym is) (unopened_bound mode capacity (state_of t))

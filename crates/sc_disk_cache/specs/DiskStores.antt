@@ -1,19 +1,19 @@
 -- What a contract sees of a disk store of two folders, whether it is opened or not.
-use Rattle.std.specs.Prelude.{◌≡◌, ℕ, suc, Bool, true, false, is_some, List, [], ◌∷◌, ◌++◌, codes, Option, Some, None, slice_index_or}
+use Rattle.std.specs.Prelude.{ℕ, suc, Bool, true, false, is_some, List, [], ◌∷◌, Option, Some, None, slice_index_or}
 use Rattle.std.specs.Option.{option_map}
 use Rattle.sc_disk.specs.Disks.{DiskFiles, DiskRecord, DiskState, files_now, no_disk_files, untold_disk}
 use Rattle.sc_disk.specs.Names.{temporary}
-use Rattle.sc_disk.specs.Store.{Store, declared}
+use Rattle.sc_disk.specs.Store.{Store, declared, size_of}
 use Rattle.sc_disk.specs.declared.disk.Disk as device
 use Rattle.sc_disk.specs.declared.pending.Pending.{Pending}
 use Rattle.sc_entry.specs.Keys.{make_key_path}
+use Rattle.sc_lru.specs.LruCache.{total}
 use Rattle.sc_entry.specs.declared.cache_mode.CacheMode.{CacheMode}
 use Rattle.sc_model.specs.World.{Level}
 use Rattle.sc_model.specs.declared.level.LevelFacts.{LevelFacts}
 use Rattle.sc_model.specs.declared.level.LevelKind.TheVariants.{Disk}
 use Rattle.sc_pair.specs.Parts.{in_part}
 use Rattle.sc_pair.specs.Twos.{TwoState, joined_state}
-use Rattle.sc_pair.specs.declared.lazy_pair.LazyPair.{LazyPair}
 use Rattle.sc_pair.specs.declared.pair_cache.PairCache.{PairCache}
 use Rattle.sc_pair.specs.declared.part.Part.TheVariants.{Main, Pre}
 use Rattle.sc_disk_cache.specs.Reopened.{reopened}
@@ -101,3 +101,16 @@ store_of mode capacity None t = unopened_store mode capacity (state_of t)
 
 abbrev pub held_disk : {D : Type 0} {g : device.Ghosts D} → DiskCache D g → DiskStore
 held_disk c = store_of c.mode c.pair.max_size c.pair.opened c.pair.disks
+
+-- the bytes of the files that it indexes, or that an opening would, whether or not its disks tell what they hold
+abbrev pub bytes_of : {D : Type 0} → ℕ → Option (PairCache D) → Option TwoState → ℕ
+bytes_of capacity (Some c) t = total size_of c.store.index
+bytes_of capacity None t = total size_of (reopened capacity (told_files (state_of t).told))
+
+abbrev pub indexed_bytes : {D : Type 0} {g : device.Ghosts D} → DiskCache D g → ℕ
+indexed_bytes c = bytes_of c.pair.max_size c.pair.opened c.pair.disks
+
+-- where a store is opened, the bytes of its files and those that are reserved
+abbrev pub if_opened : Bool → ℕ → Option ℕ
+if_opened true size = Some size
+if_opened false size = None

@@ -1,12 +1,12 @@
 -- What fills and commits of a disk store's entries do.
-use Rattle.std.specs.Prelude.{◌≡◌, ◌≢◌, ℕ, ◌+◌, ◌≤◌, true, List, ◌++◌, length, Option, Some, None}
+use Rattle.std.specs.Prelude.{◌≡◌, ◌≢◌, ℕ, ◌+◌, ◌<◌, ◌≤◌, true, List, ◌++◌, length, Some, None}
 use Rattle.std.specs.Option.{option_map_or}
 use Rattle.sc_disk.specs.Store.{AddEntry}
 use Rattle.sc_entry.specs.Causes.{Rose}
 use Rattle.sc_model.specs.World.{IsFault, Level, put_file, same_maps}
 use Rattle.sc_model.specs.declared.event.Written.{Written}
 use Rattle.sc_model.specs.declared.event.Written.TheVariants.{Done as WriteDone, Refused as WriteRefused}
-use Rattle.sc_model.specs.declared.level.Cause.TheVariants.{Io}
+use Rattle.sc_model.specs.declared.level.Cause.TheVariants.{FileTooLarge, Io, Reserved as NoRoom}
 use Rattle.sc_model.specs.declared.level.LevelKind.TheVariants.{Disk}
 use Rattle.sc_pair.specs.Parts.{in_part}
 use Rattle.sc_pair.specs.declared.part.Part.TheVariants.{Main}
@@ -54,8 +54,19 @@ CommitsFile path bytes (WriteRefused c) v w = IsFault Disk v w c × same_maps v 
 abbrev pub CommitsEntry : ℕ → Written → DiskStore → DiskStore → Type 0
 CommitsEntry number how old new = old.told ≡ true → (o : OpenEntry) (path : List ℕ) → entry_at old.entries number ≡ Some o → length o.bytes ≤ o.size → o.path ≡ in_part Main path → CommitsFile path o.bytes how old.level new.level
 
--- a disk's refusal is told only where the count of faults rose
-abbrev pub CommitCause : Written → Level → Level → Type 0
-CommitCause WriteDone v w = Unit {0}
-CommitCause (WriteRefused Io) v w = Rose v.faults w.faults
-CommitCause (WriteRefused c) v w = Unit {0}
+-- the bytes that an entry was filled with, where the disks tell them
+abbrev pub IsMeasured : ℕ → ℕ → DiskStore → Type 0
+IsMeasured number size s = s.told ≡ true → (o : OpenEntry) → entry_at s.entries number ≡ Some o → size ≡ length o.bytes
+
+-- Why an entry wasn't committed, whether or not the disks tell what they hold: its bytes are more than the capacity, or they
+-- fit alone but not beside what other entries have reserved, or the count of faults rose.
+abbrev pub CommitCause : ℕ → Written → DiskStore → DiskStore → Type 0
+CommitCause number WriteDone old new = Unit {0}
+CommitCause number (WriteRefused FileTooLarge) old new = (size : ℕ) × IsMeasured number size old × (old.facts.capacity < size)
+CommitCause number (WriteRefused NoRoom) old new = (size : ℕ) × IsMeasured number size old × (size ≤ old.facts.capacity) × (old.facts.capacity < size + new.reserved)
+CommitCause number (WriteRefused Io) old new = Rose old.level.faults new.level.faults
+CommitCause number (WriteRefused c) old new = ⊥
+
+-- An entry that was filled with no more than it declared was not committed for want of memory: no file came or went.
+abbrev pub CommitsNothing : ℕ → DiskStore → DiskStore → Type 0
+CommitsNothing number old new = old.told ≡ true → (o : OpenEntry) → entry_at old.entries number ≡ Some o → length o.bytes ≤ o.size → same_maps old.level new.level

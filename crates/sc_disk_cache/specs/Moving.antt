@@ -1,22 +1,21 @@
 -- What the calls of a disk store do.
-use Rattle.std.specs.Prelude.{◌≡◌, ◌≢◌, ◌⊎◌, ℕ, ◌+◌, ◌≤◌, Bool, true, false, IsTrue, List, [], ◌∷◌, ◌++◌, length, Option, Some, None}
+use Rattle.std.specs.Prelude.{◌≡◌, ◌≢◌, ℕ, ◌+◌, Bool, true, false, List, [], Some, None}
 use Rattle.sc_disk.specs.Store.{AddEntry}
 use Rattle.sc_entry.specs.Causes.{Rose}
 use Rattle.sc_entry.specs.Entries.{objects}
 use Rattle.sc_entry.specs.Keys.{IsStoreKey}
 use Rattle.sc_pair.specs.declared.part.Part.{Part}
 use Rattle.sc_pair.specs.declared.part.Part.TheVariants.{Main, Pre}
-use Rattle.sc_model.specs.World.{Answers, Files, Asks, Causes, Commits, Evicts, Fills, Keeps_all, Later, Level, Opens_by, Reserves, Spells, causes, find_file, room_cause}
+use Rattle.sc_model.specs.World.{Files, Asks, Causes, Evicts, Later, Level, Spells, find_file, room_cause}
 use Rattle.sc_model.specs.declared.event.Answer.{Answer}
 use Rattle.sc_model.specs.declared.event.Answer.TheVariants.{Hit, Miss, Refused, Size as SizeIs}
 use Rattle.sc_model.specs.declared.event.Mode.{Mode}
-use Rattle.sc_model.specs.declared.event.Mode.TheVariants.{Path, Pre as PreMode, Raw, Size as Sizes, Whole}
+use Rattle.sc_model.specs.declared.event.Mode.TheVariants.{Pre as PreMode, Raw, Size as Sizes, Whole}
 use Rattle.sc_model.specs.declared.event.Written.{Written}
 use Rattle.sc_model.specs.declared.event.Written.TheVariants.{Done as WriteDone, Refused as WriteRefused}
-use Rattle.sc_model.specs.declared.level.Cause.{Cause}
-use Rattle.sc_model.specs.declared.level.Cause.TheVariants.{BadEntry, BadKey, FileTooLarge, Io, Reserved as NoRoom}
+use Rattle.sc_model.specs.declared.level.Cause.TheVariants.{BadEntry, BadKey, Io}
 use Rattle.sc_model.specs.declared.level.LevelKind.TheVariants.{Disk}
-use Rattle.sc_disk_cache.specs.DiskStores.{DiskStore, OpenEntry, entry_at, entry_path}
+use Rattle.sc_disk_cache.specs.DiskStores.{DiskStore, entry_at}
 use Rattle.sc_disk_cache.specs.declared.reserving.Reservation.{Reservation}
 use Rattle.sc_disk_cache.specs.declared.reserving.Reservation.TheVariants.{Open as IsOpened, Refused as IsRefused}
 
@@ -89,6 +88,11 @@ pub record Stays (old new : DiskStore) : Type 0 where
   pub facts : new.facts ≡ old.facts
   pub told : new.told ≡ old.told
   pub later : Later old.level new.level
+
+-- a reservation that was not made for want of memory: files went while they, the reservations and the wanted bytes took more
+-- than the capacity
+abbrev pub EvictsFor : ℕ → DiskStore → DiskStore → Type 0
+EvictsFor size old new = old.told ≡ true → (ps : List (Bool × List ℕ)) × Evicts old.facts.capacity (old.reserved + size) ps old.level new.level
 
 -- the same open entries, with the same bytes, and as much is reserved
 pub record SameEntries (old new : DiskStore) : Type 0 where

@@ -1,5 +1,5 @@
 -- What a store of two folders holds, part by part.
-use Rattle.std.specs.Prelude.{ℕ, Bool, cond, is_some, bytes_eq, List, [], ◌∷◌, Option, Some, None}
+use Rattle.std.specs.Prelude.{ℕ, cond, is_some, bytes_eq, List, [], ◌∷◌, Option, Some, None}
 use Rattle.std.specs.Map.{lookup}
 use Rattle.std.specs.Option.{option_map}
 use Rattle.sc_disk.specs.Disks.{DiskFiles, disk_file_at}

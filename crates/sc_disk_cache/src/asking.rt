@@ -1,6 +1,6 @@
 //! Lookups at a disk store.
-ghost use Rattle.std.specs.Prelude.{◌≡◌, ◌≢◌, true, false, is_some, Ok, IfOk};
-ghost use Rattle.sc_disk_cache.specs.DiskStores.{held_disk};
+ghost use Rattle.std.specs.Prelude.{◌≡◌, ◌≢◌, ◌+◌, true, false, is_some, Ok, IfOk};
+ghost use Rattle.sc_disk_cache.specs.DiskStores.{held_disk, if_opened, indexed_bytes};
 ghost use Rattle.sc_disk_cache.specs.Moving.{AskCause, AsksDisk, OpensFor, ReadsAt, Steady, hit_or_miss, reads_key};
 ghost use Rattle.sc_entry.specs.Keys.{IsStoreKey, is_store_key as is_key};
 ghost use Rattle.sc_model.specs.World.{level_size};
@@ -20,7 +20,8 @@ use sc_pair::Part;
 impl<D: Disk> DiskCache<D> {
     /// The bytes of the files of both folders, and those that open entries have declared. None until it is opened.
     pub fn current_size(&self) -> Option<u64>
-        ensures { (held_disk self.now).told ≡ true → result ≡ level_size IsDisk (held_disk self.now).level (held_disk self.now).reserved }
+        ensures size { result ≡ if_opened (held_disk self.now).level.opened (indexed_bytes self.now + (held_disk self.now).reserved) }
+        ensures told { (held_disk self.now).told ≡ true → result ≡ level_size IsDisk (held_disk self.now).level (held_disk self.now).reserved }
     {
         match self.pair.peek() {
             Some(cache) => {

@@ -1,6 +1,6 @@
 //! What does not change of a disk store.
 ghost use Rattle.std.specs.Prelude.{◌≡◌, ◌+◌, ◌≤◌, None, codes};
-ghost use Rattle.sc_disk_cache.specs.DiskStores.{held_disk, unopened_store};
+ghost use Rattle.sc_disk_cache.specs.DiskStores.{held_disk, indexed_bytes, unopened_store};
 ghost use Rattle.sc_model.specs.World.{part_size};
 ghost use Rattle.sc_model.specs.declared.level.LevelKind.TheVariants.{Disk as IsDisk};
 ghost use Rattle.sc_pair.specs.Twos.{joined_state, joins};
@@ -24,11 +24,13 @@ impl<D: Disk> DiskCache<D> {
         }
     }
 
-    /// What every disk store keeps, after each call and also after a refusal: the bytes of the files of both folders and those
-    /// that open entries have declared are at most its capacity.
+    /// What every disk store keeps, after each call and also after a refusal: the bytes of the files of both folders that it
+    /// indexes and those that open entries have declared are at most its capacity, whether or not its disks tell what they
+    /// hold. Where they tell, the files that it indexes are those of both maps.
     pub fn keeps(&self)
         ensures kind { (held_disk self.now).facts.kind ≡ IsDisk }
         ensures calls { (held_disk self.now).level.calls ≡ None }
+        ensures bound { indexed_bytes self.now + (held_disk self.now).reserved ≤ (held_disk self.now).facts.capacity }
         ensures within { part_size (held_disk self.now).level + (held_disk self.now).reserved ≤ (held_disk self.now).facts.capacity }
     {
         let _limit = self.mode;
@@ -62,6 +64,13 @@ impl<D: Disk> DiskCache<D> {
     /// The mode that the store was made with.
     pub fn configured(&self) -> CacheMode
         ensures { result ≡ (held_disk self.now).facts.configured }
+    {
+        self.mode
+    }
+
+    /// The mode that holds: the one that the store was made with.
+    pub fn mode(&self) -> CacheMode
+        ensures { result ≡ (held_disk self.now).facts.mode }
     {
         self.mode
     }

@@ -1,12 +1,13 @@
 //! Filling and committing entries of a disk store.
 ghost use Rattle.std.specs.Prelude.{◌≡◌, ℕ, true, false, is_some, Err, IfOk, IfErr, IfSome, OnErr};
-ghost use Rattle.sc_disk_cache.specs.DiskStores.{held_disk, level_of, opened_store};
-ghost use Rattle.sc_disk_cache.specs.Entries.{ClosesEntry, CommitCause, CommitsEntry, FillsBy, IsOpenAt};
+ghost use Rattle.sc_disk_cache.specs.DiskStores.{held_disk, opened_store};
+ghost use Rattle.sc_disk_cache.specs.Entries.{ClosesEntry, CommitCause, CommitsEntry, CommitsNothing, FillsBy, IsOpenAt};
 ghost use Rattle.sc_disk_cache.specs.Moving.{Stays};
 ghost use Rattle.sc_disk.specs.Store.{IsOpen};
 ghost use Rattle.sc_disk.specs.declared.error.Error.TheVariants.{Io as IsDiskFault};
 ghost use Rattle.sc_disk_cache.specs.declared.filling.Filling.TheVariants.{Refused as IsRefused};
 ghost use Rattle.sc_disk_cache.specs.declared.filling.EntryError.TheVariants.{NotOpen as IsNotOpen};
+ghost use Rattle.sc_model.specs.World.{same_maps};
 ghost use Rattle.sc_model.specs.declared.level.Cause.TheVariants.{Io as IsIo};
 ghost use Rattle.sc_entry.specs.declared.cache_mode.CacheMode.{CacheMode};
 
@@ -53,6 +54,7 @@ fn fill<D: Disk>(
     ensures capacity { cache.new.store.capacity ≡ cache.old.store.capacity }
     ensures filled { IfOk result (λ how. (mode : CacheMode) (capacity : ℕ) → FillsBy entry bytes.now how (opened_store mode capacity cache.old.store) (opened_store mode capacity cache.new.store)) }
     ensures closed { OnErr result ((mode : CacheMode) (capacity : ℕ) → ClosesEntry entry.number (opened_store mode capacity cache.old.store) (opened_store mode capacity cache.new.store)) }
+    ensures kept { OnErr result ((mode : CacheMode) (capacity : ℕ) → same_maps (opened_store mode capacity cache.old.store).level (opened_store mode capacity cache.new.store).level) }
 {
     cache.keeps();
     match cache.fill(&entry, bytes) {
@@ -75,7 +77,8 @@ fn commit<D: Disk>(
     ensures capacity { cache.new.store.capacity ≡ cache.old.store.capacity }
     ensures closed { (mode : CacheMode) (capacity : ℕ) → ClosesEntry entry.number (opened_store mode capacity cache.old.store) (opened_store mode capacity cache.new.store) }
     ensures committed { IfOk result (λ how. (mode : CacheMode) (capacity : ℕ) → CommitsEntry entry.number how (opened_store mode capacity cache.old.store) (opened_store mode capacity cache.new.store)) }
-    ensures cause { IfOk result (λ how. CommitCause how (level_of true cache.old.store.index cache.old.store.disk) (level_of true cache.new.store.index cache.new.store.disk)) }
+    ensures cause { IfOk result (λ how. (mode : CacheMode) → CommitCause entry.number how (opened_store mode cache.old.store.capacity cache.old.store) (opened_store mode cache.old.store.capacity cache.new.store)) }
+    ensures kept { OnErr result ((mode : CacheMode) (capacity : ℕ) → CommitsNothing entry.number (opened_store mode capacity cache.old.store) (opened_store mode capacity cache.new.store)) }
 {
     cache.keeps();
     match cache.commit(entry, now) {
@@ -90,6 +93,14 @@ fn commit<D: Disk>(
 impl<D: Disk> DiskCache<D> {
     /// Whether an entry is open in this store.
     pub fn is_open(&self, entry: &LruDiskCacheAddEntry) -> bool
+        ensures opened { result ≡ true → IsOpenAt entry.now (held_disk self.now) }
+        ensures other { result ≡ false → IsOpenAt entry.now (held_disk self.now) → ⊥ }
+    {
+        self.has_open(entry)
+    }
+
+    /// The same, in the words of the opened pair of folders.
+    fn has_open(&self, entry: &LruDiskCacheAddEntry) -> bool
         ensures opened { result ≡ true → IsOpenAt entry.now (held_disk self.now) }
         ensures other { result ≡ false → IsOpenAt entry.now (held_disk self.now) → ⊥ }
         ensures lent { result ≡ true → IfSome self.now.pair.opened (λ c. IsOpen c.store entry.now) × (is_some self.now.pair.opened ≡ true) }
@@ -108,10 +119,11 @@ impl<D: Disk> DiskCache<D> {
         ensures stays { Stays (held_disk self.old) (held_disk self.new) }
         ensures filled { IfOk result (λ how. IsOpenAt entry (held_disk self.old) × FillsBy entry bytes.now how (held_disk self.old) (held_disk self.new)) }
         ensures closed { OnErr result (IsOpenAt entry (held_disk self.old) → ClosesEntry entry.number (held_disk self.old) (held_disk self.new)) }
+        ensures kept { OnErr result (same_maps (held_disk self.old).level (held_disk self.new).level) }
         ensures not_open { IfErr result (λ refused. refused ≡ IsNotOpen → (IsOpenAt entry (held_disk self.old) → ⊥) × (self.new ≡ self.old)) }
         ensures open { (IsOpenAt entry (held_disk self.old) → ⊥) → result ≡ Err IsNotOpen }
     {
-        if !self.is_open(&entry) {
+        if !self.has_open(&entry) {
             return Err(EntryError::NotOpen);
         }
         let Some(cache) = self.pair.get() else {
@@ -128,11 +140,12 @@ impl<D: Disk> DiskCache<D> {
         ensures stays { Stays (held_disk self.old) (held_disk self.new) }
         ensures closed { IsOpenAt entry (held_disk self.old) → ClosesEntry entry.number (held_disk self.old) (held_disk self.new) }
         ensures committed { IfOk result (λ how. IsOpenAt entry (held_disk self.old) × CommitsEntry entry.number how (held_disk self.old) (held_disk self.new)) }
-        ensures cause { IfOk result (λ how. CommitCause how (held_disk self.old).level (held_disk self.new).level) }
+        ensures cause { IfOk result (λ how. CommitCause entry.number how (held_disk self.old) (held_disk self.new)) }
+        ensures kept { OnErr result (CommitsNothing entry.number (held_disk self.old) (held_disk self.new)) }
         ensures not_open { IfErr result (λ refused. refused ≡ IsNotOpen → (IsOpenAt entry (held_disk self.old) → ⊥) × (self.new ≡ self.old)) }
         ensures open { (IsOpenAt entry (held_disk self.old) → ⊥) → result ≡ Err IsNotOpen }
     {
-        if !self.is_open(&entry) {
+        if !self.has_open(&entry) {
             return Err(EntryError::NotOpen);
         }
         let Some(cache) = self.pair.get() else {

@@ -1,7 +1,7 @@
 //! Opening entries in a disk store.
 ghost use Rattle.std.specs.Prelude.{◌≡◌, ℕ, [], true, is_some, Some, Ok, IfOk, OnErr};
 ghost use Rattle.sc_disk_cache.specs.DiskStores.{disk_facts, entry_path, held_disk, level_of, opened_store};
-ghost use Rattle.sc_disk_cache.specs.Moving.{OpensBy, ReserveCause, SameEntries, Stays, room_causes, written_of};
+ghost use Rattle.sc_disk_cache.specs.Moving.{EvictsFor, OpensBy, ReserveCause, SameEntries, Stays, room_causes, written_of};
 ghost use Rattle.sc_disk_cache.specs.declared.reserving.Reservation.TheVariants.{Refused as IsRefused};
 ghost use Rattle.sc_entry.specs.declared.cache_mode.CacheMode.{CacheMode};
 ghost use Rattle.sc_disk.specs.Store.{reserved};
@@ -38,6 +38,7 @@ fn prepare<D: Disk>(
     ensures moved { IfOk result (λ how. is_some cache.old.store.disk.told ≡ true → Reserves cache.old.store.capacity (room_causes cache.old.store.capacity (reserved cache.old.store) size) (reserved cache.old.store) size (written_of how) (level_of true cache.old.store.index cache.old.store.disk) (level_of true cache.new.store.index cache.new.store.disk)) }
     ensures entry { IfOk result (λ how. (mode : CacheMode) (capacity : ℕ) → OpensBy (in_part Main path.now) size how (opened_store mode capacity cache.old.store) (opened_store mode capacity cache.new.store)) }
     ensures kept { OnErr result ((mode : CacheMode) (capacity : ℕ) → SameEntries (opened_store mode capacity cache.old.store) (opened_store mode capacity cache.new.store)) }
+    ensures evicts { OnErr result ((mode : CacheMode) → EvictsFor size (opened_store mode cache.old.store.capacity cache.old.store) (opened_store mode cache.old.store.capacity cache.new.store)) }
     ensures cause { IfOk result (λ how. ReserveCause (room_causes cache.old.store.capacity (reserved cache.old.store) size) how (level_of true cache.old.store.index cache.old.store.disk) (level_of true cache.new.store.index cache.new.store.disk)) }
 {
     cache.keeps();
@@ -93,6 +94,7 @@ impl<D: Disk> DiskCache<D> {
         ensures moved { IfOk result (λ how. (held_disk self.old).told ≡ true → Reserves (held_disk self.old).facts.capacity (room_causes (held_disk self.old).facts.capacity (held_disk self.old).reserved size) (held_disk self.old).reserved size (written_of how) (held_disk self.old).level (held_disk self.new).level) }
         ensures entry { IfOk result (λ how. OpensBy (in_part Main path.now) size how (held_disk self.old) (held_disk self.new)) }
         ensures kept { OnErr result (SameEntries (held_disk self.old) (held_disk self.new)) }
+        ensures evicts { OnErr result (EvictsFor size (held_disk self.old) (held_disk self.new)) }
         ensures cause { IfOk result (λ how. ReserveCause (room_causes (held_disk self.old).facts.capacity (held_disk self.old).reserved size) how (held_disk self.old).level (held_disk self.new).level) }
         ensures opened { (held_disk self.new).level.opened ≡ true }
     {
@@ -117,6 +119,7 @@ impl<D: Disk + Drop> DiskCache<D> {
         ensures moved { IfOk result (λ how. (held_disk self.old).told ≡ true → Reserves (held_disk self.old).facts.capacity (causes policy.now (held_disk self.old).facts (held_disk self.old).reserved key.now size) (held_disk self.old).reserved size (written_of how) (held_disk self.old).level (held_disk self.new).level) }
         ensures entry { IfOk result (λ how. OpensBy (entry_path key.now) size how (held_disk self.old) (held_disk self.new)) }
         ensures kept { OnErr result (SameEntries (held_disk self.old) (held_disk self.new)) }
+        ensures evicts { OnErr result (EvictsFor size (held_disk self.old) (held_disk self.new)) }
         ensures cause { IfOk result (λ how. ReserveCause (causes policy.now (held_disk self.old).facts (held_disk self.old).reserved key.now size) how (held_disk self.old).level (held_disk self.new).level) }
         ensures early { (c : CauseOf) → early policy.now (held_disk self.old).facts key.now ≡ Some c → (result ≡ Ok (IsRefused c)) × (self.new ≡ self.old) }
     {

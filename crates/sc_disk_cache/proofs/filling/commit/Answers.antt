@@ -1,4 +1,5 @@
-use Rattle.sc_disk_cache.proofs.Commits.{commit-closes, commits-done, commits-io, commits-reserved, commits-too_large, refused-closes}
+use Rattle.std.proofs.Common.{refl}
+use Rattle.sc_disk_cache.proofs.Commits.{cause-io, cause-reserved, cause-too_large, commit-closes, commits-done, commits-io, commits-nothing, commits-reserved, commits-too_large, refused-closes}
 use Rattle.sc_disk_cache.proofs.filling.commit.Goals as goal
 
 pub returns-in-Ok-clause-closed : goal.returns-in-Ok-clause-closed
@@ -36,3 +37,19 @@ returns-in-Err-Io-clause-committed g c = λ mode capacity. let p = c.in-Err-Io.e
 pub returns-in-Err-clause-closed : goal.returns-in-Err-clause-closed
 returns-in-Err-clause-closed g c = λ mode capacity. let p = c.in-Err.ensures.err in
     refused-closes mode capacity c.args.cache.now.store c.commit.new.self.store c.args.entry c.in-Err.field-0 c.args.now p.0 p.1 p.2 c.requires c.keeps.ensures.sound c.keeps.ensures.numbers p.3 c.commit.ensures.closed
+
+pub returns-in-Err-FileTooLarge-clause-cause : goal.returns-in-Err-FileTooLarge-clause-cause
+returns-in-Err-FileTooLarge-clause-cause g c = λ mode. let p = c.in-Err-FileTooLarge.ensures.err in
+    cause-too_large mode c.args.cache.now.store.capacity c.args.cache.now.store c.commit.new.self.store c.args.entry c.args.now c.requires c.keeps.ensures.sound c.keeps.ensures.distinct c.commit.ensures.closed c.in-Err-FileTooLarge.field-0 p.0 p.1 p.2 refl c.in-Err-FileTooLarge.field-0-is p.3
+
+pub returns-in-Err-Reserved-clause-cause : goal.returns-in-Err-Reserved-clause-cause
+returns-in-Err-Reserved-clause-cause g c = λ mode. let p = c.in-Err-Reserved.ensures.err in
+    cause-reserved mode c.args.cache.now.store.capacity c.args.cache.now.store c.commit.new.self.store c.args.entry c.args.now c.requires c.keeps.ensures.sound c.keeps.ensures.distinct c.commit.ensures.closed c.in-Err-Reserved.field-0 p.0 p.1 p.2 refl c.in-Err-Reserved.field-0-is p.3
+
+pub returns-in-Err-Io-clause-cause : goal.returns-in-Err-Io-clause-cause
+returns-in-Err-Io-clause-cause g c = λ mode. let p = c.in-Err-Io.ensures.err in
+    cause-io mode c.args.cache.now.store.capacity c.args.cache.now.store c.commit.new.self.store c.args.entry c.args.now c.requires c.keeps.ensures.sound c.keeps.ensures.distinct c.commit.ensures.closed c.in-Err-Io.field-0 p.0 p.1 p.2 c.in-Err-Io.field-0-is p.3
+
+pub returns-in-Err-clause-kept : goal.returns-in-Err-clause-kept
+returns-in-Err-clause-kept g c = λ mode capacity. let p = c.in-Err.ensures.err in
+    commits-nothing mode capacity c.args.cache.now.store c.commit.new.self.store c.args.entry c.args.now c.requires c.keeps.ensures.sound c.keeps.ensures.distinct c.commit.ensures.closed c.in-Err.field-0 p.0 p.1 p.2 p.3

@@ -1,4 +1,4 @@
-use Rattle.std.proofs.Common.{refl, subst, sym, ◌∙◌}
+use Rattle.std.proofs.Common.{refl, subst, sym}
 use Rattle.sc_disk_cache.specs.DiskStores.{opened_store}
 use Rattle.sc_disk_cache.specs.Entries.{FillsBy}
 use Rattle.sc_disk_cache.specs.declared.filling.Filling.{Filling}
@@ -33,3 +33,12 @@ returns-in-Err-clause-closed g c =
     let gone = either-did c.abandon-given_up.result c.abandon-given_up.ensures.ok c.abandon-given_up.ensures.err in
     on_err_of c.refused_fill.result (λ mode capacity. (gives-up mode capacity old mid new c.args.entry c.args.bytes.now c.requires c.keeps.ensures.sound c.keeps.ensures.distinct c.keeps.ensures.numbers c.in-Err.ensures.err
     c.fill.ensures.index c.fill.ensures.pending c.abandon-given_up.ensures.index c.abandon-given_up.ensures.closed gone).0.1)
+
+pub returns-in-Err-clause-kept : goal.returns-in-Err-clause-kept
+returns-in-Err-clause-kept g c =
+    let old = c.args.cache.now.store in
+    let mid = c.fill.new.self.store in
+    let new = c.abandon-given_up.new.self.store in
+    let gone = either-did c.abandon-given_up.result c.abandon-given_up.ensures.ok c.abandon-given_up.ensures.err in
+    on_err_of c.refused_fill.result (λ mode capacity. (gives-up mode capacity old mid new c.args.entry c.args.bytes.now c.requires c.keeps.ensures.sound c.keeps.ensures.distinct c.keeps.ensures.numbers c.in-Err.ensures.err
+    c.fill.ensures.index c.fill.ensures.pending c.abandon-given_up.ensures.index c.abandon-given_up.ensures.closed gone).0.0)

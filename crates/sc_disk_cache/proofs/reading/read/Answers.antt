@@ -1,5 +1,4 @@
 use Rattle.std.proofs.Common.{refl, sym, ap, ◌∙◌, Some}
-use Rattle.sc_pair.specs.Parts.{in_part}
 use Rattle.sc_disk_cache.proofs.Looking.{gets-steady, read-hit, read-miss, unread-capacity, unread-steady}
 use Rattle.sc_disk_cache.proofs.reading.read.Goals as goal
 

@@ -1,4 +1,4 @@
-use Rattle.sc_disk_cache.proofs.Preparing.{opens, prepared-moves, refused-entries, refused-moves}
+use Rattle.sc_disk_cache.proofs.Preparing.{opens, prepared-moves, refused-entries, refused-evicts, refused-moves}
 use Rattle.sc_disk_cache.proofs.reserving.prepare.Goals as goal
 
 pub returns-in-Ok-clause-moved : goal.returns-in-Ok-clause-moved
@@ -20,3 +20,7 @@ returns-in-Err-Io-clause-entry g c = λ mode capacity. let p = c.in-Err-Io.ensur
 pub returns-in-Err-clause-kept : goal.returns-in-Err-clause-kept
 returns-in-Err-clause-kept g c = λ mode capacity. let p = c.in-Err.ensures.err in
     refused-entries mode capacity c.args.cache.now.store c.prepare_add.new.self.store c.in-Err.field-0 _ c.args.size p.0 c.keeps.ensures.sound p.1
+
+pub returns-in-Err-clause-evicts : goal.returns-in-Err-clause-evicts
+returns-in-Err-clause-evicts g c = λ mode. let p = c.in-Err.ensures.err in
+    refused-evicts c.args.cache.now.store c.prepare_add.new.self.store c.keeps.ensures.sound c.keeps.ensures.distinct c.keeps.ensures.placed mode c.in-Err.field-0 _ c.args.size p.0 p.1
