@@ -82,6 +82,17 @@ fn joined(alloc: Global, folder: &str, path: &str) -> io::Result<String> {
     Ok(all)
 }
 
+/// The path of a name in a folder, by their paths under the root.
+fn under(alloc: Global, folder: &str, name: &str) -> io::Result<String> {
+    let mut path = String::with_capacity(alloc, folder.len() + 1 + name.len())?;
+    if !folder.is_empty() {
+        path.push_str(folder)?;
+        path.push('/')?;
+    }
+    path.push_str(name)?;
+    Ok(path)
+}
+
 /// When a file was last changed, in nanoseconds since 1970.
 fn moment_of(metadata: &fs::Metadata) -> io::Result<u64> {
     match metadata.modified()?.duration_since(SystemTime::UNIX_EPOCH) {
@@ -190,25 +201,29 @@ fn remove_file<R: AllocGlobal + fs::Files>(rt: &R, root: &ByteText, path: &Text)
     }
 }
 
-/// What was found under a folder.
+/// What stands in a folder.
 #[derive(Drop)]
 struct Found {
     files: Vec<Listed>,
-    /// Folders whose files are still to be found, by their paths under the root.
+    /// Its folders, by their paths under the root.
     folders: Vec<String>,
     /// How many names aren't UTF-8.
     unnamed: u64,
 }
 
-/// Adds what stands in a folder.
+/// What stands in a folder.
 fn find_in<R: AllocGlobal + fs::Files + Clone + Drop>(
     rt: &R,
     root: &str,
     folder: &str,
     is_main: bool,
-    found: &mut Found,
-) -> io::Result<()> {
+) -> io::Result<Found> {
     let alloc = rt.alloc();
+    let mut found = Found {
+        files: Vec::new(alloc),
+        folders: Vec::new(alloc),
+        unnamed: 0,
+    };
     for entry in fs::read_dir(rt, joined(alloc, root, folder)?.as_str())? {
         let entry = match entry {
             Ok(entry) => entry,
@@ -218,12 +233,7 @@ fn find_in<R: AllocGlobal + fs::Files + Clone + Drop>(
             }
             Err(error) => return Err(error),
         };
-        let name = entry.file_name();
-        let mut path = String::from_str(alloc, folder)?;
-        if !folder.is_empty() {
-            path.push('/')?;
-        }
-        path.push_str(name)?;
+        let path = under(alloc, folder, entry.file_name())?;
         let metadata = entry.metadata()?;
         if metadata.is_dir() {
             if !(is_main && path.as_str() == PREPROCESSOR) {
@@ -238,7 +248,7 @@ fn find_in<R: AllocGlobal + fs::Files + Clone + Drop>(
             })?;
         }
     }
-    Ok(())
+    Ok(found)
 }
 
 /// All files under a folder, their paths ascending by their bytes, and how many names aren't UTF-8.
@@ -250,24 +260,30 @@ fn find_files<R: AllocGlobal + fs::Files + Clone + Drop>(
     let alloc = rt.alloc();
     let root = host_path(root)?;
     fs::create_dir_all(rt, root)?;
-    let mut found = Found {
-        files: Vec::new(alloc),
-        folders: Vec::new(alloc),
-        unnamed: 0,
-    };
-    found.folders.push(String::new(alloc))?;
+    let mut files = Vec::new(alloc);
+    let mut unnamed: u64 = 0;
+    let mut left = Vec::new(alloc);
+    left.push(String::new(alloc))?;
     for _ in 0..u64::MAX {
-        let Some(folder) = found.folders.pop() else {
+        let Some(folder) = left.pop() else {
             break;
         };
-        find_in(rt, root, folder.as_str(), is_main, &mut found)?;
+        let mut found = find_in(rt, root, folder.as_str(), is_main)?;
+        // The names of one folder are few and stand close, so sorting them costs less than sorting all at the end.
+        found.files.sort_unstable_by(|a, b| a.path.cmp(&b.path));
+        for file in found.files {
+            files.push(file)?;
+        }
+        found.folders.sort_unstable_by(|a, b| b.cmp(a));
+        for folder in found.folders {
+            left.push(folder)?;
+        }
+        unnamed = unnamed.saturating_add(found.unnamed);
     }
-    let Found {
-        mut files,
-        unnamed,
-        ..
-    } = found;
-    files.sort_by(|a, b| a.path.cmp(&b.path))?;
+    // Where no folder has both files and folders, they are in order by now.
+    if !files.is_sorted_by(|a: &Listed, b| a.path <= b.path) {
+        files.sort_by(|a, b| a.path.cmp(&b.path))?;
+    }
     Ok((files, unnamed))
 }
 
