@@ -39,6 +39,7 @@ echo "index: $(((full - none) * 1024 / entries)) bytes an entry, with $entries e
 i=0
 while [ "$i" -lt "$runs" ]; do
     "$scratch/list" "$folder"
+    "$scratch/list" "$folder" paths
     "$program" "$folder" 1000000000000 | grep opened
     i=$((i + 1))
 done
