@@ -1,4 +1,4 @@
-ghost use Rattle.std.specs.Prelude.{◌≡◌};
+ghost use Rattle.std.specs.Prelude.{◌≡◌, Some};
 ghost use Rattle.sc_command.specs.Refusals.{refusal_text, new_command_text};
 ghost use Rattle.sc_command.specs.declared.refusal.SpawnError.TheVariants as spawn_errors;
 ghost use Rattle.sc_command.specs.declared.refusal.NewCommandError.TheVariants as new_command_errors;
@@ -106,12 +106,16 @@ impl NewCommandError {
 }
 
 impl Display for CommandRefusal {
+    ghost output = { λ refusal. Some (refusal_text refusal) };
+
     fn fmt<W: Write>(&self, f: &mut Formatter<W>) -> fmt::Result {
         f.write_str(self.text())
     }
 }
 
 impl Display for NewCommandError {
+    ghost output = { λ refusal. Some (new_command_text refusal) };
+
     fn fmt<W: Write>(&self, f: &mut Formatter<W>) -> fmt::Result {
         f.write_str(self.text())
     }
