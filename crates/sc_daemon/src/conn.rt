@@ -1,5 +1,5 @@
 //! A connection: what comes over it, the request that is served, and what was sent.
-ghost use Rattle.std.specs.Prelude.{◌≡◌, ◌+◌, ◌<◌, ◌≤◌, ◌^◌, false, true, Some, length, take, drop, IfOk, IfSome, IsOk, OnOk};
+ghost use Rattle.std.specs.Prelude.{◌≡◌, ◌+◌, ◌<◌, ◌≤◌, ◌^◌, false, true, [], Some, length, take, drop, IfOk, IfSome, IsOk, OnOk};
 ghost use Rattle.sc_action.specs.Serves.{Serves};
 ghost use Rattle.sc_conn.specs.Ends.{end_of};
 ghost use Rattle.sc_daemon.specs.Lines.{IsDone, conn_of, new_line};
@@ -293,9 +293,10 @@ impl Conn {
         }
     }
 
-    /// Takes out the bytes that were sent.
+    /// Takes out the bytes that were sent; all else stays.
     pub fn take_sent(&mut self, alloc: Global) -> ByteText
-        ensures { result ≡ self.old.out }
+        ensures sent { result ≡ self.old.out }
+        ensures left { self.new ≡ record self.old { out = [] } }
     {
         ByteText::from_vec(std::mem::replace(&mut self.out, Vec::new(alloc)))
     }

@@ -26,7 +26,7 @@ impl<D: Disk> DiskCache<D> {
 
     /// What every disk store keeps, after each call and also after a refusal: the bytes of the files of both folders that it
     /// indexes and those that open entries have declared are at most its capacity, whether or not its disks tell what they
-    /// hold. Where they tell, the files that it indexes are those of both maps.
+    /// hold. The bytes of both maps and those that are declared are at most its capacity too.
     pub fn keeps(&self)
         ensures kind { (held_disk self.now).facts.kind ≡ IsDisk }
         ensures calls { (held_disk self.now).level.calls ≡ None }

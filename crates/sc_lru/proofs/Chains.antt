@@ -1,5 +1,5 @@
 -- What changes of the nodes make of the chain.
-use Rattle.std.proofs.Common.{◌≡◌, ℕ, zero, suc, ◌+◌, ◌-◌, ◌<◌, ◌≤◌, Bool, true, false, nat_eq, if◌then◌else◌, List, [], ◌∷◌, ◌++◌, length, reverse, refl, sym, ap, ◌∙◌, subst, inl, inr, ◌⊎◌, arith, append_assoc, append-nil, Option, Some, None, option_map}
+use Rattle.std.proofs.Common.{◌≡◌, ℕ, zero, suc, ◌-◌, ◌<◌, ◌≤◌, true, false, nat_eq, if◌then◌else◌, List, [], ◌∷◌, ◌++◌, length, reverse, refl, sym, ap, ◌∙◌, subst, inl, inr, arith, append_assoc, append-nil, Some}
 use Rattle.std.proofs.lemmas.Bool.{eq-eqb}
 use Rattle.std.proofs.lemmas.Bool.Decides.{eqb_tells}
 use Rattle.std.proofs.lemmas.List.{reverse-append}
@@ -11,7 +11,7 @@ use Rattle.std.proofs.lemmas.List.{length-take}
 use Rattle.indexmap.specs.IndexMap.{set_value_at}
 use Rattle.sc_lru.specs.declared.node.Node.{Node}
 use Rattle.sc_lru.specs.Linked.{item, node, Walk, Avoids, AllApart, AllBelow, end_redirected, after_at, before_at, change, with_after, with_before, pair_at, IsChain, after_redirected, before_redirected, skipped, first_skipped, last_skipped, mended}
-use Rattle.sc_lru.proofs.Walks.{reverse-cut, reverse-twice, below-left, below-at, below-reverse, below-skip, below-join, below-right, below-less, apart-before, apart-behind, apart-skip, apart-put, apart-reverse, avoids-left, avoids-right, avoids-append, avoids-reverse, Agrees, walk-agrees, agrees_all, agrees_but, agrees-below, walk_push, walk_tail, EndsAt, next_ends, Redirects, redirect_bound, skip_walk, rename_walk}
+use Rattle.sc_lru.proofs.Walks.{reverse-cut, reverse-twice, below-left, below-at, below-reverse, below-skip, below-join, below-right, below-less, apart-before, apart-behind, apart-skip, apart-put, apart-reverse, avoids-append, avoids-reverse, walk-agrees, agrees_all, agrees_but, agrees-below, walk_push, EndsAt, next_ends, Redirects, redirect_bound, skip_walk, rename_walk}
 
 branch_same : {A : Type 0} (a b : ℕ) (x y : A) → a ≡ b → (if nat_eq a b then x else y) ≡ x
 branch_same a b x y e = ap (λ t. if t then x else y) (eq-eqb a b e)

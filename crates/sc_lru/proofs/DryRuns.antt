@@ -1,5 +1,5 @@
 -- The counts of uses, taken one after another.
-use Rattle.std.proofs.Common.{◌≡◌, ℕ, ◌+◌, ◌<◌, ◌≤◌, ◌-◌, Bool, true, false, nat_le, is_some, if◌then◌else◌, length, List, [], ◌∷◌, refl, sym, ap, ◌∙◌, arith}
+use Rattle.std.proofs.Common.{◌≡◌, ℕ, ◌+◌, ◌≤◌, ◌-◌, Bool, true, false, nat_le, is_some, if◌then◌else◌, length, List, [], ◌∷◌, refl, sym, ◌∙◌, arith}
 use Rattle.std.specs.Map.{lookup, remove_entry}
 use Rattle.sc_lru.specs.LruCache.{total}
 use Rattle.sc_lru.specs.Order.{touched}

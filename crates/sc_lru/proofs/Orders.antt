@@ -1,5 +1,5 @@
 -- What a linked order's pairs become.
-use Rattle.std.proofs.Common.{◌≡◌, ℕ, zero, suc, ◌+◌, ◌-◌, ◌<◌, ◌≤◌, Bool, true, false, List, [], ◌∷◌, ◌++◌, length, reverse, drop, slice_get, swap_remove, position, is_some, refl, sym, ap, ◌∙◌, subst, inl, inr, ◌⊎◌, arith, append_assoc, append-nil, Option, Some, None, option_map, length-append, true≢false}
+use Rattle.std.proofs.Common.{◌≡◌, ℕ, zero, suc, ◌+◌, ◌<◌, Bool, true, false, List, [], ◌∷◌, ◌++◌, length, slice_get, swap_remove, position, is_some, refl, sym, ap, ◌∙◌, subst, inl, inr, arith, append_assoc, append-nil, Option, Some, None, option_map, length-append}
 use Rattle.std.proofs.lemmas.Bool.Decides.{eqb_tells}
 use Rattle.std.specs.Option.{option_map_or}
 use Rattle.std.specs.Cmp.{IsEquivalence}
@@ -10,11 +10,11 @@ use Rattle.std.proofs.lemmas.Map.Entries.{none_past_head}
 use Rattle.indexmap.proofs.MapLemmas.{some_index, Found-position}
 use Rattle.sc_lru.specs.declared.node.Node.{Node}
 use Rattle.sc_lru.specs.Order.{touched, vacated}
-use Rattle.sc_lru.specs.Linked.{item, node, chase, Walk, Avoids, AllBelow, In, after_at, before_at, with_after, with_before, with_value, pair_at, pairs_at, places, pairs_of, IsChain, IsWhole, IsSame, HasChain, MovesLast, TakesOut, IsChained, IsPlaced, IsLinked}
-use Rattle.sc_lru.proofs.Cut.{hit_set, IsCut, hit, NonePasses, cut_position, none_from_is_some, missed}
-use Rattle.sc_lru.proofs.Walks.{below-left, below-right, apart-before, apart-behind, chase-walk, in_cut, in-put, in-at, below-at, walk_tail, ends, avoids_above, reverse-cut}
-use Rattle.sc_lru.proofs.Chains.{chain-change, item-change, pair-other, same_chain, one_chain, link_chain, length-change, pair-change, keys-change}
-use Rattle.sc_lru.proofs.Pairs.{pairs-append, pairs-same, pairs-below, pairs-cut, cut_pairs, none_anywhere, item_cut, item_within, length-pairs, distinct_pairs}
+use Rattle.sc_lru.specs.Linked.{item, node, chase, Walk, Avoids, AllBelow, In, after_at, before_at, with_after, with_before, with_value, pair_at, pairs_at, places, pairs_of, IsChain, IsWhole, IsSame, MovesLast, TakesOut, IsChained, IsPlaced, IsLinked}
+use Rattle.sc_lru.proofs.Cut.{hit_set, IsCut, hit, NonePasses, cut_position, none_from_is_some}
+use Rattle.sc_lru.proofs.Walks.{below-left, below-right, apart-before, apart-behind, chase-walk, in_cut, in-put, in-at, below-at, ends, avoids_above, reverse-cut}
+use Rattle.sc_lru.proofs.Chains.{chain-change, item-change, pair-other, same_chain, link_chain, length-change, pair-change, keys-change}
+use Rattle.sc_lru.proofs.Pairs.{pairs-append, pairs-same, pairs-below, pairs-cut, cut_pairs, none_anywhere, item_cut, length-pairs, distinct_pairs}
 
 module _ {K V : Type 0} where
   pub places_are : (es : List (K × Node V)) (first last : ℕ) (ps : List ℕ) → IsChain es first last ps → IsWhole es ps → places es first ≡ ps

@@ -1,5 +1,5 @@
 -- The pairs at positions, and the look-ups among them.
-use Rattle.std.proofs.Common.{◌≡◌, ℕ, zero, suc, ◌+◌, ◌-◌, ◌<◌, ◌≤◌, Bool, true, false, List, [], ◌∷◌, ◌++◌, length, refl, sym, ap, ◌∙◌, subst, inl, inr, ◌⊎◌, arith, append_assoc, append-nil, Option, Some, None, option_map, true≢false}
+use Rattle.std.proofs.Common.{◌≡◌, ℕ, zero, suc, ◌<◌, Bool, true, false, List, [], ◌∷◌, ◌++◌, length, refl, sym, ap, ◌∙◌, subst, arith, Option, Some, None, option_map}
 use Rattle.std.specs.Option.{option_map_or}
 use Rattle.std.specs.Cmp.{IsEquivalence}
 use Rattle.std.specs.List.{IsDistinct, AllByRecursion}
@@ -7,9 +7,9 @@ use Rattle.std.specs.Map.{keys_of, lookup, IsKeyTest}
 use Rattle.indexmap.proofs.MapLemmas.{absent_before}
 use Rattle.std.proofs.lemmas.Map.Entries.{none_past_head}
 use Rattle.sc_lru.specs.declared.node.Node.{Node}
-use Rattle.sc_lru.specs.Linked.{item, node, Avoids, AllApart, AllBelow, pair_at, pairs_at}
+use Rattle.sc_lru.specs.Linked.{item, Avoids, AllApart, AllBelow, pair_at, pairs_at}
 use Rattle.sc_lru.proofs.Cut.{NonePasses, IsCut, none_from_lookup}
-use Rattle.sc_lru.proofs.Walks.{apart-before, apart-behind}
+use Rattle.sc_lru.proofs.Walks.{apart-before}
 
 nothing_apart : {K : Type 0} (eq : K → K → Bool) → IsDistinct eq []
 unfolding IsDistinct

@@ -1,6 +1,6 @@
 -- The positions of a linked order's pairs, place by place.
 use Rattle.std.proofs.lemmas.Bool.Decides.{eqb_tells}
-use Rattle.std.proofs.Common.{◌≡◌, ℕ, zero, suc, ◌+◌, ◌-◌, ◌<◌, ◌≤◌, Bool, true, false, cond, not, List, [], ◌∷◌, ◌++◌, length, reverse, position, slice_get, refl, sym, ap, ◌∙◌, subst, inl, inr, arith, append-nil, Option, Some, None, option_map, lt-ltb}
+use Rattle.std.proofs.Common.{◌≡◌, ℕ, zero, suc, ◌+◌, ◌-◌, ◌<◌, ◌≤◌, Bool, false, cond, not, List, [], ◌∷◌, ◌++◌, length, reverse, position, slice_get, refl, sym, ap, ◌∙◌, subst, inl, inr, arith, Option, Some, None, option_map, lt-ltb}
 use Rattle.std.specs.Prelude.{nat_lt}
 use Rattle.std.specs.Option.{option_map_or}
 use Rattle.std.specs.Cmp.{IsEquivalence}
@@ -9,12 +9,12 @@ use Rattle.std.specs.Map.{keys_of, values_of, set_value}
 use Rattle.indexmap.specs.IndexMap.{set_value_at}
 use Rattle.sc_lru.specs.declared.node.Node.{Node}
 use Rattle.sc_lru.specs.Order.{position_at, written_at, IsPosition}
-use Rattle.sc_lru.specs.Linked.{item, Walk, Avoids, AllApart, AllBelow, after_at, before_at, pair_at, pairs_at, places, pairs_of, IsChain, IsWhole, IsLinked}
+use Rattle.sc_lru.specs.Linked.{item, Walk, Avoids, AllApart, AllBelow, after_at, before_at, pair_at, pairs_at, places, pairs_of, IsLinked}
 use Rattle.sc_lru.proofs.Cut.{slice_get-cut}
 use Rattle.sc_lru.proofs.Walks.{ends, reverse-cons, reverse-cut, walk_next}
 use Rattle.sc_lru.proofs.Chains.{item-slice_get}
 use Rattle.sc_lru.proofs.Pairs.{item_within, length-pairs}
-use Rattle.sc_lru.proofs.Orders.{length_pairs_of, distinct_order}
+use Rattle.sc_lru.proofs.Orders.{distinct_order}
 use Rattle.sc_lru.proofs.Windows.{walk_left}
 
 pub by_some : {X : Type 0} (x y : X) → Some x ≡ Some y → x ≡ y

@@ -1,6 +1,6 @@
 -- What a move to the end makes of the pairs.
-use Rattle.std.proofs.Common.{◌≡◌, ℕ, ◌-◌, Bool, List, [], ◌∷◌, ◌++◌, length, remove, slice_get, position, Option, Some, None, refl, sym, ap, ◌∙◌}
-use Rattle.std.specs.Map.{keys_of, lookup}
+use Rattle.std.proofs.Common.{◌≡◌, ℕ, ◌-◌, Bool, List, [], ◌∷◌, ◌++◌, length, remove, slice_get, position, Some, sym, ap, ◌∙◌}
+use Rattle.std.specs.Map.{keys_of}
 use Rattle.indexmap.specs.IndexMap.{move_index}
 use Rattle.indexmap.proofs.RemoveLemmas.{moved_last}
 use Rattle.sc_lru.specs.Order.{touched}

@@ -1,12 +1,11 @@
 -- What moving a position to the end and taking one out make of the chain and its pairs.
-use Rattle.std.proofs.Common.{◌≡◌, ℕ, zero, suc, ◌+◌, ◌-◌, ◌<◌, ◌≤◌, List, [], ◌∷◌, ◌++◌, length, reverse, refl, sym, ap, ◌∙◌, subst, inl, inr, ◌⊎◌, arith, append_assoc, append-nil, Option, Some, None, option_map, length-append}
+use Rattle.std.proofs.Common.{◌≡◌, ℕ, suc, ◌-◌, ◌<◌, List, [], ◌∷◌, ◌++◌, length, reverse, refl, sym, ap, ◌∙◌, subst, inl, inr, arith, append-nil, option_map, length-append}
 use Rattle.std.proofs.lemmas.Bool.Decides.{eqb_tells}
-use Rattle.std.specs.Option.{option_map_or}
 use Rattle.std.specs.List.{swap_remove}
 use Rattle.std.specs.Map.{keys_of}
 use Rattle.indexmap.proofs.SetLemmas.{map-swap_remove}
 use Rattle.sc_lru.specs.declared.node.Node.{Node}
-use Rattle.sc_lru.specs.Linked.{item, node, Walk, Avoids, AllBelow, In, end_redirected, after_at, before_at, with_after, with_before, pair_at, pairs_at, IsChain, IsWhole, IsSame, HasChain, MovesLast, TakesOut, skipped, first_skipped, last_skipped, mended, after_redirected}
+use Rattle.sc_lru.specs.Linked.{item, node, Walk, Avoids, AllBelow, In, end_redirected, after_at, before_at, with_after, with_before, pair_at, pairs_at, IsChain, IsWhole, IsSame, MovesLast, TakesOut, skipped, first_skipped, last_skipped, mended, after_redirected}
 use Rattle.sc_lru.proofs.Walks.{reverse-cut, reverse-twice, below-at, below-skip, below-less, apart-before, apart-behind, avoids-append, avoids-reverse, avoids-left, avoids-right, in-at, in-skip, in-put, in_cut, walk_start, ends}
 use Rattle.sc_lru.proofs.Chains.{length-change, keys-change, pair-change, length-skipped, keys-skipped, pair-skipped, behind, skip_chain, link_chain, mend_chain, mend_before_bound, mend_after_bound, same_chain, IsMoved, moved_from_swap_remove, length_after_es, length_before_es, keys_after_es, keys_before_es, pair_after_es, pair_before_es}
 use Rattle.sc_lru.proofs.Pairs.{pairs-append, pairs-same, pairs-below, onto}

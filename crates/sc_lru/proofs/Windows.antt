@@ -1,8 +1,8 @@
 -- What is left of a chain's positions, as they are taken from either end.
-use Rattle.std.proofs.Common.{◌≡◌, ℕ, zero, suc, ◌+◌, ◌-◌, ◌<◌, ◌≤◌, List, [], ◌∷◌, ◌++◌, Bool, length, reverse, refl, sym, ap, ◌∙◌, subst, arith, append_assoc, Option, Some, None, option_map, slice_get}
+use Rattle.std.proofs.Common.{◌≡◌, ℕ, zero, suc, ◌<◌, List, [], ◌∷◌, ◌++◌, Bool, length, reverse, refl, sym, ap, ◌∙◌, subst, arith, Option, Some, option_map, slice_get}
 use Rattle.std.specs.Option.{option_map_or}
 use Rattle.sc_lru.specs.declared.node.Node.{Node}
-use Rattle.sc_lru.specs.Linked.{chase, Walk, AllBelow, after_at, before_at, item, pair_at, pairs_at, IsChain, IsWhole, IsLinked, places, pairs_of, window, IsWindow}
+use Rattle.sc_lru.specs.Linked.{chase, Walk, AllBelow, after_at, before_at, item, pair_at, pairs_at, IsLinked, pairs_of, window, IsWindow}
 use Rattle.sc_lru.proofs.Walks.{reverse-cons, reverse-cut, below-at, below-left}
 use Rattle.sc_lru.proofs.Chains.{item-slice_get}
 use Rattle.sc_lru.proofs.Pairs.{pairs-cut, length-pairs}

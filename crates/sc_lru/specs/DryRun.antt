@@ -1,5 +1,5 @@
 -- What a list of uses finds at one capacity. A pair's value is its number of bytes, and its measure.
-use Rattle.std.specs.Prelude.{◌≡◌, ℕ, ◌+◌, ◌-◌, ◌*◌, ◌^◌, ◌<◌, Bool, nat_le, is_some, if◌then◌else◌, List, [], ◌∷◌, length, map}
+use Rattle.std.specs.Prelude.{ℕ, ◌+◌, ◌-◌, ◌^◌, ◌<◌, Bool, nat_le, is_some, if◌then◌else◌, List, [], ◌∷◌, length, map}
 use Rattle.std.specs.Borrow.{Bor}
 use Rattle.std.specs.Map.{lookup, remove_entry}
 use Rattle.sc_lru.specs.declared.capacity_report.Use.{Use}

@@ -1,7 +1,6 @@
-use Rattle.std.proofs.Common.{◌≡◌, ◌+◌, ◌∙◌, Bool, ap, arith, if◌then◌else◌, is_some, length, sym}
-use Rattle.std.specs.Borrow.{Bor}
+use Rattle.std.proofs.Common.{◌≡◌, ◌+◌, ◌∙◌, ap, arith, if◌then◌else◌, is_some, sym}
 use Rattle.std.specs.Map.{lookup}
-use Rattle.sc_lru.specs.DryRun.{counted, dropped, hit, missed, shown, used}
+use Rattle.sc_lru.specs.DryRun.{counted, hit, missed, shown, used}
 use Rattle.sc_lru.specs.declared.capacity_report.Use.TheVariants.{Get, Put}
 use Rattle.sc_lru.proofs.DryRuns.{line, pairs_most}
 use Rattle.sc_lru.proofs.Shown.{is_some_copied, length-shown, lookup-shown, touched-shown}

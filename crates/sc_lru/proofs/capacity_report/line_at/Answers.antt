@@ -1,6 +1,6 @@
-use Rattle.std.proofs.Common.{◌≡◌, ◌+◌, ◌≤◌, ◌∷◌, ◌∙◌, add-one, ap, arith, drop, drop-cons, get_or, length, refl, suc, sym}
+use Rattle.std.proofs.Common.{◌≡◌, ◌+◌, ◌∷◌, ◌∙◌, add-one, ap, arith, drop, drop-cons, length, sym}
 use Rattle.std.proofs.lemmas.List.{drop_all}
-use Rattle.sc_lru.specs.DryRun.{counted, dry_line, shown, used}
+use Rattle.sc_lru.specs.DryRun.{counted, shown, used}
 use Rattle.sc_lru.proofs.DryRuns.{dry, dry-none, hit_most, line, missed_most, over_most, pairs_most}
 use Rattle.sc_lru.proofs.Shown.{length-shown}
 use Rattle.sc_lru.proofs.capacity_report.line_at.Goals as goal

@@ -1,4 +1,4 @@
-use Rattle.std.proofs.Common.{◌≡◌, ◌+◌, ◌-◌, ◌≤◌, ◌∙◌, Bool, ap, arith, if◌then◌else◌, is_some, length, sym}
+use Rattle.std.proofs.Common.{◌≡◌, ◌+◌, ◌-◌, ◌∙◌, Bool, ap, arith, if◌then◌else◌, is_some, length, sym}
 use Rattle.std.proofs.lemmas.Bool.{le-leb}
 use Rattle.std.specs.Borrow.{Bor}
 use Rattle.std.specs.Map.{lookup, remove_entry}

@@ -1,4 +1,4 @@
-use Rattle.std.proofs.Common.{ap, arith, length, ◌<◌, ◌≡◌}
+use Rattle.std.proofs.Common.{ap, arith, length}
 use Rattle.sc_lru.proofs.Walks.{below-at}
 use Rattle.sc_lru.proofs.Chains.{before_bound, after_bound}
 use Rattle.sc_lru.proofs.Steps.{already_last, last_bound, long_gs, moves_last, moves_same}

@@ -1,8 +1,8 @@
-use Rattle.std.proofs.Common.{ap, arith, length, ◌<◌, ◌≡◌, ◌∙◌, sym, subst, Some, IfSome, IsSome, option_map, suc, refl}
+use Rattle.std.proofs.Common.{ap, arith, length, ◌≡◌, ◌∙◌, sym, subst, IfSome, IsSome, option_map, refl}
 use Rattle.std.specs.List.{swap_remove, IsDistinct}
-use Rattle.sc_lru.specs.Linked.{pair_at, item}
+use Rattle.sc_lru.specs.Linked.{pair_at}
 use Rattle.sc_lru.proofs.Walks.{below-at}
-use Rattle.sc_lru.proofs.Chains.{before_bound, after_bound, item-slice_get, pair-skipped, length_after_es}
+use Rattle.sc_lru.proofs.Chains.{before_bound, after_bound, item-slice_get, pair-skipped}
 use Rattle.sc_lru.proofs.Pairs.{item_within}
 use Rattle.sc_lru.proofs.Steps.{long_gs, keys_taken, takes_end, takes_gap, before_gap, after_gap, keys_gap, moved}
 use Rattle.sc_lru.proofs.links.take.Goals as goal

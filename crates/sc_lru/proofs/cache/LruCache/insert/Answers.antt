@@ -1,4 +1,4 @@
-use Rattle.std.proofs.Common.{◌≡◌, ◌-◌, ◌∙◌, ◌∷◌, ◌++◌, [], sym, ap, arith, subst, IfNone, None}
+use Rattle.std.proofs.Common.{◌≡◌, ◌-◌, ◌∙◌, ◌∷◌, ◌++◌, [], sym, ap, arith, subst, IfNone}
 use Rattle.std.specs.Map.{lookup, remove_entry}
 use Rattle.sc_lru.specs.LruCache.{total, suffix_within}
 use Rattle.sc_lru.proofs.Measures.{inserted_large, inserted_fits, lookup-suffix_within}

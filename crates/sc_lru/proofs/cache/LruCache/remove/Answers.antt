@@ -1,4 +1,4 @@
-use Rattle.std.proofs.Common.{◌∙◌, sym, ap, option_map}
+use Rattle.std.proofs.Common.{◌∙◌, ap, option_map}
 use Rattle.sc_lru.proofs.Cut.{lookup_from_entry}
 use Rattle.sc_lru.proofs.cache.LruCache.remove.Goals as goal
 

@@ -1,4 +1,4 @@
-use Rattle.std.proofs.Common.{◌≡◌, ◌-◌, ◌<◌, suc, sym, subst, arith, length, ap, ◌∙◌, option_map, Some}
+use Rattle.std.proofs.Common.{◌≡◌, ◌-◌, suc, sym, subst, arith, ap, ◌∙◌, option_map}
 use Rattle.std.specs.Map.Iter.{deref_pair}
 use Rattle.sc_lru.specs.Linked.{before_at, window, IsWindow}
 use Rattle.sc_lru.proofs.Windows.{length-window, node_at, take_last}

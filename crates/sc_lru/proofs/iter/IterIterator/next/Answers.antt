@@ -1,5 +1,5 @@
 use Rattle.std.proofs.Common.{◌≡◌, ◌-◌, suc, sym, subst, arith}
-use Rattle.std.proofs.Common.{ap, ◌∙◌, option_map, Some}
+use Rattle.std.proofs.Common.{ap, ◌∙◌, option_map}
 use Rattle.sc_lru.specs.Linked.{IsWindow}
 use Rattle.sc_lru.proofs.Windows.{node_at, take_first}
 use Rattle.std.specs.Map.Iter.{deref_pair}

@@ -1,4 +1,4 @@
-use Rattle.std.proofs.Common.{◌∙◌, sym, ap, ◌≡◌, ◌<◌, Some, length, refl, arith}
+use Rattle.std.proofs.Common.{◌∙◌, sym, ap, refl}
 use Rattle.sc_lru.proofs.Cut.{missed}
 use Rattle.sc_lru.proofs.Orders.{is_chained, none_pairs, touched_linked, found_value, value_moved}
 use Rattle.sc_lru.specs.Linked.{pairs_of}

@@ -1,4 +1,4 @@
-use Rattle.std.proofs.Common.{◌≡◌, ◌∙◌, Some, ap, inl, position, refl, subst, sym}
+use Rattle.std.proofs.Common.{◌∙◌, Some, ap, inl, position, refl, subst, sym}
 use Rattle.std.specs.Map.{keys_of, set_value}
 use Rattle.sc_lru.specs.Linked.{node, pairs_of, IsLinked}
 use Rattle.sc_lru.specs.Order.{order}

@@ -1,4 +1,4 @@
-use Rattle.std.proofs.Common.{◌≡◌, ◌∙◌, Some, ap, sym, subst, refl}
+use Rattle.std.proofs.Common.{◌∙◌, Some, ap, sym, subst, refl}
 use Rattle.std.specs.Option.{option_map_or}
 use Rattle.std.specs.Map.{keys_of, set_value}
 use Rattle.indexmap.specs.IndexMap.{hasher_of, spare}

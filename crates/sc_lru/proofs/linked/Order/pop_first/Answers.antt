@@ -1,4 +1,4 @@
-use Rattle.std.proofs.Common.{◌∙◌, sym, ap, ◌≡◌, ◌<◌, Some, length, arith, drop, slice_get}
+use Rattle.std.proofs.Common.{◌∙◌, sym, ap, ◌<◌, length, arith, drop, slice_get}
 use Rattle.std.specs.Map.{keys_of}
 use Rattle.std.specs.Option.{option_map_or}
 use Rattle.sc_lru.specs.Order.{vacated}

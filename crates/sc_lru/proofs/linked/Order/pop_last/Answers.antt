@@ -1,4 +1,4 @@
-use Rattle.std.proofs.Common.{◌∙◌, sym, ap, ◌≡◌, ◌<◌, Some, length, arith}
+use Rattle.std.proofs.Common.{◌<◌, length, arith}
 use Rattle.sc_lru.proofs.Orders.{is_placed, last_within, popped_last}
 use Rattle.sc_lru.proofs.linked.Order.pop_last.Goals as goal
 

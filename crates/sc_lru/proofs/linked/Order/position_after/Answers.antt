@@ -1,4 +1,4 @@
-use Rattle.std.proofs.Common.{◌≡◌, ◌∙◌, sym, subst}
+use Rattle.std.proofs.Common.{◌∙◌, sym, subst}
 use Rattle.sc_lru.specs.Order.{IsPosition}
 use Rattle.sc_lru.proofs.Places.{behind, behind_last, node_links, position_within}
 use Rattle.sc_lru.proofs.linked.Order.position_after.Goals as goal

@@ -1,4 +1,4 @@
-use Rattle.std.proofs.Common.{◌∙◌, ◌<◌, IfSome, length, subst, sym}
+use Rattle.std.proofs.Common.{◌∙◌, ◌<◌, IfSome, subst, sym}
 use Rattle.sc_lru.proofs.Orders.{length_pairs_of, some_pairs}
 use Rattle.sc_lru.proofs.linked.Order.position_of.Goals as goal
 

@@ -2,7 +2,7 @@ use Rattle.std.proofs.Common.{◌≡◌, ◌∙◌, ◌<◌, ◌++◌, ◌∷◌
 use Rattle.indexmap.proofs.CallerLemmas.{insert_entry-new}
 use Rattle.indexmap.specs.IndexMap.{insert_entry}
 use Rattle.std.specs.Map.{keys_of, lookup}
-use Rattle.sc_lru.specs.Linked.{node, pairs_of, with_after}
+use Rattle.sc_lru.specs.Linked.{node, with_after}
 use Rattle.sc_lru.proofs.Chains.{keys-change}
 use Rattle.sc_lru.proofs.Cut.{none_from_is_some}
 use Rattle.sc_lru.proofs.Orders.{keys-push, last_within, pushed, some_pairs}

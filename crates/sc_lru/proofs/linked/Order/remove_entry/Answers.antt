@@ -1,4 +1,4 @@
-use Rattle.std.proofs.Common.{◌∙◌, sym, ap, ◌≡◌, ◌<◌, Some, length}
+use Rattle.std.proofs.Common.{◌∙◌, sym, ap}
 use Rattle.sc_lru.proofs.Cut.{missed}
 use Rattle.std.specs.Map.{lookup}
 use Rattle.sc_lru.proofs.Orders.{absent_after, is_placed, none_pairs, removed_linked, vacated_none, vacated_taken}

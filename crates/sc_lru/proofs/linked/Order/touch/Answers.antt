@@ -1,4 +1,4 @@
-use Rattle.std.proofs.Common.{◌∙◌, sym, ap, ◌≡◌, ◌<◌, Some, length, is_some}
+use Rattle.std.proofs.Common.{◌∙◌, sym, ap}
 use Rattle.sc_lru.proofs.Cut.{missed}
 use Rattle.sc_lru.proofs.Orders.{is_chained, none_pairs, some_pairs, touched_linked}
 use Rattle.sc_lru.specs.Linked.{pairs_of}

@@ -1,4 +1,4 @@
-use Rattle.std.proofs.Common.{sym, ap, is_some, ◌∙◌}
+use Rattle.std.proofs.Common.{sym}
 use Rattle.sc_lru.proofs.Cut.{missed, none_from_is_some}
 use Rattle.sc_lru.proofs.Shifts.{touched_from_move}
 use Rattle.sc_lru.proofs.shifted.Order.touch.Goals as goal
