@@ -1,6 +1,8 @@
 //! The program. Its words, its streams and its exit code are the process's; `sc_run::run` does the rest.
 #![tactic(auto)]
 
+ghost use Rattle.std.specs.Prelude.{◌≡◌, drop};
+
 use sc_entry::{ByteText, NoMemory, ReaderSource, WriterSink};
 use sc_run::{Ended, Outside, exit_code, run};
 use std::alloc::Global;
@@ -29,11 +31,10 @@ fn words_in(alloc: Global, args: env::Args) -> Result<Vec<ByteText>, NoMemory> {
 }
 
 /// The words behind the program's name.
-fn behind_name(words: &[ByteText]) -> &[ByteText] {
-    match words {
-        [_, rest @ ..] => rest,
-        [] => words,
-    }
+fn behind_name(words: &[ByteText]) -> &[ByteText]
+    ensures { result.now ≡ drop 1 words.now }
+{
+    if words.is_empty() { words } else { &words[1..] }
 }
 
 fn main(rt: HostRuntime) -> ExitCode {
