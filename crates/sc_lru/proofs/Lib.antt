@@ -1,5 +1,6 @@
 pub mod Chains
 pub mod Cut
+pub mod Evictions
 pub mod Measures
 pub mod Orders
 pub mod Pairs

@@ -231,6 +231,37 @@ impl<K: Eq + Hash, V, S: BuildHasher, M: Meter<K, V>> LruCache<K, V, S, M> {
     }
 }
 
+// Puts a new pair last, and takes pairs out from the front until those before it measure at most `limit`: what they measure
+// then. The pair at the last position comes to that of a pair that goes, so the new one is put first: its links are at hand.
+fn push_evicting<K: Eq + Hash + Drop, V: Drop, S: BuildHasher, M: Meter<K, V>>(
+    order: &mut Order<K, V, S>,
+    meter: &M,
+    size: u64,
+    limit: u64,
+    key: K,
+    value: V,
+) -> u64
+    requires size { size ≡ total (M.measure meter.now) order.old.entries }
+    requires absent { lookup (K.eq key) order.old.entries ≡ None }
+    requires room { 0 < order.old.spare }
+    ensures entries { order.new.entries ≡ suffix_within (M.measure meter.now) limit order.old.entries ++ (key, value) ∷ [] }
+    ensures size { result ≡ total (M.measure meter.now) (suffix_within (M.measure meter.now) limit order.old.entries) }
+    ensures within { result ≤ limit }
+    ensures slots { size ≤ limit → order.new.slots ≡ order.old.slots ++ key ∷ [] }
+    ensures spare { order.old.spare ≤ order.new.spare + 1 }
+    ensures hasher { order.new.hasher ≡ order.old.hasher }
+{
+    order.push_last(key, value);
+    let mut left = size;
+    while left > limit {
+        let Some((gone, its_value)) = order.pop_first() else {
+            unreachable!()
+        };
+        left -= meter.measure(&gone, &its_value);
+    }
+    left
+}
+
 impl<K: Eq + Hash + Drop, V: Drop, S: BuildHasher, M: Meter<K, V>> LruCache<K, V, S, M> {
     /// Takes the key's pair out, and answers its value.
     pub fn remove(&mut self, key: &K) -> Option<V>
@@ -272,20 +303,21 @@ impl<K: Eq + Hash + Drop, V: Drop, S: BuildHasher, M: Meter<K, V>> LruCache<K, V
         }
     }
 
-    // Puts a new pair last.
-    fn push_last(&mut self, measure: u64, key: K, value: V)
+    // Puts a new pair last, and takes the least recently used pairs out until all measure at most the capacity.
+    fn push_within(&mut self, measure: u64, key: K, value: V)
         requires measured { measure ≡ M.measure self.old.meter key value }
         requires absent { lookup (K.eq key) self.old.entries ≡ None }
         requires room { 0 < self.old.spare }
-        requires fits { total (M.measure self.old.meter) self.old.entries + measure ≤ self.old.capacity }
-        ensures entries { self.new.entries ≡ self.old.entries ++ (key, value) ∷ [] }
-        ensures slots { self.new.slots ≡ self.old.slots ++ key ∷ [] }
+        requires fits { measure ≤ self.old.capacity }
+        ensures entries { self.new.entries ≡ suffix_within (M.measure self.old.meter) (self.old.capacity - measure) self.old.entries ++ (key, value) ∷ [] }
+        ensures slots { total (M.measure self.old.meter) self.old.entries + measure ≤ self.old.capacity → self.new.slots ≡ self.old.slots ++ key ∷ [] }
         ensures spare { self.old.spare ≤ self.new.spare + 1 }
         ensures parts { KeepsParts self.old self.new }
     {
         let _fits = self.capacity;
-        self.order.push_last(key, value);
-        self.size += measure;
+        let room = self.capacity - measure;
+        let left = push_evicting(&mut self.order, &self.meter, self.size, room, key, value);
+        self.size = left + measure;
     }
 
     /// Puts a pair last in place of the key's old pair, whose value it answers, and takes the least recently used pairs out until
@@ -316,8 +348,7 @@ impl<K: Eq + Hash + Drop, V: Drop, S: BuildHasher, M: Meter<K, V>> LruCache<K, V
             self.clear();
             return Ok(old);
         }
-        self.evict_to(capacity - measure);
-        self.push_last(measure, key, value);
+        self.push_within(measure, key, value);
         Ok(old)
     }
 
