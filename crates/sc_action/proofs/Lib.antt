@@ -1,4 +1,7 @@
+pub mod Holding
 pub mod Misses
-pub mod Requests
 pub mod Plains
+pub mod Putting
+pub mod Requests
+pub mod Saying
 pub mod Sizes

@@ -22,7 +22,7 @@ use Rattle.sc_model.specs.declared.phase.Phase.TheVariants.{AtSend}
 use Rattle.sc_stats.specs.declared.counters.LevelStats.{LevelStats}
 use Rattle.sc_stats.specs.declared.counters.ServerStats.{ServerStats}
 
-plain_still : (x : What) → IsPlain x → IsStill x
+pub plain_still : (x : What) → IsPlain x → IsStill x
 plain_still Idle plain = tt
 plain_still (Passed a) plain = absurd plain
 plain_still (Taken a b) plain = tt

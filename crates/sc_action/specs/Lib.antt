@@ -1,5 +1,6 @@
 pub mod Acts
 pub mod Controls
+pub mod Hands
 pub mod Misses
 pub mod Ran
 pub mod Sends

@@ -1,4 +1,4 @@
--- The phases that a request over remote levels without a distributed client can stand at.
+-- The phases that a request without a distributed client can stand at.
 use Rattle.std.specs.Prelude.{◌≡◌, ◌<◌, false, length, Option, Some, None}
 use Rattle.sc_model.specs.There.{AreLevels}
 use Rattle.sc_wire.specs.Requests.{IsServed}
@@ -33,7 +33,7 @@ IsWriter r ending = ⊥
 abbrev pub IsLocal : Job → Type 0
 IsLocal job = job.client ≡ false
 
--- What can be gone on with: every phase but those after the last reply.
+-- What can be gone on with where no entry of a disk level is held: every phase but those after the last reply.
 abbrev pub Serves : Config → Phase → Request → Type 0
 Serves k AtBegin r = IsServed r
 Serves k (AtSend f) r = IsServed r

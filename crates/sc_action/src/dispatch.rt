@@ -1,10 +1,12 @@
 //! One action of a request.
-ghost use Rattle.std.specs.Prelude.{◌≡◌, List, IfOk};
+ghost use Rattle.std.specs.Prelude.{◌≡◌, false, List, IfOk};
 ghost use Rattle.sc_action.specs.Acts.{Acts};
+ghost use Rattle.sc_action.specs.Hands.{ActsWith, ServesWith, hand_of, writes};
 ghost use Rattle.sc_action.specs.Sends.{Adds};
 ghost use Rattle.sc_action.specs.Serves.{Serves};
 ghost use Rattle.sc_action.specs.Telling.{ActsFor, SaysCounted};
-ghost use Rattle.sc_job.specs.Setups.{Config, setup};
+ghost use Rattle.sc_hold.specs.Holding.{HandsBy, KeepsHands};
+ghost use Rattle.sc_job.specs.Setups.{setup};
 ghost use Rattle.sc_model.specs.Machine.{need_at};
 ghost use Rattle.sc_model.specs.Trace.{sent_by};
 ghost use Rattle.sc_model.specs.declared.message.Request.TheVariants.{Compile as CompileOf, StorageGetRaw, StoragePutRaw};
@@ -13,14 +15,16 @@ ghost use Rattle.sc_model.specs.declared.level.Policy.{Policy as PolicyType};
 ghost use Rattle.sc_stats.specs.declared.counters.LevelStats.{LevelStats as Counters};
 ghost use Rattle.sc_stats.specs.declared.counters.ServerStats.{ServerStats as Stats};
 
-use crate::acted::Acted;
+use crate::acted::{Acted, Action, holding_none};
 use crate::early::{act_begin, act_key};
 use crate::lookup::{act_ask, act_place};
-use crate::raw::{act_begin_get, act_begin_put, act_put, act_raw_ask};
+use crate::raw::{act_begin_get, act_begin_put, act_raw_ask};
 use crate::running::{act_run, act_take};
 use crate::sending::{act_finish, act_send, act_started};
-use crate::storing::{act_end, act_store, act_write};
+use crate::storing::{act_end, act_store};
 use crate::telling::{act_begin_stats, act_handshake, act_record, act_size_ask, act_zero};
+use crate::writing::{act_writing, is_write};
+use sc_disk::LruDiskCacheAddEntry;
 use sc_entry::{ByteText, NoMemory, Text};
 use sc_hold::Hold;
 use sc_model::{Compile, Phase, Request};
@@ -35,7 +39,8 @@ fn act_compile<H: Hold>(
     phase: Phase,
     out: &mut Vec<u8>,
 ) -> Result<Acted, NoMemory>
-    requires { Serves (H.config hold.old) phase (CompileOf request.now) }
+    requires serves { Serves (H.config hold.old) phase (CompileOf request.now) }
+    requires plain { writes phase ≡ false }
     ensures acts { IfOk result (λ a. Acts (H.config hold.old) (CompileOf request.now) phase (H.moment hold.old) a) }
     ensures moves { IfOk result (λ a. H.moves hold.old (need_at (setup (H.config hold.old)) (CompileOf request.now) phase) a.what hold.new) }
     ensures same { IfOk result (λ a. H.config hold.new ≡ H.config hold.old) }
@@ -55,9 +60,6 @@ fn act_compile<H: Hold>(
         Phase::AtEnd(verdict, task, ending) => act_end(hold, request, verdict, task, ending),
         Phase::AtStore(verdict, task, bytes, ending) => {
             act_store(alloc, hold, request, verdict, task, bytes, ending)
-        }
-        Phase::AtWrite(bytes, levels, refusal, ending) => {
-            act_write(alloc, hold, request, bytes, levels, refusal, ending)
         }
         Phase::AtFinish(notes, last) => act_finish(alloc, hold, request, notes, last, out),
         _ => unreachable!(),
@@ -95,7 +97,8 @@ fn act_put_raw<H: Hold>(
     phase: Phase,
     out: &mut Vec<u8>,
 ) -> Result<Acted, NoMemory>
-    requires { Serves (H.config hold.old) phase (StoragePutRaw key.now put.now) }
+    requires serves { Serves (H.config hold.old) phase (StoragePutRaw key.now put.now) }
+    requires plain { writes phase ≡ false }
     ensures acts { IfOk result (λ a. Acts (H.config hold.old) (StoragePutRaw key.now put.now) phase (H.moment hold.old) a) }
     ensures moves { IfOk result (λ a. H.moves hold.old (need_at (setup (H.config hold.old)) (StoragePutRaw key.now put.now) phase) a.what hold.new) }
     ensures same { IfOk result (λ a. H.config hold.new ≡ H.config hold.old) }
@@ -103,9 +106,6 @@ fn act_put_raw<H: Hold>(
 {
     match phase {
         Phase::AtBegin => act_begin_put(alloc, hold, key, put),
-        Phase::AtWrite(bytes, levels, refusal, ending) => {
-            act_put(alloc, hold, key, put, bytes, levels, refusal, ending)
-        }
         Phase::AtSend(reply) => act_send(alloc, hold, reply, out),
         _ => unreachable!(),
     }
@@ -201,10 +201,8 @@ fn act_storage_handshake<H: Hold>(
     }
 }
 
-/// Does the action that is due of a request at this phase: its event, and the phase after it. What it sends goes behind
-/// `out`. It waits for nothing: a token is there where one is taken. `stats` is what the daemon has counted, and `levels`
-/// what it has counted of each level; a request for statistics tells these.
-pub fn act<H: Hold>(
+/// Does the action that is due of a request that writes nothing now.
+fn act_plain<H: Hold>(
     alloc: Global,
     hold: &mut H,
     stats: &ServerStats,
@@ -213,7 +211,8 @@ pub fn act<H: Hold>(
     phase: Phase,
     out: &mut Vec<u8>,
 ) -> Result<Acted, NoMemory>
-    requires { Serves (H.config hold.old) phase request.now }
+    requires serves { Serves (H.config hold.old) phase request.now }
+    requires plain { writes phase ≡ false }
     ensures acts { IfOk result (λ a. ActsFor (H.config hold.old) request.now phase (H.moment hold.old) a) }
     ensures says { IfOk result (λ a. SaysCounted (H.config hold.old).policy stats.now levels.now a.what) }
     ensures moves { IfOk result (λ a. H.moves hold.old (need_at (setup (H.config hold.old)) request.now phase) a.what hold.new) }
@@ -230,4 +229,35 @@ pub fn act<H: Hold>(
         Request::StorageHandshake => act_storage_handshake(alloc, hold, phase, out),
         _ => unreachable!(),
     }
+}
+
+/// Does the action that is due of a request at this phase, with the entry of a disk level that it holds: its event, the phase
+/// after it, and the entry that it holds then. What it sends goes behind `out`. It waits for nothing: a token is there where
+/// one is taken. `stats` is what the daemon has counted, and `levels` what it has counted of each level; a request for
+/// statistics tells these.
+pub fn act<H: Hold>(
+    alloc: Global,
+    hold: &mut H,
+    stats: &ServerStats,
+    levels: &[LevelStats],
+    request: &Request,
+    phase: Phase,
+    entry: Option<LruDiskCacheAddEntry>,
+    out: &mut Vec<u8>,
+) -> Result<Action, NoMemory>
+    requires { ServesWith (H.config hold.old) (H.disk hold.old) phase entry request.now }
+    ensures acts { IfOk result (λ a. ActsWith (H.config hold.old) (H.disk hold.new) request.now phase (H.moment hold.old) a) }
+    ensures hands { IfOk result (λ a. HandsBy (H.disk hold.old) a.what (hand_of entry phase) (hand_of a.entry a.phase)) }
+    ensures others { IfOk result (λ a. KeepsHands (hand_of entry phase) (H.disk hold.old) (H.disk hold.new)) }
+    ensures says { IfOk result (λ a. SaysCounted (H.config hold.old).policy stats.now levels.now a.what) }
+    ensures moves { IfOk result (λ a. H.moves hold.old (need_at (setup (H.config hold.old)) request.now phase) a.what hold.new) }
+    ensures same { IfOk result (λ a. H.config hold.new ≡ H.config hold.old) }
+    ensures sent { IfOk result (λ a. Adds (H.config hold.old) (sent_by a.what) out.old.items out.new.items) }
+{
+    if is_write(&phase) {
+        let action = act_writing(alloc, hold, request, phase, entry)?;
+        return Ok(action);
+    }
+    let acted = act_plain(alloc, hold, stats, levels, request, phase, out)?;
+    Ok(holding_none(acted))
 }

@@ -6,6 +6,7 @@ mod acted;
 mod control;
 mod dispatch;
 mod early;
+mod entries;
 mod lookup;
 mod raw;
 mod running;
@@ -14,7 +15,9 @@ mod storing;
 mod telling;
 mod texts;
 mod turn;
+mod writing;
 
-pub use acted::Acted;
+pub use acted::{Acted, Action};
 pub use control::{Control, control_of, counted_task, is_set};
 pub use dispatch::act;
+pub use entries::{EntryAction, commit_entry, fill_entry, open_entry};

@@ -10,11 +10,10 @@ ghost use Rattle.sc_model.specs.declared.message.Request.TheVariants.{StorageGet
 ghost use Rattle.sc_model.specs.declared.message.Response.TheVariants.{StorageGetRaw as RawReply};
 
 use crate::acted::Acted;
-use crate::storing::write_level;
 use crate::texts::put_result;
 use sc_entry::{ByteText, NoMemory, Queue, Text};
 use sc_hold::Hold;
-use sc_model::{Answer, Bytes, Ending, Mode, Phase, Refusal, Request, Response, Told, What};
+use sc_model::{Answer, Bytes, Mode, Phase, Refusal, Request, Response, Told, What};
 use std::alloc::Global;
 
 /// Where a lookup goes on: at its next level, or with nothing found after the last.
@@ -113,7 +112,7 @@ pub fn act_begin_put<H: Hold>(
 }
 
 /// Ends a put.
-fn end_put<H: Hold>(
+pub(crate) fn end_put<H: Hold>(
     alloc: Global,
     hold: &mut H,
     key: &Text,
@@ -132,33 +131,4 @@ fn end_put<H: Hold>(
         what: What::WriteEnded(end.answer, end.handed),
         phase: Phase::AtSend(Response::StoragePutRaw(told)),
     })
-}
-
-/// Writes a put at its next level, or ends it.
-pub fn act_put<H: Hold>(
-    alloc: Global,
-    hold: &mut H,
-    key: &Text,
-    put: &ByteText,
-    bytes: Bytes,
-    levels: Queue<u64>,
-    refusal: Refusal,
-    ending: Option<Ending>,
-) -> Result<Acted, NoMemory>
-    requires levels { AreLevels (length (H.config hold.old).levels) levels }
-    requires ending { IsWriter (StoragePutRaw key.now put.now) ending }
-    ensures acts { IfOk result (λ a. Acts (H.config hold.old) (StoragePutRaw key.now put.now) (Phase.AtWrite bytes levels refusal ending) (H.moment hold.old) a) }
-    ensures moves { IfOk result (λ a. H.moves hold.old (need_at (setup (H.config hold.old)) (StoragePutRaw key.now put.now) (Phase.AtWrite bytes levels refusal ending)) a.what hold.new) }
-    ensures same { IfOk result (λ a. H.config hold.new ≡ H.config hold.old) }
-    ensures unsent { IfOk result (λ a. sent_by a.what ≡ []) }
-{
-    let mut rest = levels;
-    if let Some(level) = rest.pop_front() {
-        let acted = write_level(alloc, hold, bytes, level, rest, refusal, ending)?;
-        return Ok(acted);
-    }
-    match ending {
-        None => end_put(alloc, hold, key, put, bytes, refusal),
-        Some(_) => unreachable!(),
-    }
 }

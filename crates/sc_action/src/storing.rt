@@ -1,4 +1,4 @@
-//! The actions from a job's outcome to the end of its write.
+//! The actions from a job's outcome to the end of its write, but those at disk levels.
 ghost use Rattle.std.specs.Prelude.{◌≡◌, ◌<◌, ◌∷◌, [], length, Some, IfOk};
 ghost use Rattle.sc_action.specs.Acts.{Acts};
 ghost use Rattle.sc_action.specs.Serves.{IsWriter};
@@ -9,7 +9,9 @@ ghost use Rattle.sc_model.specs.Machine.{need_at};
 ghost use Rattle.sc_model.specs.Trace.{sent_by};
 ghost use Rattle.sc_model.specs.declared.message.Request.{Request as Asks};
 ghost use Rattle.sc_model.specs.declared.message.Request.TheVariants.{Compile as CompileOf};
+ghost use Rattle.sc_model.specs.Follows.{kind_at};
 ghost use Rattle.sc_model.specs.Machine as machine;
+ghost use Rattle.sc_model.specs.declared.level.LevelKind.TheVariants.{Remote};
 ghost use Rattle.sc_model.specs.Plan as plans;
 
 use crate::acted::Acted;
@@ -63,7 +65,7 @@ pub fn act_store<H: Hold>(
 }
 
 /// The first refusal of a write, after one more level's answer.
-fn noted(written: Written, refusal: Refusal, level: u64) -> Refusal
+pub(crate) fn noted(written: Written, refusal: Refusal, level: u64) -> Refusal
     ensures { result ≡ machine.noted written refusal level }
 {
     match (written, refusal) {
@@ -74,7 +76,7 @@ fn noted(written: Written, refusal: Refusal, level: u64) -> Refusal
 }
 
 /// The levels that are still written: none after level 0 refused.
-fn goes_on(alloc: Global, refusal: Refusal, levels: Queue<u64>) -> Queue<u64>
+pub(crate) fn goes_on(alloc: Global, refusal: Refusal, levels: Queue<u64>) -> Queue<u64>
     ensures { result ≡ plans.goes_on refusal levels }
 {
     match refusal {
@@ -84,7 +86,7 @@ fn goes_on(alloc: Global, refusal: Refusal, levels: Queue<u64>) -> Queue<u64>
     }
 }
 
-/// Writes at the next level, for a compile that ends so behind its write, or for another put.
+/// Writes at the next level, a remote one, for a compile that ends so behind its write, or for another put.
 pub(crate) fn write_level<H: Hold>(
     alloc: Global,
     hold: &mut H,
@@ -95,6 +97,7 @@ pub(crate) fn write_level<H: Hold>(
     ending: Option<Ending>,
 ) -> Result<Acted, NoMemory>
     requires level { level < length (H.config hold.old).levels }
+    requires remote { kind_at (H.config hold.old).levels level ≡ Remote }
     requires rest { AreLevels (length (H.config hold.old).levels) rest }
     ensures acts { IfOk result (λ a. (r : Asks) → IsWriter r ending → Acts (H.config hold.old) r (Phase.AtWrite bytes (level ∷ rest) refusal ending) (H.moment hold.old) a) }
     ensures moves { IfOk result (λ a. (r : Asks) → H.moves hold.old (need_at (setup (H.config hold.old)) r (Phase.AtWrite bytes (level ∷ rest) refusal ending)) a.what hold.new) }
@@ -114,7 +117,7 @@ pub(crate) fn write_level<H: Hold>(
 }
 
 /// Ends a write.
-fn end_write<H: Hold>(
+pub(crate) fn end_write<H: Hold>(
     alloc: Global,
     hold: &mut H,
     request: &Compile,
@@ -132,32 +135,4 @@ fn end_write<H: Hold>(
         what: What::WriteEnded(end.answer, end.handed),
         phase: Phase::AtFinish(ending.notes, ending.last),
     })
-}
-
-/// Writes at the next level, or ends the write.
-pub fn act_write<H: Hold>(
-    alloc: Global,
-    hold: &mut H,
-    request: &Compile,
-    bytes: Bytes,
-    levels: Queue<u64>,
-    refusal: Refusal,
-    ending: Option<Ending>,
-) -> Result<Acted, NoMemory>
-    requires levels { AreLevels (length (H.config hold.old).levels) levels }
-    requires ending { IsWriter (CompileOf request.now) ending }
-    ensures acts { IfOk result (λ a. Acts (H.config hold.old) (CompileOf request.now) (Phase.AtWrite bytes levels refusal ending) (H.moment hold.old) a) }
-    ensures moves { IfOk result (λ a. H.moves hold.old (need_at (setup (H.config hold.old)) (CompileOf request.now) (Phase.AtWrite bytes levels refusal ending)) a.what hold.new) }
-    ensures same { IfOk result (λ a. H.config hold.new ≡ H.config hold.old) }
-    ensures unsent { IfOk result (λ a. sent_by a.what ≡ []) }
-{
-    let mut rest = levels;
-    if let Some(level) = rest.pop_front() {
-        let acted = write_level(alloc, hold, bytes, level, rest, refusal, ending)?;
-        return Ok(acted);
-    }
-    match ending {
-        Some(ending) => end_write(alloc, hold, request, bytes, refusal, ending),
-        None => unreachable!(),
-    }
 }

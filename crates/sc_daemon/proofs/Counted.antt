@@ -2,6 +2,7 @@
 use Rattle.std.proofs.Common.{◌≡◌, ℕ, ◌+◌, ◌≤◌, ◌++◌, true, false, length, Result, Ok, Err, refl, sym, ap, ◌∙◌, subst, arith}
 use Rattle.std.specs.Prelude.{IfOk, IsOk, OnOk}
 use Rattle.sc_action.specs.Telling.{SaysCounted}
+use Rattle.sc_daemon.specs.Backlogs.{fresh_writes}
 use Rattle.sc_daemon.specs.Daemons.{Kept, ServesEvent, kept_after}
 use Rattle.sc_daemon.specs.Lines.{Line, conn_of}
 use Rattle.sc_daemon.specs.Turns.{Serves_one}
@@ -13,7 +14,7 @@ use Rattle.sc_model.specs.declared.event.Owner.TheVariants.{Request as OfRequest
 use Rattle.sc_model.specs.declared.event.What.{What}
 use Rattle.sc_model.specs.declared.event.What.TheVariants.{Asked, Began, Closed, Committed, Dist, Filled, Idle, Keyed, Outcome, Passed, Placed, Ran, Reserved, Sent, Taken, TokenTaken, TooLong, WriteEnded, Wrote}
 use Rattle.sc_owned.specs.Moving.{OwnedMoves}
-use Rattle.sc_owned.specs.State.{State}
+use Rattle.sc_owned.specs.State.{State, disk_at}
 use Rattle.sc_stats.specs.declared.counters.ServerStats.{ServerStats}
 
 err_ok : false ≡ true → ⊥
@@ -56,13 +57,13 @@ free_most n (WriteEnded a b) = omega arith
 free_most n (Sent a) = omega arith
 free_most n (TooLong a) = omega arith
 
-pub serves_event : (c j moment last : ℕ) (x : What) (d d2 : Kept) (state2 : State) (stats2 : ServerStats) (old new : Line) → j ≡ old.at → moment ≡ d.state.world.moment → last ≡ old.last
-    → Serves_one d.state.config d.state.world.moment d.free x old new → SaysCounted d.state.config.policy d.stats d.levels x
+pub serves_event : (c j moment last reserved : ℕ) (x : What) (d d2 : Kept) (state2 : State) (stats2 : ServerStats) (old new : Line) → j ≡ old.at → moment ≡ d.state.world.moment → last ≡ old.last → reserved ≡ old.reserved
+    → Serves_one d.state.config (disk_at d.state) (disk_at state2) d.state.world.moment d.free x old new → SaysCounted d.state.config.policy d.stats d.levels x
     → OwnedMoves d.state (need_at (setup d.state.config) (current (conn_of old)) old.phase) x state2 → state2.config ≡ d.state.config
     → stats2 ≡ count (zeroes x) d.stats (row (setup d.state.config) (current (conn_of old)) old.outcome d.state.world.moment x)
-    → d2 ≡ kept_after (record d { state = state2; stats = stats2 }) last moment x
+    → d2 ≡ kept_after (record d { state = state2; stats = stats2 }) last reserved moment x
     → ServesEvent c (record { moment = moment; owner = OfRequest c j; what = x }) d d2 old new
-serves_event c j moment last x d d2 state2 stats2 old new number now at one says moves same counted is_d2 =
+serves_event c j moment last reserved x d d2 state2 stats2 old new number now at since one says moves same counted is_d2 =
     let k = d.state.config in
     record {
       moment = now;
@@ -70,16 +71,17 @@ serves_event c j moment last x d d2 state2 stats2 old new number now at one says
         refl,
         record {
           number = number;
-          one = one;
+          one = subst (λ (e : Kept). Serves_one k (disk_at d.state) (disk_at e.state) d.state.world.moment d.free x old new) (sym is_d2) one;
           says = says;
           moves = subst (λ (e : Kept). OwnedMoves d.state (need_at (setup k) (current (conn_of old)) old.phase) x e.state) (sym is_d2) moves;
           config = ap (λ (e : Kept). e.state.config) is_d2 ∙ same;
           free = ap (λ (e : Kept). e.free) is_d2;
           levels = ap (λ (e : Kept). e.levels) is_d2
-              ∙ ap (λ (f : Config). counted_level f.policy (level_row Direct last 0 moment x) x d.levels) same
-              ∙ ap (λ (n : ℕ). counted_level k.policy (level_row Direct n 0 moment x) x d.levels) at
-              ∙ ap (λ (n : ℕ). counted_level k.policy (level_row Direct old.last 0 n x) x d.levels) now;
-          background = ap (λ (e : Kept). e.background) is_d2 ∙ ap (λ (n : ℕ). d.background ++ pend (hands d.handed n x)) now;
+              ∙ ap (λ (f : Config). counted_level f.policy (level_row Direct last reserved moment x) x d.levels) same
+              ∙ ap (λ (n : ℕ). counted_level k.policy (level_row Direct n reserved moment x) x d.levels) at
+              ∙ ap (λ (n : ℕ). counted_level k.policy (level_row Direct old.last n moment x) x d.levels) since
+              ∙ ap (λ (n : ℕ). counted_level k.policy (level_row Direct old.last old.reserved n x) x d.levels) now;
+          background = ap (λ (e : Kept). e.background) is_d2 ∙ ap (λ (n : ℕ). d.background ++ fresh_writes (pend (hands d.handed n x))) now;
           handed = ap (λ (e : Kept). e.handed) is_d2 ∙ ap (λ (n : ℕ). d.handed + length (hands d.handed n x)) now;
           stats = ap (λ (e : Kept). e.stats) is_d2 ∙ counted;
         },

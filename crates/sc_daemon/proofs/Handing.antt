@@ -1,83 +1,62 @@
 -- Writes that are handed on, as a daemon keeps them.
-use Rattle.std.proofs.Common.{◌≡◌, ℕ, zero, suc, ◌<◌, Bool, List, [], ◌∷◌, length, Option, Some, None, IfSome, OnSome, IsSome, get_or, drop, map, append_assoc, add-one, ◌+◌, ◌++◌, refl, ap, sym, ◌∙◌, arith, subst}
+use Rattle.std.proofs.Common.{◌≡◌, ℕ, zero, suc, ◌<◌, Bool, true, false, List, [], ◌∷◌, length, Option, Some, None, IfSome, IsSome, get_or, set, drop, map, append_assoc, add-one, ◌+◌, ◌++◌, refl, ap, sym, ◌∙◌, arith}
 use Rattle.std.specs.List.{remove}
-use Rattle.sc_daemon.specs.Backlogs.{without}
-use Rattle.sc_daemon.specs.Daemons.{DoesPending, Kept, WritesHanded}
-use Rattle.sc_job.specs.Setups.{Config}
-use Rattle.sc_model.specs.Machine.{counted_level, pending_at}
-use Rattle.sc_model.specs.Rows.{by_backfill, level_row}
+use Rattle.sc_daemon.specs.Backlogs.{Write, with_write, write_at}
 use Rattle.sc_model.specs.Trace.{numbered}
 use Rattle.sc_model.specs.declared.level.Handed.{Handed}
-use Rattle.sc_model.specs.declared.phase.Pending.{Pending}
-use Rattle.sc_model.specs.declared.event.Owner.TheVariants.{Write as OfWrite}
-use Rattle.sc_model.specs.declared.event.What.{What}
-use Rattle.sc_owned.specs.Moving.{OwnedMoves}
-use Rattle.sc_owned.specs.State.{State}
 
 pub numbered_count : (n m : ℕ) (b : Bool) (hs : List Handed) → length (numbered n m b hs) ≡ length hs
 numbered_count n m b [] = refl
 numbered_count n m b (h ∷ hs) = ap suc (numbered_count (suc n) m b hs)
 
-pub at_place : (ps : List Pending) (i : ℕ) (p : Pending) → i < length ps → p ≡ get_or ps i p → pending_at i ps ≡ Some p
-at_place [] i p lt is = absurd (omega arith)
-at_place (q ∷ ps) zero p lt is = ap (λ (x : Pending). Some x) (sym is)
-at_place (q ∷ ps) (suc i) p lt is = at_place ps i p (omega arith) is
+pub at_place : (ws : List Write) (i : ℕ) (w : Write) → i < length ws → w ≡ get_or ws i w → write_at i ws ≡ Some w
+at_place [] i w lt is = absurd (omega (arith, lt))
+at_place (v ∷ ws) zero w lt is = ap (λ (x : Write). Some x) (sym is)
+at_place (v ∷ ws) (suc i) w lt is = at_place ws i w (omega (arith, lt)) is
 
 -- a look at a place
-pub got : {A : Type 0} (now : A → Pending) (ps : List Pending) (i : ℕ) (o : Option A) → (IsSome o → i < length ps) → IfSome o (λ x. now x ≡ get_or ps i (now x))
-    → IfSome o (λ x. pending_at i ps ≡ Some (now x))
-got now ps i None lt h = tt
-got now ps i (Some x) lt h = at_place ps i (now x) (lt refl) h
+pub got : {A : Type 0} (now : A → Write) (ws : List Write) (i : ℕ) (o : Option A) → (IsSome o → i < length ws) → IfSome o (λ x. now x ≡ get_or ws i (now x))
+    → IfSome o (λ x. write_at i ws ≡ Some (now x))
+got now ws i None lt h = tt
+got now ws i (Some x) lt h = at_place ws i (now x) (lt refl) h
 
-from_place : (ps : List Pending) (i : ℕ) (p : Pending) → pending_at i ps ≡ Some p → drop i ps ≡ p ∷ drop (suc i) ps
-from_place [] i p e = absurd (cc)
-from_place (q ∷ ps) zero p e = let same : q ≡ p = cc in ap (λ (x : Pending). x ∷ ps) same
-from_place (q ∷ ps) (suc i) p e = from_place ps i p e
+from_place : (ws : List Write) (i : ℕ) (w : Write) → write_at i ws ≡ Some w → drop i ws ≡ w ∷ drop (suc i) ws
+from_place [] i w e = absurd (cc)
+from_place (v ∷ ws) zero w e = let same : v ≡ w = cc in ap (λ (x : Write). x ∷ ws) same
+from_place (v ∷ ws) (suc i) w e = from_place ws i w e
 
 -- one more is listed
-pub one_listed : (left : List Handed) (ps : List Pending) (i : ℕ) (p : Pending) → pending_at i ps ≡ Some p
-    → left ++ map (λ (q : Pending). q.handed) (drop i ps) ≡ map (λ (q : Pending). q.handed) ps
-    → (left ++ (p.handed ∷ [])) ++ map (λ (q : Pending). q.handed) (drop (i + 1) ps) ≡ map (λ (q : Pending). q.handed) ps
-one_listed left ps i p at e =
-    append_assoc left (p.handed ∷ []) (map (λ (q : Pending). q.handed) (drop (i + 1) ps))
-    ∙ ap (λ (n : ℕ). left ++ (p.handed ∷ map (λ (q : Pending). q.handed) (drop n ps))) (add-one i)
-    ∙ ap (λ (qs : List Pending). left ++ map (λ (q : Pending). q.handed) qs) (sym (from_place ps i p at))
+pub one_listed : (left : List Handed) (ws : List Write) (i : ℕ) (w : Write) → write_at i ws ≡ Some w
+    → left ++ map (λ (v : Write). v.pending.handed) (drop i ws) ≡ map (λ (v : Write). v.pending.handed) ws
+    → (left ++ (w.pending.handed ∷ [])) ++ map (λ (v : Write). v.pending.handed) (drop (i + 1) ws) ≡ map (λ (v : Write). v.pending.handed) ws
+one_listed left ws i w at e =
+    append_assoc left (w.pending.handed ∷ []) (map (λ (v : Write). v.pending.handed) (drop (i + 1) ws))
+    ∙ ap (λ (n : ℕ). left ++ (w.pending.handed ∷ map (λ (v : Write). v.pending.handed) (drop n ws))) (add-one i)
+    ∙ ap (λ (vs : List Write). left ++ map (λ (v : Write). v.pending.handed) vs) (sym (from_place ws i w at))
     ∙ e
 
-pub removed : (ps : List Pending) (i : ℕ) → remove ps i ≡ without i ps
-removed [] zero = refl
-removed [] (suc i) = refl
-removed (p ∷ ps) zero = refl
-removed (p ∷ ps) (suc i) = ap (λ (qs : List Pending). p ∷ qs) (removed ps i)
+-- one of them goes on
+pub went_on : (ws : List Write) (i : ℕ) (w : Write) → set ws i w ≡ with_write i false w ws
+went_on [] i w = refl
+went_on (v ∷ ws) zero w = refl
+went_on (v ∷ ws) (suc i) w = ap (λ (vs : List Write). v ∷ vs) (went_on ws i w)
 
--- one is taken out
-pub taken : (ps qs : List Pending) (i : ℕ) (o : Option Pending) → (IsSome o → i < length ps) → IfSome o (λ y. y ≡ get_or ps i y) → OnSome o (qs ≡ remove ps i)
-    → IfSome o (λ p. (pending_at i ps ≡ Some p) × (qs ≡ without i ps))
-taken ps qs i None lt h e = tt
-taken ps qs i (Some p) lt h e = (at_place ps i p (lt refl) h, e ∙ removed ps i)
+-- or is done, and goes
+pub was_done : (ws : List Write) (i : ℕ) (w : Write) → remove (set ws i w) i ≡ with_write i true w ws
+was_done [] zero w = refl
+was_done [] (suc i) w = refl
+was_done (v ∷ ws) zero w = refl
+was_done (v ∷ ws) (suc i) w = ap (λ (vs : List Write). v ∷ vs) (was_done ws i w)
 
--- a handed write was written, and then counted
-pub pending_done : (p : Pending) (m : ℕ) (x : What) (o w v : Kept) → m ≡ o.state.world.moment → WritesHanded p.handed x o w
-    → v ≡ record w { levels = counted_level w.state.config.policy (level_row (by_backfill p.backfill p.at) 0 p.since m x) x w.levels }
-    → DoesPending p (record { moment = m; owner = OfWrite p.number; what = x }) o v
-pending_done p m x o w v now written counted =
-    let row = level_row (by_backfill p.backfill p.at) 0 p.since m x in
-    let same = written.same in
-    let levels : counted_level w.state.config.policy row x w.levels ≡ counted_level o.state.config.policy row x o.levels =
-    λ i. counted_level (ap (λ (c : Config). c.policy) written.config i) row x (ap (λ (k : Kept). k.levels) same i) in
-    record {
-      moment = now;
-      owner = refl;
-      how = written.how;
-      what = written.what;
-      moves = λ n. subst (λ (s : State). OwnedMoves o.state n x s) (ap (λ (k : Kept). k.state) (sym counted)) (written.moves n);
-      config = ap (λ (k : Kept). k.state.config) counted ∙ written.config;
-      same = λ i. record {
-        state = v.state;
-        stats = (ap (λ (k : Kept). k.stats) counted ∙ ap (λ (k : Kept). k.stats) same) i;
-        free = (ap (λ (k : Kept). k.free) counted ∙ ap (λ (k : Kept). k.free) same) i;
-        levels = (ap (λ (k : Kept). k.levels) counted ∙ levels) i;
-        background = (ap (λ (k : Kept). k.background) counted ∙ ap (λ (k : Kept). k.background) same) i;
-        handed = (ap (λ (k : Kept). k.handed) counted ∙ ap (λ (k : Kept). k.handed) same) i;
-      };
-    }
+-- the write at a place went on, or is done
+pub went : (ws ws2 new : List Write) (i : ℕ) (w : Write) (done ends : Bool) → done ≡ ends → ws2 ≡ set ws i w → (done ≡ true → new ≡ remove ws2 i) → (done ≡ false → new ≡ ws2) → new ≡ with_write i ends w ws
+went ws ws2 new i w done true is put goes stays = goes is ∙ ap (λ (vs : List Write). remove vs i) put ∙ was_done ws i w
+went ws ws2 new i w done false is put goes stays = stays is ∙ put ∙ went_on ws i w
+
+pub place_within : (ws : List Write) (i : ℕ) (w : Write) → write_at i ws ≡ Some w → i < length ws
+place_within [] i w e = absurd (cc)
+place_within (v ∷ ws) zero w e = omega arith
+place_within (v ∷ ws) (suc i) w e = let later : i < length ws = place_within ws i w e in omega (arith, later)
+
+pub same_write : (ws : List Write) (i : ℕ) (v w : Write) → write_at i ws ≡ Some v → write_at i ws ≡ Some w → v ≡ w
+same_write ws i v w a b = cc

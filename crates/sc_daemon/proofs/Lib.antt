@@ -3,7 +3,12 @@ pub mod Counted
 pub mod Driving
 pub mod Firsts
 pub mod Handing
+pub mod Leaving
 pub mod Machines
 pub mod Plain
 pub mod Serving
+pub mod Staying
 pub mod Stepping
+pub mod Tying
+pub mod Writes
+pub mod Backing

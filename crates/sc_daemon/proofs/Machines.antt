@@ -1,38 +1,39 @@
 -- What a step of a drive is to the machine.
-use Rattle.std.proofs.Common.{◌≡◌, ℕ, zero, suc, ◌+◌, ◌<◌, ◌≤◌, ◌⊎◌, inl, inr, true, false, Some, refl, List, [], ◌∷◌, ◌++◌, length, take, drop, map, set, get_or, sym, ap, ◌∙◌, subst}
-use Rattle.std.proofs.lemmas.List.{get_or-map, length-map, map-set, set-get_or}
+use Rattle.std.proofs.Common.{◌≡◌, ℕ, zero, suc, ◌+◌, ◌<◌, ◌≤◌, ◌⊎◌, inl, inr, Bool, true, false, Some, refl, List, [], ◌∷◌, ◌++◌, length, take, drop, map, set, get_or, sym, ap, ◌∙◌, subst}
+use Rattle.std.proofs.lemmas.List.{get_or-map, length-map, map-append, map-set, set-get_or}
 use Rattle.sc_conn.proofs.Inboxes.{ends_are, more_is}
-use Rattle.sc_daemon.specs.Backlogs.{ArePending, IsPending, without}
-use Rattle.sc_daemon.specs.Daemons.{BacksEvent, DoesPending, Kept, ReadsWhat, ServesAt, ServesWhat, idle_event, machine_of}
+use Rattle.sc_daemon.specs.Backlogs.{Write, fresh_writes, pending_of, put_write, stepped, with_write, write_at}
+use Rattle.sc_daemon.specs.Daemons.{BacksAt, BacksEvent, Kept, ReadsWhat, ServesAt, ServesWhat, idle_event, machine_of}
 use Rattle.sc_daemon.specs.Lines.{IsDone, Line, conn_of}
 use Rattle.sc_daemon.specs.Turns.{IsIdleLine, TakesMore}
-use Rattle.sc_daemon.proofs.Plain.{due_ended, due_takes, ended_due, reserves_nothing, says_counted, takes_due, ticked_still}
+use Rattle.sc_daemon.proofs.Plain.{due_ended, due_takes, ended_due, says_counted, takes_due, ticked_own}
 use Rattle.sc_job.specs.Setups.{setup}
-use Rattle.sc_model.specs.Follows.{Due, Fits, ToTake, ToWrite, bytes_in, kind_at}
-use Rattle.sc_model.specs.Machine.{Conn, DoesBack, DoesRead, DoesServe, Machine, Says, advanced, backed, conn, counted_level, current, due_at, due_pending, due_stage, free_after, more, need_at, new_conn, pend, pending_after, pending_at}
+use Rattle.sc_model.specs.Follows.{Fits, ToTake}
+use Rattle.sc_model.specs.Machine.{Conn, DoesBack, DoesRead, DoesServe, Machine, Says, advanced, backed, conn, counted_level, current, due_at, free_after, more, need_at, new_conn, pend, pending_after, pending_at, step_pending}
 use Rattle.sc_model.specs.Next.{Ended, at_moment, ticked}
 use Rattle.sc_model.specs.Rows.{Direct, count, level_row, row, zeroes}
 use Rattle.sc_model.specs.Script.{BadFrame, Script, Setup, input}
-use Rattle.sc_model.specs.Trace.{ends_write, hands, no_request, reserved_at, reserved_by}
-use Rattle.sc_model.specs.World.{Moves, World, need_of}
+use Rattle.sc_model.specs.Trace.{Open, ends_write, hands, no_request, reserved_at, reserved_by}
+use Rattle.sc_model.specs.World.{Moves, Need, World, need_of}
 use Rattle.sc_model.specs.declared.event.Event.{Event}
-use Rattle.sc_model.specs.declared.event.Mode.TheVariants.{Whole}
 use Rattle.sc_model.specs.declared.event.Owner.{Owner}
 use Rattle.sc_model.specs.declared.event.Owner.TheVariants.{Nobody, Request as OfRequest, Write as OfWrite}
 use Rattle.sc_model.specs.declared.event.What.{What}
-use Rattle.sc_model.specs.declared.event.What.TheVariants.{Closed, Idle, Taken, Wrote}
-use Rattle.sc_model.specs.declared.level.LevelKind.{LevelKind}
-use Rattle.sc_model.specs.declared.level.LevelKind.TheVariants.{Remote}
-use Rattle.sc_model.specs.declared.phase.Bytes.{Bytes}
+use Rattle.sc_model.specs.declared.event.What.TheVariants.{Closed, Idle, Taken}
 use Rattle.sc_model.specs.declared.phase.Pending.{Pending}
-use Rattle.sc_model.specs.declared.phase.Stage.{Stage}
-use Rattle.sc_model.specs.declared.phase.Stage.TheVariants.{Fresh}
-use Rattle.sc_owned.specs.Laws.{remote_levels}
+use Rattle.sc_owned.specs.State.{reserved_in}
 use Rattle.sc_wire.specs.Streams.{served_reader}
 
 -- the connection of that number
-conn_at : (d : Kept) (lines : List Line) (c : ℕ) (l : Line) → c < length lines → conn (machine_of d lines) c ≡ conn_of (get_or lines c l)
-conn_at d lines c l lt = get_or-map conn_of lines c l new_conn lt
+conn_at : (d : Kept) (lines : List Line) (opens : List Open) (c : ℕ) (l : Line) → c < length lines → conn (machine_of d lines opens) c ≡ conn_of (get_or lines c l)
+conn_at d lines opens c l lt = get_or-map conn_of lines c l new_conn lt
+
+-- as much is reserved at each level as the reservations say
+same_reserved : (opens : List Open) (f : ℕ → ℕ) → ((l : ℕ) → reserved_at l opens ≡ f l) → f ≡ (λ l. reserved_at l opens)
+same_reserved opens f same = λ i l. sym (same l) i
+
+moves_by : (s : Setup) (n : Need) (opens : List Open) (f : ℕ → ℕ) (x : What) (w w2 : World) → ((l : ℕ) → reserved_at l opens ≡ f l) → Moves s n f x w w2 → Moves s n (λ l. reserved_at l opens) x w w2
+moves_by s n opens f x w w2 same moves = subst (λ (r : ℕ → ℕ). Moves s n r x w w2) (same_reserved opens f same) moves
 
 -- an event of the connection K, as the machine does it
 abbrev served_by : Setup → Machine → ℕ → Conn → ℕ → What → World → Machine
@@ -53,34 +54,42 @@ ServesBy s m c z e j x m2 k =
     × (due_at s (current k) k.phase ≡ ToTake → 0 < m.free) × Says s m x
     × ((w : World) × Moves s (need_at s (current k) k.phase) (λ l. reserved_at l m.reserved) x (at_moment m.world (ticked m.world.moment x)) w × (m2 ≡ served_by s m c k z x w))
 
+fresh_pending : (ps : List Pending) → map pending_of (fresh_writes ps) ≡ ps
+fresh_pending [] = refl
+fresh_pending (p ∷ ps) = ap (λ (qs : List Pending). p ∷ qs) (fresh_pending ps)
+
 -- all that the event leaves
-left_is : (c j : ℕ) (x : What) (d d2 : Kept) (lines : List Line) (old new : Line) → ServesAt c j x d d2 old new
-    → machine_of d2 (set lines c new) ≡ served_by (setup d.state.config) (machine_of d lines) c (conn_of old) d.state.world.moment x d2.state.world
-left_is c j x d d2 lines old new at =
+left_is : (c j : ℕ) (x : What) (d d2 : Kept) (lines : List Line) (opens : List Open) (old new : Line) → ServesAt c j x d d2 old new
+    → machine_of d2 (set lines c new) (reserved_by (OfRequest c old.at) x opens) ≡ served_by (setup d.state.config) (machine_of d lines opens) c (conn_of old) d.state.world.moment x d2.state.world
+left_is c j x d d2 lines opens old new at =
     let s = setup d.state.config in
     let z = d.state.world.moment in
+    let more = pend (hands d.handed z x) in
     let conns = map-set conn_of lines c new ∙ ap (λ (k : Conn). set (map conn_of lines) c k) at.one.then in
-    let reserved : [] ≡ reserved_by (OfRequest c old.at) x [] = sym (reserves_nothing (OfRequest c old.at) x at.one.still) in
+    let background : map pending_of d2.background ≡ map pending_of d.background ++ more =
+    ap (λ (ws : List Write). map pending_of ws) at.background ∙ map-append pending_of d.background (fresh_writes more) ∙ ap (λ (ps : List Pending). map pending_of d.background ++ ps) (fresh_pending more) in
     λ i. record {
       conns = conns i;
       free = at.free i;
       stats = at.stats i;
       level_stats = at.levels i;
-      background = at.background i;
+      background = background i;
       handed = at.handed i;
-      reserved = reserved i;
+      reserved = reserved_by (OfRequest c old.at) x opens;
       world = d2.state.world;
     }
 
-served_does : (c e j : ℕ) (x : What) (d d2 : Kept) (lines : List Line) (l new : Line) → c < length lines → d.state.told ≡ true → e ≡ c
+served_does : (c e j : ℕ) (x : What) (d d2 : Kept) (lines : List Line) (opens : List Open) (l new : Line) → c < length lines → d.state.told ≡ true → ((n : ℕ) → reserved_at n opens ≡ reserved_in d.state n) → e ≡ c
     → ServesAt c j x d d2 (get_or lines c l) new
-    → DoesServe (setup d.state.config) (machine_of d lines) c d.state.world.moment (OfRequest e j) x (machine_of d2 (set lines c new))
-served_does c e j x d d2 lines l new lt told same at =
+    → DoesServe (setup d.state.config) (machine_of d lines opens) c d.state.world.moment (OfRequest e j) x (machine_of d2 (set lines c new) (reserved_by (OfRequest e j) x opens))
+served_does c e j x d d2 lines opens l new lt told tied same at =
     let s = setup d.state.config in
-    let m = machine_of d lines in
-    let m2 = machine_of d2 (set lines c new) in
+    let m = machine_of d lines opens in
+    let m2 = machine_of d2 (set lines c new) (reserved_by (OfRequest e j) x opens) in
     let old = get_or lines c l in
-    subst (λ (k : Conn). ServesBy s m c d.state.world.moment e j x m2 k) (sym (conn_at d lines c l lt)) (
+    let n = need_at s (current (conn_of old)) old.phase in
+    let owner : reserved_by (OfRequest e j) x opens ≡ reserved_by (OfRequest c old.at) x opens = λ i. reserved_by (OfRequest (same i) (at.number i)) x opens in
+    subst (λ (k : Conn). ServesBy s m c d.state.world.moment e j x m2 k) (sym (conn_at d lines opens c l lt)) (
       same,
       subst (λ (n : ℕ). c < n) (sym (length-map lines conn_of)) lt,
       at.number,
@@ -90,8 +99,8 @@ served_does c e j x d d2 lines l new lt told same at =
       says_counted s m x at.says,
       (
         d2.state.world,
-        subst (λ (n : ℕ). Moves s (need_at s (current (conn_of old)) old.phase) (λ l. 0) x (at_moment d.state.world n) d2.state.world) (sym (ticked_still d.state.world.moment x at.one.still)) (at.moves.1 told),
-        left_is c j x d d2 lines old new at,
+        subst (λ (z : ℕ). Moves s n (λ l. reserved_at l opens) x (at_moment d.state.world z) d2.state.world) (sym (ticked_own d.state.world.moment x at.one.own)) (moves_by s n opens (reserved_in d.state) x d.state.world d2.state.world tied (at.moves.1 told)),
+        ap (λ (r : List Open). machine_of d2 (set lines c new) r) owner ∙ left_is c j x d d2 lines opens old new at,
       ),
     )
 
@@ -104,18 +113,18 @@ idle_by s free l (inl (inl none)) = inl (inl none)
 idle_by s free l (inl (inr (some, ended))) = inl (inr (some, ended_due s (current (conn_of l)) l.phase ended))
 idle_by s free l (inr (some, takes, none)) = inr (some, takes_due s (current (conn_of l)) l.phase takes, none)
 
-pub serve_does : (c z : ℕ) (o : Owner) (x : What) (d d2 : Kept) (lines : List Line) (l new : Line) → c < length lines → d.state.told ≡ true → z ≡ d.state.world.moment
+pub serve_does : (c z : ℕ) (o : Owner) (x : What) (d d2 : Kept) (lines : List Line) (opens : List Open) (l new : Line) → c < length lines → d.state.told ≡ true → ((n : ℕ) → reserved_at n opens ≡ reserved_in d.state n) → z ≡ d.state.world.moment
     → ServesWhat c o x d d2 (get_or lines c l) new
-    → DoesServe (setup d.state.config) (machine_of d lines) c z o x (machine_of d2 (set lines c new))
-serve_does c z (OfRequest e j) x d d2 lines l new lt told now (same, at) =
-    subst (λ (n : ℕ). DoesServe (setup d.state.config) (machine_of d lines) c n (OfRequest e j) x (machine_of d2 (set lines c new))) (sym now)
-    (served_does c e j x d d2 lines l new lt told same at)
-serve_does c z Nobody Idle d d2 lines l new lt told now (idle, kept, stays) = (
-  subst (λ (k : Conn). IdleBy (setup d.state.config) d.free k) (sym (conn_at d lines c l lt)) (idle_by (setup d.state.config) d.free (get_or lines c l) idle),
-  ap (λ (e : Kept). machine_of e (set lines c new)) kept ∙ ap (λ (n : Line). machine_of d (set lines c n)) stays ∙ ap (machine_of d) (set-get_or lines c l),
+    → DoesServe (setup d.state.config) (machine_of d lines opens) c z o x (machine_of d2 (set lines c new) (reserved_by o x opens))
+serve_does c z (OfRequest e j) x d d2 lines opens l new lt told tied now (same, at) =
+    subst (λ (n : ℕ). DoesServe (setup d.state.config) (machine_of d lines opens) c n (OfRequest e j) x (machine_of d2 (set lines c new) (reserved_by (OfRequest e j) x opens))) (sym now)
+    (served_does c e j x d d2 lines opens l new lt told tied same at)
+serve_does c z Nobody Idle d d2 lines opens l new lt told tied now (idle, kept, stays) = (
+  subst (λ (k : Conn). IdleBy (setup d.state.config) d.free k) (sym (conn_at d lines opens c l lt)) (idle_by (setup d.state.config) d.free (get_or lines c l) idle),
+  ap (λ (e : Kept). machine_of e (set lines c new) opens) kept ∙ ap (λ (n : Line). machine_of d (set lines c n) opens) stays ∙ ap (λ (ls : List Line). machine_of d ls opens) (set-get_or lines c l),
 )
-serve_does c z Nobody _ d d2 lines l new lt told now serves = absurd serves
-serve_does c z (OfWrite n) _ d d2 lines l new lt told now serves = absurd serves
+serve_does c z Nobody _ d d2 lines opens l new lt told tied now serves = absurd serves
+serve_does c z (OfWrite n) _ d d2 lines opens l new lt told tied now serves = absurd serves
 
 -- nothing more is read
 abbrev NoMoreBy : Script → Conn → Type 0
@@ -147,101 +156,99 @@ ReadsBy s m c n b g Nobody (Closed d) m2 k =
 ReadsBy s m c n b g o x m2 k = ⊥
 
 -- the connections after one of them changed
-conns_are : (d : Kept) (lines : List Line) (c : ℕ) (new : Line) (k : Conn) → conn_of new ≡ k → machine_of d (set lines c new) ≡ record (machine_of d lines) { conns = set (map conn_of lines) c k }
-conns_are d lines c new k is_k =
+conns_are : (d : Kept) (lines : List Line) (opens : List Open) (c : ℕ) (new : Line) (k : Conn) → conn_of new ≡ k → machine_of d (set lines c new) opens ≡ record (machine_of d lines opens) { conns = set (map conn_of lines) c k }
+conns_are d lines opens c new k is_k =
     let conns = map-set conn_of lines c new ∙ ap (λ (x : Conn). set (map conn_of lines) c x) is_k in
-    λ i. record (machine_of d lines) { conns = conns i }
+    λ i. record (machine_of d lines opens) { conns = conns i }
 
-pub read_does : (s : Script) (c n : ℕ) (o : Owner) (x : What) (d : Kept) (lines : List Line) (l new : Line) → c < length lines → s.reader ≡ served_reader (get_or lines c l).limit
+pub read_does : (s : Script) (c n : ℕ) (o : Owner) (x : What) (d : Kept) (lines : List Line) (opens : List Open) (l new : Line) → c < length lines → s.reader ≡ served_reader (get_or lines c l).limit
     → o ≡ Nobody → ReadsWhat c (input s c) n x (get_or lines c l) new
-    → DoesRead s (machine_of d lines) c n o x (machine_of d (set lines c new))
-read_does s c n o x d lines l new lt reads nobody what =
-    subst (λ (p : Owner). DoesRead s (machine_of d lines) c n p x (machine_of d (set lines c new))) (sym nobody) (by_nobody x what)
+    → DoesRead s (machine_of d lines opens) c n o x (machine_of d (set lines c new) opens)
+read_does s c n o x d lines opens l new lt reads nobody what =
+    subst (λ (p : Owner). DoesRead s (machine_of d lines opens) c n p x (machine_of d (set lines c new) opens)) (sym nobody) (by_nobody x what)
   where
     m : Machine
-    m = machine_of d lines
+    m = machine_of d lines opens
 
     old : Line
     old = get_or lines c l
 
     at : conn m c ≡ conn_of old
-    at = conn_at d lines c l lt
+    at = conn_at d lines opens c l lt
 
     there : c < length m.conns
     there = subst (λ (k : ℕ). c < k) (sym (length-map lines conn_of)) lt
 
-    by_nobody : (x : What) → ReadsWhat c (input s c) n x old new → DoesRead s m c n Nobody x (machine_of d (set lines c new))
-    by_nobody Idle (inl none, stays) = (inl (inl none), ap (λ (k : Line). machine_of d (set lines c k)) stays ∙ ap (machine_of d) (set-get_or lines c l))
-    by_nobody Idle (inr done, stays) = (inr (subst (NoMoreBy s) (sym at) (no_more s old reads done)), ap (λ (k : Line). machine_of d (set lines c k)) stays ∙ ap (machine_of d) (set-get_or lines c l))
-    by_nobody (Taken e bytes) (same, (open_still, bytes_are, some, takes)) =
-        subst (ReadsBy s m c n (input s c) 0 Nobody (Taken e bytes) (machine_of d (set lines c new))) (sym at)
-        (same, there, (λ h. open_still (is_done s old reads h)), bytes_are, some, conns_are d lines c new (more s (conn_of old) bytes) (more_comes s old new bytes reads takes))
-    by_nobody (Closed e) (same, (open_still, some, all, closed)) =
-        subst (ReadsBy s m c n (input s c) 0 Nobody (Closed e) (machine_of d (set lines c new))) (sym at)
-        (same, there, (λ h. open_still (is_done s old reads h)), some, all, conns_are d lines c new (record (conn_of old) { closed = true }) (ap conn_of closed))
+    same : new ≡ old → machine_of d (set lines c new) opens ≡ m
+    same stays = ap (λ (k : Line). machine_of d (set lines c k) opens) stays ∙ ap (λ (ls : List Line). machine_of d ls opens) (set-get_or lines c l)
+
+    by_nobody : (x : What) → ReadsWhat c (input s c) n x old new → DoesRead s m c n Nobody x (machine_of d (set lines c new) opens)
+    by_nobody Idle (inl none, stays) = (inl (inl none), same stays)
+    by_nobody Idle (inr done, stays) = (inr (subst (NoMoreBy s) (sym at) (no_more s old reads done)), same stays)
+    by_nobody (Taken e bytes) (is_c, (open_still, bytes_are, some, takes)) =
+        subst (ReadsBy s m c n (input s c) 0 Nobody (Taken e bytes) (machine_of d (set lines c new) opens)) (sym at)
+        (is_c, there, (λ h. open_still (is_done s old reads h)), bytes_are, some, conns_are d lines opens c new (more s (conn_of old) bytes) (more_comes s old new bytes reads takes))
+    by_nobody (Closed e) (is_c, (open_still, some, all, closed)) =
+        subst (ReadsBy s m c n (input s c) 0 Nobody (Closed e) (machine_of d (set lines c new) opens)) (sym at)
+        (is_c, there, (λ h. open_still (is_done s old reads h)), some, all, conns_are d lines opens c new (record (conn_of old) { closed = true }) (ap conn_of closed))
     by_nobody _ h = absurd h
 
--- a handed write that was taken out
-taken_out : (i m : ℕ) (x : What) (ps : List Pending) → pending_after true i m x ps ≡ without i ps
-taken_out i m x [] = refl
-taken_out zero m x (p ∷ ps) = refl
-taken_out (suc i) m x (p ∷ ps) = ap (λ (qs : List Pending). p ∷ qs) (taken_out i m x ps)
+-- a handed write that went on, or is done
+pending_at_map : (i : ℕ) (ws : List Write) (w : Write) → write_at i ws ≡ Some w → pending_at i (map pending_of ws) ≡ Some w.pending
+pending_at_map i [] w at = absurd (cc)
+pending_at_map zero (v ∷ ws) w at = let same : v ≡ w = cc in ap (λ (x : Write). Some x.pending) same
+pending_at_map (suc i) (v ∷ ws) w at = pending_at_map i ws w at
 
-fresh_write : (stage : Stage) (kind : LevelKind) (l : ℕ) (b : Bytes) → stage ≡ Fresh → kind ≡ Remote → due_stage stage kind l b ≡ ToWrite Whole l b
-fresh_write stage kind l b fresh remote = rw (fresh, remote) refl
+stepped_here : (done : Bool) (m : ℕ) (x : What) (v then : Write) (ws : List Write) → then.pending ≡ stepped m x v.pending → map pending_of (put_write done then ws) ≡ step_pending done v.pending m x (map pending_of ws)
+stepped_here true m x v then ws is = refl
+stepped_here false m x v then ws is = ap (λ (p : Pending). p ∷ map pending_of ws) is
 
-backed_by : (d d2 : Kept) (lines : List Line) (i : ℕ) (p : Pending) (e : Event) → DoesPending p e (record d { background = without i d.background }) d2
-    → machine_of d2 lines ≡ backed (setup d.state.config) (machine_of d lines) i p e.moment e.what d2.state.world
-backed_by d d2 lines i p e does =
-    let bytes : d2.background ≡ pending_after (ends_write e.what) i e.moment e.what d.background =
-    ap (λ (k : Kept). k.background) does.same
-    ∙ sym (taken_out i e.moment e.what d.background)
-    ∙ ap (λ (x : What). pending_after (ends_write x) i e.moment e.what d.background) (sym does.what) in
-    let reserved : [] ≡ reserved_by (OfWrite p.number) e.what [] = ap (λ (x : What). reserved_by (OfWrite p.number) x []) (sym does.what) in
+stepped_at : (i : ℕ) (done : Bool) (m : ℕ) (x : What) (w then : Write) (ws : List Write) → write_at i ws ≡ Some w → then.pending ≡ stepped m x w.pending → map pending_of (with_write i done then ws) ≡ pending_after done i m x (map pending_of ws)
+stepped_at i done m x w then [] at is = absurd (cc)
+stepped_at zero done m x w then (v ∷ ws) at is = let same : v ≡ w = cc in stepped_here done m x v then ws (is ∙ ap (λ (u : Write). stepped m x u.pending) (sym same))
+stepped_at (suc i) done m x w then (v ∷ ws) at is = ap (λ (ps : List Pending). v.pending ∷ ps) (stepped_at i done m x w then ws at is)
+
+backed_by : (d d2 : Kept) (lines : List Line) (opens : List Open) (i : ℕ) (w : Write) (e : Event) → write_at i d.background ≡ Some w → BacksAt i w e d d2
+    → machine_of d2 lines (reserved_by (OfWrite w.pending.number) e.what opens) ≡ backed (setup d.state.config) (machine_of d lines opens) i w.pending e.moment e.what d2.state.world
+backed_by d d2 lines opens i w e at backs =
+    let stepped_now : backs.then.pending ≡ stepped e.moment e.what w.pending = backs.advances.pending ∙ ap (λ (z : ℕ). stepped z e.what w.pending) (sym backs.moment) in
+    let background : map pending_of d2.background ≡ pending_after (ends_write e.what) i e.moment e.what (map pending_of d.background) =
+    ap (λ (k : Kept). map pending_of k.background) backs.same ∙ stepped_at i (ends_write e.what) e.moment e.what w backs.then d.background at stepped_now in
     λ j. record {
       conns = map conn_of lines;
-      free = ap (λ (k : Kept). k.free) does.same j;
-      stats = ap (λ (k : Kept). k.stats) does.same j;
-      level_stats = ap (λ (k : Kept). k.levels) does.same j;
-      background = bytes j;
-      handed = ap (λ (k : Kept). k.handed) does.same j;
-      reserved = reserved j;
+      free = ap (λ (k : Kept). k.free) backs.same j;
+      stats = ap (λ (k : Kept). k.stats) backs.same j;
+      level_stats = ap (λ (k : Kept). k.levels) backs.same j;
+      background = background j;
+      handed = ap (λ (k : Kept). k.handed) backs.same j;
+      reserved = reserved_by (OfWrite w.pending.number) e.what opens;
       world = d2.state.world;
     }
 
-pub pending_is : (n i : ℕ) (ps : List Pending) (p : Pending) → pending_at i ps ≡ Some p → ArePending n ps → IsPending n p
-pending_is n i [] p e are = absurd (cc)
-pending_is n zero (q ∷ ps) p e are = let same : q ≡ p = cc in subst (IsPending n) same are.0
-pending_is n (suc i) (q ∷ ps) p e are = pending_is n i ps p e are.1
-
-written_does : (d d2 : Kept) (lines : List Line) (i : ℕ) (p : Pending) (e : Event) → d.state.told ≡ true → pending_at i d.background ≡ Some p → IsPending (length d.state.config.levels) p
-    → DoesPending p e (record d { background = without i d.background }) d2
-    → DoesBack (setup d.state.config) (machine_of d lines) i e.moment (OfWrite p.number) e.what (machine_of d2 lines)
-written_does d d2 lines i p e told at is does =
+written_does : (d d2 : Kept) (lines : List Line) (opens : List Open) (i : ℕ) (w : Write) (e : Event) → d.state.told ≡ true → ((n : ℕ) → reserved_at n opens ≡ reserved_in d.state n) → write_at i d.background ≡ Some w → BacksAt i w e d d2
+    → DoesBack (setup d.state.config) (machine_of d lines opens) i e.moment (OfWrite w.pending.number) e.what (machine_of d2 lines (reserved_by (OfWrite w.pending.number) e.what opens))
+written_does d d2 lines opens i w e told tied at backs =
     let s = setup d.state.config in
-    let h = p.handed in
-    let n = need_of s no_request [] in
-    let due : due_stage p.stage (kind_at s.levels h.level) h.level (bytes_in h) ≡ ToWrite Whole h.level (bytes_in h) = fresh_write p.stage (kind_at s.levels h.level) h.level (bytes_in h) is.0 (remote_levels d.state h.level) in (
-      p,
-      at,
+    let n = need_of s no_request [] in (
+      w.pending,
+      pending_at_map i d.background w at,
       refl,
-      subst (λ (x : What). Fits s no_request (due_pending s.levels p) x) (sym does.what)
-          (subst (λ (u : Due). Fits s no_request u (Wrote h.level h.key h.bytes Whole h.marked does.how)) (sym due) (refl, refl, refl, refl, refl)),
+      backs.advances.fits,
       (
         d2.state.world,
-        subst (λ (z : ℕ). Moves s n (λ l. 0) e.what (at_moment d.state.world z) d2.state.world) (sym (ap (λ (x : What). ticked d.state.world.moment x) does.what)) ((does.moves n).1 told),
-        backed_by d d2 lines i p e does,
+        subst (λ (z : ℕ). Moves s n (λ l. reserved_at l opens) e.what (at_moment d.state.world z) d2.state.world) (sym (ticked_own d.state.world.moment e.what backs.advances.own))
+            (moves_by s n opens (reserved_in d.state) e.what d.state.world d2.state.world tied ((backs.moves n).1 told)),
+        backed_by d d2 lines opens i w e at backs,
       ),
     )
 
-idle_back : (d d2 : Kept) (lines : List Line) (i : ℕ) (e : Event) → length d.background ≤ i → e ≡ idle_event d → d2 ≡ d → DoesBack (setup d.state.config) (machine_of d lines) i e.moment e.owner e.what (machine_of d2 lines)
-idle_back d d2 lines i e past is_idle same =
-    subst (λ (x : Event). DoesBack (setup d.state.config) (machine_of d lines) i x.moment x.owner x.what (machine_of d2 lines)) (sym is_idle)
-    (past, ap (λ (k : Kept). machine_of k lines) same)
+pub idle_back : (d d2 : Kept) (lines : List Line) (opens : List Open) (i : ℕ) (e : Event) → length d.background ≤ i → e ≡ idle_event d → d2 ≡ d → DoesBack (setup d.state.config) (machine_of d lines opens) i e.moment e.owner e.what (machine_of d2 lines (reserved_by e.owner e.what opens))
+idle_back d d2 lines opens i e past is_idle same =
+    subst (λ (x : Event). DoesBack (setup d.state.config) (machine_of d lines opens) i x.moment x.owner x.what (machine_of d2 lines (reserved_by x.owner x.what opens))) (sym is_idle)
+    (subst (λ (n : ℕ). n ≤ i) (sym (length-map d.background pending_of)) past, ap (λ (k : Kept). machine_of k lines opens) same)
 
-pub back_does : (d d2 : Kept) (lines : List Line) (i : ℕ) (e : Event) → d.state.told ≡ true → ArePending (length d.state.config.levels) d.background → BacksEvent i e d d2
-    → DoesBack (setup d.state.config) (machine_of d lines) i e.moment e.owner e.what (machine_of d2 lines)
-back_does d d2 lines i e told are (inl (past, is_idle, same)) = idle_back d d2 lines i e past is_idle same
-back_does d d2 lines i e told are (inr (p, at, does)) =
-    subst (λ (o : Owner). DoesBack (setup d.state.config) (machine_of d lines) i e.moment o e.what (machine_of d2 lines)) (sym does.owner)
-    (written_does d d2 lines i p e told at (pending_is (length d.state.config.levels) i d.background p at are) does)
+pub write_does : (d d2 : Kept) (lines : List Line) (opens : List Open) (i : ℕ) (w : Write) (e : Event) → d.state.told ≡ true → ((n : ℕ) → reserved_at n opens ≡ reserved_in d.state n) → write_at i d.background ≡ Some w → BacksAt i w e d d2
+    → DoesBack (setup d.state.config) (machine_of d lines opens) i e.moment e.owner e.what (machine_of d2 lines (reserved_by e.owner e.what opens))
+write_does d d2 lines opens i w e told tied at backs =
+    subst (λ (o : Owner). DoesBack (setup d.state.config) (machine_of d lines opens) i e.moment o e.what (machine_of d2 lines (reserved_by o e.what opens))) (sym backs.owner)
+    (written_does d d2 lines opens i w e told tied at backs)

@@ -1,6 +1,7 @@
 -- What a served event is, and what is due at a phase.
 use Rattle.std.proofs.Common.{◌≡◌, ℕ, List, [], ◌∷◌, refl}
-use Rattle.sc_action.specs.Telling.{IsStill, SaysCounted}
+use Rattle.sc_action.specs.Hands.{IsOwn}
+use Rattle.sc_action.specs.Telling.{SaysCounted}
 use Rattle.sc_daemon.specs.Standings.{standing_of}
 use Rattle.sc_daemon.specs.declared.standing.Standing.TheVariants.{Ended as HasEnded, Takes}
 use Rattle.sc_model.specs.Follows.{Due, ToReserve, ToTake, ToWrite, start_write}
@@ -8,12 +9,10 @@ use Rattle.sc_model.specs.Machine.{Machine, Says, due_at}
 use Rattle.sc_model.specs.Next.{Ended, ticked}
 use Rattle.sc_model.specs.Plan.{level_facts}
 use Rattle.sc_model.specs.Script.{Setup}
-use Rattle.sc_model.specs.Trace.{reserved_by}
 use Rattle.sc_model.specs.declared.event.Answer.{Answer}
 use Rattle.sc_model.specs.declared.event.Answer.TheVariants.{Found, Hit, Miss, Refused, Size as SizeIs}
 use Rattle.sc_model.specs.declared.event.Mode.{Mode}
 use Rattle.sc_model.specs.declared.event.Mode.TheVariants.{Path, Pre, Raw, Size as Sizes, Whole}
-use Rattle.sc_model.specs.declared.event.Owner.{Owner}
 use Rattle.sc_model.specs.declared.event.Told.{Told}
 use Rattle.sc_model.specs.declared.event.Told.TheVariants.{Compile as TellsCompile, Dist as TellsDist, Handshake as TellsHandshake, Nothing as TellsNothing, Stats as TellsStats, Valid as TellsValid}
 use Rattle.sc_model.specs.declared.event.What.{What}
@@ -27,48 +26,26 @@ use Rattle.sc_model.specs.declared.phase.Phase.{Phase}
 use Rattle.sc_model.specs.declared.phase.Phase.TheVariants.{AtAsk, AtBegin, AtCommit, AtDist, AtEnd, AtEnded, AtFill, AtFinish, AtKey, AtOver, AtPlace, AtRun, AtSend, AtStarted, AtStore, AtTake, AtWrite, PathAsk, PreAsk, PrePut, RawAsk, SizeAsk}
 
 -- time stands still
-pub ticked_still : (n : ℕ) (x : What) → IsStill x → ticked n x ≡ n
-ticked_still n Idle still = refl
-ticked_still n (Passed a) still = absurd still
-ticked_still n (Taken a b) still = refl
-ticked_still n (Closed a) still = refl
-ticked_still n (Began a b) still = refl
-ticked_still n (Keyed a b d) still = refl
-ticked_still n (Asked a b d f g) still = refl
-ticked_still n (Placed a) still = refl
-ticked_still n TokenTaken still = refl
-ticked_still n (Ran a) still = refl
-ticked_still n (Dist a) still = refl
-ticked_still n (Outcome a b) still = refl
-ticked_still n (Reserved a b d f) still = refl
-ticked_still n (Filled a b d f g) still = refl
-ticked_still n (Committed a b d f) still = refl
-ticked_still n (Wrote a b d f g h) still = refl
-ticked_still n (WriteEnded a b) still = refl
-ticked_still n (Sent a) still = refl
-ticked_still n (TooLong a) still = refl
-
--- nothing is reserved
-pub reserves_nothing : (o : Owner) (x : What) → IsStill x → reserved_by o x [] ≡ []
-reserves_nothing o Idle still = refl
-reserves_nothing o (Passed a) still = absurd still
-reserves_nothing o (Taken a b) still = refl
-reserves_nothing o (Closed a) still = refl
-reserves_nothing o (Began a b) still = refl
-reserves_nothing o (Keyed a b d) still = refl
-reserves_nothing o (Asked a b d f g) still = refl
-reserves_nothing o (Placed a) still = refl
-reserves_nothing o TokenTaken still = refl
-reserves_nothing o (Ran a) still = refl
-reserves_nothing o (Dist a) still = absurd still
-reserves_nothing o (Outcome a b) still = refl
-reserves_nothing o (Reserved a b d f) still = absurd still
-reserves_nothing o (Filled a b d f g) still = absurd still
-reserves_nothing o (Committed a b d f) still = absurd still
-reserves_nothing o (Wrote a b d f g h) still = refl
-reserves_nothing o (WriteEnded a b) still = refl
-reserves_nothing o (Sent a) still = refl
-reserves_nothing o (TooLong a) still = refl
+pub ticked_own : (n : ℕ) (x : What) → IsOwn x → ticked n x ≡ n
+ticked_own n Idle own = refl
+ticked_own n (Passed a) own = absurd own
+ticked_own n (Taken a b) own = refl
+ticked_own n (Closed a) own = refl
+ticked_own n (Began a b) own = refl
+ticked_own n (Keyed a b d) own = refl
+ticked_own n (Asked a b d f g) own = refl
+ticked_own n (Placed a) own = refl
+ticked_own n TokenTaken own = refl
+ticked_own n (Ran a) own = refl
+ticked_own n (Dist a) own = absurd own
+ticked_own n (Outcome a b) own = refl
+ticked_own n (Reserved a b d f) own = refl
+ticked_own n (Filled a b d f g) own = refl
+ticked_own n (Committed a b d f) own = refl
+ticked_own n (Wrote a b d f g h) own = refl
+ticked_own n (WriteEnded a b) own = refl
+ticked_own n (Sent a) own = refl
+ticked_own n (TooLong a) own = refl
 
 says_told : (s : Setup) (m : Machine) (q : Request) (told : Told) → SaysCounted s.policy m.stats m.level_stats (Began q told) → Says s m (Began q told)
 says_told s m q (TellsCompile p) says = tt

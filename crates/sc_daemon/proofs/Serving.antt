@@ -1,13 +1,15 @@
 -- A served request goes on.
-use Rattle.std.proofs.Common.{◌≡◌, ℕ, ◌<◌, List, [], ◌∷◌, ◌++◌, length, drop, arith, refl, sym, ap, ◌∙◌, subst}
-use Rattle.sc_action.specs.Telling.{IsStill}
-use Rattle.sc_action.specs.Serves.{Serves, Stands}
-use Rattle.sc_action.specs.declared.acted.Acted.{Acted}
-use Rattle.sc_daemon.specs.Lines.{Line, conn_of}
+use Rattle.std.proofs.Common.{◌≡◌, ℕ, ◌<◌, List, [], ◌∷◌, ◌++◌, length, drop, Option, None, arith, refl, sym, ap, ◌∙◌, subst}
+use Rattle.sc_action.specs.Hands.{ServesWith, StandsWith, hand_of}
+use Rattle.sc_action.specs.declared.acted.Action.{Action}
+use Rattle.sc_daemon.specs.Lines.{Line, conn_of, line_hand}
 use Rattle.sc_daemon.specs.Standings.{FirstRests, Rests, RestsAt, standing_of}
 use Rattle.sc_daemon.specs.Turns.{ActsFirst, Serves_one}
 use Rattle.sc_daemon.specs.declared.standing.Standing.TheVariants.{Ended, Takes}
 use Rattle.sc_daemon.proofs.Firsts.{current_is}
+use Rattle.sc_disk.specs.Store.{AddEntry}
+use Rattle.sc_disk_cache.specs.DiskStores.{DiskStore}
+use Rattle.sc_hold.specs.Holding.{Hand, HandsBy}
 use Rattle.sc_job.specs.Setups.{Config, setup}
 use Rattle.sc_model.specs.Follows.{Fits}
 use Rattle.sc_model.specs.Machine.{Conn, after, current, due_at, long_after, outcome_after, reserved_after, settle, told_by}
@@ -20,86 +22,116 @@ use Rattle.sc_model.specs.declared.phase.Phase.TheVariants.{AtAsk, AtBegin, AtCo
 use Rattle.sc_wire.specs.Requests.{AreServed}
 
 -- a phase where no reply was too long is one that is served
-pub goes_serves : (k : Config) (p : Phase) (r : Request) → RestsAt k p r → (standing_of p ≡ Ended → ⊥) → Serves k p r
-goes_serves k AtBegin r rests goes = rests
-goes_serves k (AtSend a) r rests goes = rests
-goes_serves k (AtStarted a) r rests goes = rests
-goes_serves k (AtKey a b) r rests goes = rests
-goes_serves k (AtAsk a b) r rests goes = rests
-goes_serves k (AtPlace a b d) r rests goes = rests
-goes_serves k (AtDist a) r rests goes = rests
-goes_serves k (AtTake a) r rests goes = rests
-goes_serves k (AtRun a) r rests goes = rests
-goes_serves k (AtEnd a b d) r rests goes = rests
-goes_serves k (AtStore a b d e) r rests goes = rests
-goes_serves k (AtWrite a b d e) r rests goes = rests
-goes_serves k (AtFill a b d e f) r rests goes = rests
-goes_serves k (AtCommit a b d e f) r rests goes = rests
-goes_serves k (AtFinish a b) r rests goes = rests
-goes_serves k (RawAsk a b) r rests goes = rests
-goes_serves k (PathAsk a) r rests goes = rests
-goes_serves k (PreAsk a b) r rests goes = rests
-goes_serves k (PrePut a b d) r rests goes = rests
-goes_serves k (SizeAsk a b d) r rests goes = rests
-goes_serves k (AtEnded a) r rests goes = absurd (goes refl)
-goes_serves k AtOver r rests goes = rests
+pub goes_serves : (k : Config) (d : ℕ → DiskStore) (p : Phase) (entry : Option AddEntry) (r : Request) → RestsAt k d p entry r → (standing_of p ≡ Ended → ⊥) → ServesWith k d p entry r
+goes_serves k d AtBegin entry r rests goes = rests
+goes_serves k d (AtSend a) entry r rests goes = rests
+goes_serves k d (AtStarted a) entry r rests goes = rests
+goes_serves k d (AtKey a b) entry r rests goes = rests
+goes_serves k d (AtAsk a b) entry r rests goes = rests
+goes_serves k d (AtPlace a b f) entry r rests goes = rests
+goes_serves k d (AtDist a) entry r rests goes = rests
+goes_serves k d (AtTake a) entry r rests goes = rests
+goes_serves k d (AtRun a) entry r rests goes = rests
+goes_serves k d (AtEnd a b f) entry r rests goes = rests
+goes_serves k d (AtStore a b f g) entry r rests goes = rests
+goes_serves k d (AtWrite a b f g) entry r rests goes = rests
+goes_serves k d (AtFill a b f g h) entry r rests goes = rests
+goes_serves k d (AtCommit a b f g h) entry r rests goes = rests
+goes_serves k d (AtFinish a b) entry r rests goes = rests
+goes_serves k d (RawAsk a b) entry r rests goes = rests
+goes_serves k d (PathAsk a) entry r rests goes = rests
+goes_serves k d (PreAsk a b) entry r rests goes = rests
+goes_serves k d (PrePut a b f) entry r rests goes = rests
+goes_serves k d (SizeAsk a b f) entry r rests goes = rests
+goes_serves k d (AtEnded a) entry r rests goes = absurd (goes refl)
+goes_serves k d AtOver entry r rests goes = rests
 
 -- the first that waits is served, where no reply was too long
-pub first_serves : (k : Config) (l : Line) → Rests k l.phase l.waiting → 0 < length l.waiting → (standing_of l.phase ≡ Ended → ⊥) → Serves k l.phase (current (conn_of l))
-first_serves k l rests some goes = goes_serves k l.phase (current (conn_of l)) (first_at k l.phase l.waiting rests.0 some) goes
+pub first_serves : (k : Config) (d : ℕ → DiskStore) (l : Line) → Rests k d l.phase l.entry l.waiting → 0 < length l.waiting → (standing_of l.phase ≡ Ended → ⊥) → ServesWith k d l.phase l.entry (current (conn_of l))
+first_serves k d l rests some goes = goes_serves k d l.phase l.entry (current (conn_of l)) (first_at l.phase l.entry l.waiting rests.0 some) goes
   where
-    first_at : (k : Config) (p : Phase) (w : List Request) → FirstRests k p w → 0 < length w → RestsAt k p (request w 0)
-    first_at k p [] rests some = absurd (omega arith)
-    first_at k p (r ∷ w) rests some = rests
+    first_at : (p : Phase) (entry : Option AddEntry) (w : List Request) → FirstRests k d p entry w → 0 < length w → RestsAt k d p entry (request w 0)
+    first_at p entry [] rests some = absurd (omega arith)
+    first_at p entry (r ∷ w) rests some = rests
 
-pub begin_rests : (k : Config) (w : List Request) → AreServed w → Rests k AtBegin w
-begin_rests k [] served = (refl, tt)
-begin_rests k (r ∷ w) served = (served.0, served)
+pub begin_rests : (k : Config) (d : ℕ → DiskStore) (w : List Request) → AreServed w → Rests k d AtBegin None w
+begin_rests k d [] served = ((refl, refl), tt)
+begin_rests k d (r ∷ w) served = ((served.0, refl), served)
 
-rests_with : (k : Config) (p : Phase) (r : Request) (rest w : List Request) → w ≡ r ∷ rest → AreServed w → RestsAt k p r → Rests k p w
-rests_with k p r rest w e served at = (subst (FirstRests k p) (sym e) at, served)
+rests_with : (k : Config) (d : ℕ → DiskStore) (p : Phase) (entry : Option AddEntry) (r : Request) (rest w : List Request) → w ≡ r ∷ rest → AreServed w → RestsAt k d p entry r → Rests k d p entry w
+rests_with k d p entry r rest w e served at = (subst (FirstRests k d p entry) (sym e) at, served)
 
 drop_served : (w : List Request) → AreServed w → AreServed (drop 1 w)
 drop_served [] served = tt
 drop_served (r ∷ w) served = served.1
 
 -- where the first stands after a phase of its, and the next behind one that is over
-settle_rests : (k : Config) (c : Conn) (p : Phase) (r : Request) (rest : List Request) → c.queue ≡ r ∷ rest → AreServed c.queue → Stands k p r → Rests k (settle c p).phase (settle c p).queue
-settle_rests k c AtBegin r rest is served stands = rests_with k AtBegin r rest c.queue is served stands
-settle_rests k c (AtSend a) r rest is served stands = rests_with k (AtSend a) r rest c.queue is served stands
-settle_rests k c (AtStarted a) r rest is served stands = rests_with k (AtStarted a) r rest c.queue is served stands
-settle_rests k c (AtKey a b) r rest is served stands = rests_with k (AtKey a b) r rest c.queue is served stands
-settle_rests k c (AtAsk a b) r rest is served stands = rests_with k (AtAsk a b) r rest c.queue is served stands
-settle_rests k c (AtPlace a b d) r rest is served stands = rests_with k (AtPlace a b d) r rest c.queue is served stands
-settle_rests k c (AtDist a) r rest is served stands = rests_with k (AtDist a) r rest c.queue is served stands
-settle_rests k c (AtTake a) r rest is served stands = rests_with k (AtTake a) r rest c.queue is served stands
-settle_rests k c (AtRun a) r rest is served stands = rests_with k (AtRun a) r rest c.queue is served stands
-settle_rests k c (AtEnd a b d) r rest is served stands = rests_with k (AtEnd a b d) r rest c.queue is served stands
-settle_rests k c (AtStore a b d e) r rest is served stands = rests_with k (AtStore a b d e) r rest c.queue is served stands
-settle_rests k c (AtWrite a b d e) r rest is served stands = rests_with k (AtWrite a b d e) r rest c.queue is served stands
-settle_rests k c (AtFill a b d e f) r rest is served stands = rests_with k (AtFill a b d e f) r rest c.queue is served stands
-settle_rests k c (AtCommit a b d e f) r rest is served stands = rests_with k (AtCommit a b d e f) r rest c.queue is served stands
-settle_rests k c (AtFinish a b) r rest is served stands = rests_with k (AtFinish a b) r rest c.queue is served stands
-settle_rests k c (RawAsk a b) r rest is served stands = rests_with k (RawAsk a b) r rest c.queue is served stands
-settle_rests k c (PathAsk a) r rest is served stands = rests_with k (PathAsk a) r rest c.queue is served stands
-settle_rests k c (PreAsk a b) r rest is served stands = rests_with k (PreAsk a b) r rest c.queue is served stands
-settle_rests k c (PrePut a b d) r rest is served stands = rests_with k (PrePut a b d) r rest c.queue is served stands
-settle_rests k c (SizeAsk a b d) r rest is served stands = rests_with k (SizeAsk a b d) r rest c.queue is served stands
-settle_rests k c (AtEnded a) r rest is served stands = rests_with k (AtEnded a) r rest c.queue is served stands
-settle_rests k c AtOver r rest e served stands = begin_rests k (drop 1 c.queue) (drop_served c.queue served)
+settle_rests : (k : Config) (d : ℕ → DiskStore) (c : Conn) (p : Phase) (entry : Option AddEntry) (r : Request) (rest : List Request) → c.queue ≡ r ∷ rest → AreServed c.queue → StandsWith k d p entry r → Rests k d (settle c p).phase entry (settle c p).queue
+settle_rests k d c AtBegin entry r rest is served stands = rests_with k d AtBegin entry r rest c.queue is served stands
+settle_rests k d c (AtSend a) entry r rest is served stands = rests_with k d (AtSend a) entry r rest c.queue is served stands
+settle_rests k d c (AtStarted a) entry r rest is served stands = rests_with k d (AtStarted a) entry r rest c.queue is served stands
+settle_rests k d c (AtKey a b) entry r rest is served stands = rests_with k d (AtKey a b) entry r rest c.queue is served stands
+settle_rests k d c (AtAsk a b) entry r rest is served stands = rests_with k d (AtAsk a b) entry r rest c.queue is served stands
+settle_rests k d c (AtPlace a b f) entry r rest is served stands = rests_with k d (AtPlace a b f) entry r rest c.queue is served stands
+settle_rests k d c (AtDist a) entry r rest is served stands = rests_with k d (AtDist a) entry r rest c.queue is served stands
+settle_rests k d c (AtTake a) entry r rest is served stands = rests_with k d (AtTake a) entry r rest c.queue is served stands
+settle_rests k d c (AtRun a) entry r rest is served stands = rests_with k d (AtRun a) entry r rest c.queue is served stands
+settle_rests k d c (AtEnd a b f) entry r rest is served stands = rests_with k d (AtEnd a b f) entry r rest c.queue is served stands
+settle_rests k d c (AtStore a b f g) entry r rest is served stands = rests_with k d (AtStore a b f g) entry r rest c.queue is served stands
+settle_rests k d c (AtWrite a b f g) entry r rest is served stands = rests_with k d (AtWrite a b f g) entry r rest c.queue is served stands
+settle_rests k d c (AtFill a b f g h) entry r rest is served stands = rests_with k d (AtFill a b f g h) entry r rest c.queue is served stands
+settle_rests k d c (AtCommit a b f g h) entry r rest is served stands = rests_with k d (AtCommit a b f g h) entry r rest c.queue is served stands
+settle_rests k d c (AtFinish a b) entry r rest is served stands = rests_with k d (AtFinish a b) entry r rest c.queue is served stands
+settle_rests k d c (RawAsk a b) entry r rest is served stands = rests_with k d (RawAsk a b) entry r rest c.queue is served stands
+settle_rests k d c (PathAsk a) entry r rest is served stands = rests_with k d (PathAsk a) entry r rest c.queue is served stands
+settle_rests k d c (PreAsk a b) entry r rest is served stands = rests_with k d (PreAsk a b) entry r rest c.queue is served stands
+settle_rests k d c (PrePut a b f) entry r rest is served stands = rests_with k d (PrePut a b f) entry r rest c.queue is served stands
+settle_rests k d c (SizeAsk a b f) entry r rest is served stands = rests_with k d (SizeAsk a b f) entry r rest c.queue is served stands
+settle_rests k d c (AtEnded a) entry r rest is served stands = rests_with k d (AtEnded a) entry r rest c.queue is served stands.1
+settle_rests k d c AtOver entry r rest is served stands = subst (λ (e : Option AddEntry). Rests k d AtBegin e (drop 1 c.queue)) (sym stands.1) (begin_rests k d (drop 1 c.queue) (drop_served c.queue served))
 
 -- more came behind
-pub more_rests : (k : Config) (p : Phase) (w more new : List Request) → Rests k p w → new ≡ w ++ more → AreServed new → Rests k p new
-more_rests k p [] more new rests e served = subst (λ (q : Phase). Rests k q new) (sym rests.0) (begin_rests k new served)
-more_rests k p (r ∷ w) more new rests e served = rests_with k p r (w ++ more) new e served rests.0
+pub more_rests : (k : Config) (d : ℕ → DiskStore) (p : Phase) (entry : Option AddEntry) (w more new : List Request) → Rests k d p entry w → new ≡ w ++ more → AreServed new → Rests k d p entry new
+more_rests k d p entry [] more new rests e served =
+    subst (λ (q : Phase). Rests k d q entry new) (sym rests.0.0) (subst (λ (x : Option AddEntry). Rests k d AtBegin x new) (sym rests.0.1) (begin_rests k d new served))
+more_rests k d p entry (r ∷ w) more new rests e served = rests_with k d p entry r (w ++ more) new e served rests.0
 
-pub serves_rests : (k : Config) (m : ℕ) (acted : Acted) (old mid noted new : Line) → Rests k old.phase old.waiting → ActsFirst k m acted old mid
-    → noted ≡ record mid { last = m; outcome = outcome_after mid.outcome m acted.what; long = long_after mid.long acted.what }
-    → conn_of new ≡ settle (conn_of noted) acted.phase → Rests k new.phase new.waiting
-serves_rests k m acted old mid noted new rests acts note moved =
-    let same : noted.waiting ≡ old.waiting = ap (λ (l : Line). l.waiting) note ∙ ap (λ (l : Line). l.waiting) acts.same in
-    subst (λ (c : Conn). Rests k c.phase c.queue) (sym moved)
-    (settle_rests k (conn_of noted) acted.phase acts.request acts.rest (same ∙ acts.first) (subst AreServed (sym same) rests.1) acts.acts.stands)
+-- what is kept of an event of this moment, before the connection goes on to the next phase
+abbrev pub noted : ℕ → What → Line → Line
+noted m x l = record l { last = m; outcome = outcome_after l.outcome m x; reserved = reserved_after l.reserved m x; long = long_after l.long x }
+
+pub serves_rests : (k : Config) (d d2 : ℕ → DiskStore) (m : ℕ) (acted : Action) (old mid note new : Line) → Rests k d old.phase old.entry old.waiting → ActsFirst k d d2 m acted old mid
+    → note ≡ noted m acted.what mid → conn_of new ≡ settle (conn_of note) acted.phase → new.entry ≡ acted.entry → Rests k d2 new.phase new.entry new.waiting
+serves_rests k d d2 m acted old mid note new rests acts is_note moved entry =
+    let same : note.waiting ≡ old.waiting = ap (λ (l : Line). l.waiting) is_note ∙ ap (λ (l : Line). l.waiting) acts.same in
+    subst (λ (e : Option AddEntry). Rests k d2 (conn_of new).phase e (conn_of new).queue) (sym entry)
+    (subst (λ (c : Conn). Rests k d2 c.phase acted.entry c.queue) (sym moved)
+    (settle_rests k d2 (conn_of note) acted.phase acted.entry acts.request acts.rest (same ∙ acts.first) (subst AreServed (sym same) rests.1) acts.acts.stands))
+
+-- the entry that is held at a phase is held where its connection then stands
+settle_hand : (k : Config) (d : ℕ → DiskStore) (c : Conn) (p : Phase) (entry : Option AddEntry) (r : Request) → StandsWith k d p entry r → hand_of entry (settle c p).phase ≡ hand_of entry p
+settle_hand k d c AtBegin entry r stands = refl
+settle_hand k d c (AtSend a) entry r stands = refl
+settle_hand k d c (AtStarted a) entry r stands = refl
+settle_hand k d c (AtKey a b) entry r stands = refl
+settle_hand k d c (AtAsk a b) entry r stands = refl
+settle_hand k d c (AtPlace a b f) entry r stands = refl
+settle_hand k d c (AtDist a) entry r stands = refl
+settle_hand k d c (AtTake a) entry r stands = refl
+settle_hand k d c (AtRun a) entry r stands = refl
+settle_hand k d c (AtEnd a b f) entry r stands = refl
+settle_hand k d c (AtStore a b f g) entry r stands = refl
+settle_hand k d c (AtWrite a b f g) entry r stands = refl
+settle_hand k d c (AtFill a b f g h) entry r stands = refl
+settle_hand k d c (AtCommit a b f g h) entry r stands = refl
+settle_hand k d c (AtFinish a b) entry r stands = refl
+settle_hand k d c (RawAsk a b) entry r stands = refl
+settle_hand k d c (PathAsk a) entry r stands = refl
+settle_hand k d c (PreAsk a b) entry r stands = refl
+settle_hand k d c (PrePut a b f) entry r stands = refl
+settle_hand k d c (SizeAsk a b f) entry r stands = refl
+settle_hand k d c (AtEnded a) entry r stands = refl
+settle_hand k d c AtOver entry r stands = ap (λ (e : Option AddEntry). hand_of e AtBegin) stands.1 ∙ sym (ap (λ (e : Option AddEntry). hand_of e AtOver) stands.1)
 
 -- where it stood before is of no matter
 settle_phase : (c : Conn) (q p : Phase) → settle (record c { phase = q }) p ≡ settle c p
@@ -126,54 +158,35 @@ settle_phase c q (SizeAsk a b d) = refl
 settle_phase c q (AtEnded a) = refl
 settle_phase c q AtOver = refl
 
--- nothing is reserved
-none_reserved : (m : ℕ) (x : What) → IsStill x → reserved_after 0 m x ≡ 0
-none_reserved m Idle still = refl
-none_reserved m (Passed a) still = refl
-none_reserved m (Taken a b) still = refl
-none_reserved m (Closed a) still = refl
-none_reserved m (Began a b) still = refl
-none_reserved m (Keyed a b d) still = refl
-none_reserved m (Asked a b d e f) still = refl
-none_reserved m (Placed a) still = refl
-none_reserved m TokenTaken still = refl
-none_reserved m (Ran a) still = refl
-none_reserved m (Dist a) still = refl
-none_reserved m (Outcome a b) still = refl
-none_reserved m (Reserved a b d e) still = absurd still
-none_reserved m (Filled a b d e f) still = refl
-none_reserved m (Committed a b d e) still = refl
-none_reserved m (Wrote a b d e f g) still = refl
-none_reserved m (WriteEnded a b) still = refl
-none_reserved m (Sent a) still = refl
-none_reserved m (TooLong a) still = refl
-
--- what is kept of an event, but where the compile stands
-noted_is : (k : Config) (m : ℕ) (acted : Acted) (old mid : Line) → ActsFirst k m acted old mid
-    → conn_of (record mid { last = m; outcome = outcome_after mid.outcome m acted.what; long = long_after mid.long acted.what }) ≡ record (told_by (setup k) (conn_of old) m acted.what) { phase = AtOver }
-noted_is k m acted old mid acts =
+-- what is kept of an event, but where the request stands
+noted_is : (k : Config) (d d2 : ℕ → DiskStore) (m : ℕ) (acted : Action) (old mid : Line) → ActsFirst k d d2 m acted old mid → conn_of (noted m acted.what mid) ≡ record (told_by (setup k) (conn_of old) m acted.what) { phase = AtOver }
+noted_is k d d2 m acted old mid acts =
     let x = acted.what in
-    ap (λ (l : Line). conn_of (record l { last = m; outcome = outcome_after l.outcome m x; long = long_after l.long x })) acts.same
-    ∙ ap (λ (out : List ℕ). record (conn_of old) { phase = AtOver; last = m; outcome = outcome_after old.outcome m x; long = long_after old.long x; out = out }) acts.out
-    ∙ ap (λ (n : ℕ). record (conn_of old) { phase = AtOver; last = m; outcome = outcome_after old.outcome m x; long = long_after old.long x; out = old.out ++ frame_bytes (setup k) (sent_by x); reserved = n }) (sym (none_reserved m x acts.acts.still))
+    ap (λ (l : Line). conn_of (noted m x l)) acts.same
+    ∙ ap (λ (out : List ℕ). record (conn_of old) { phase = AtOver; last = m; outcome = outcome_after old.outcome m x; reserved = reserved_after old.reserved m x; long = long_after old.long x; out = out }) acts.out
 
-pub serves_one : (k : Config) (m free : ℕ) (acted : Acted) (old mid noted new : Line) → 0 < length old.waiting → (standing_of old.phase ≡ Takes → 0 < free) → ActsFirst k m acted old mid
-    → noted ≡ record mid { last = m; outcome = outcome_after mid.outcome m acted.what; long = long_after mid.long acted.what }
-    → conn_of new ≡ settle (conn_of noted) acted.phase → new.limit ≡ noted.limit → Serves_one k m free acted.what old new
-serves_one k m free acted old mid noted new some token acts note moved limit =
+pub serves_one : (k : Config) (d d2 : ℕ → DiskStore) (m free : ℕ) (acted : Action) (old mid note new : Line) → 0 < length old.waiting → (standing_of old.phase ≡ Takes → 0 < free) → ActsFirst k d d2 m acted old mid
+    → note ≡ noted m acted.what mid → conn_of new ≡ settle (conn_of note) acted.phase → new.entry ≡ acted.entry → new.limit ≡ note.limit → Serves_one k d d2 m free acted.what old new
+serves_one k d d2 m free acted old mid note new some token acts is_note moved entry limit =
     let x = acted.what in
     let here : current (conn_of old) ≡ acts.request = current_is old acts.request acts.rest acts.first in
+    let hand : line_hand new ≡ hand_of acted.entry acted.phase =
+    ap (λ (e : Option AddEntry). hand_of e new.phase) entry
+    ∙ ap (λ (c : Conn). hand_of acted.entry c.phase) moved
+    ∙ settle_hand k d2 (conn_of note) acted.phase acted.entry acts.request acts.acts.stands in
     record {
       some = some;
       fits = subst (λ (r : Request). Fits (setup k) r (due_at (setup k) r old.phase) x) (sym here) acts.acts.fits;
       token = token;
       then = moved
-          ∙ ap (λ (l : Line). settle (conn_of l) acted.phase) note
-          ∙ ap (λ (c : Conn). settle c acted.phase) (noted_is k m acted old mid acts)
+          ∙ ap (λ (l : Line). settle (conn_of l) acted.phase) is_note
+          ∙ ap (λ (c : Conn). settle c acted.phase) (noted_is k d d2 m acted old mid acts)
           ∙ settle_phase (told_by (setup k) (conn_of old) m x) AtOver acted.phase
           ∙ ap (λ (p : Phase). settle (told_by (setup k) (conn_of old) m x) p) acts.acts.then
           ∙ ap (λ (r : Request). settle (told_by (setup k) (conn_of old) m x) (after (setup k) r old.phase m x)) (sym here);
-      still = acts.acts.still;
+      own = acts.acts.own;
+      hands = subst (λ (h : Option Hand). HandsBy d x (line_hand old) h) (sym hand) acts.hands;
+      others = acts.others;
       there = acts.acts.there;
-      limit = limit ∙ ap (λ (l : Line). l.limit) note ∙ ap (λ (l : Line). l.limit) acts.same;
+      limit = limit ∙ ap (λ (l : Line). l.limit) is_note ∙ ap (λ (l : Line). l.limit) acts.same;
     }

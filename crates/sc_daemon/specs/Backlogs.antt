@@ -1,18 +1,112 @@
--- Writes that were handed on and are not done, as a daemon over remote levels keeps them.
-use Rattle.std.specs.Prelude.{◌≡◌, ℕ, zero, suc, ◌<◌, List, [], ◌∷◌}
+-- Writes that were handed on and are not done, and the entries of disk levels that they hold.
+use Rattle.std.specs.Prelude.{◌≡◌, ℕ, zero, suc, ◌<◌, ◌≤◌, Bool, true, false, List, [], ◌∷◌, length, map, Option, Some, None, refl}
+use Rattle.std.specs.Coded.{Coded, code_by, coded×, coded_bool, coded_list, coded_option, coded_ℕ}
+use Rattle.sc_action.specs.Hands.{IsOwn}
+use Rattle.sc_disk.specs.Store.{AddEntry}
+use Rattle.sc_disk_cache.specs.DiskStores.{DiskStore}
+use Rattle.sc_hold.specs.Holding.{Hand, HandsBy, IsHeld, KeepsHands, hand_at}
+use Rattle.sc_job.specs.Setups.{Config, setup}
+use Rattle.sc_model.specs.Follows.{Fits, bytes_in, kind_at}
+use Rattle.sc_model.specs.Machine.{due_pending, reserved_after, stage_after}
+use Rattle.sc_model.specs.Trace.{ends_write, no_request}
+use Rattle.sc_model.specs.contracts.phase.Pending as pending_type
+use Rattle.sc_model.specs.declared.event.What.{What}
+use Rattle.sc_model.specs.declared.level.LevelKind.TheVariants.{Disk}
+use Rattle.sc_model.specs.declared.phase.Bytes.{Bytes}
 use Rattle.sc_model.specs.declared.phase.Pending.{Pending}
-use Rattle.sc_model.specs.declared.phase.Stage.TheVariants.{Fresh}
+use Rattle.sc_model.specs.declared.phase.Stage.{Stage}
+use Rattle.sc_model.specs.declared.phase.Stage.TheVariants.{Filled as IsFilled, Fresh, Reserved as IsReserved}
 
--- the list without the element at this place
-abbrev pub without : {A : Type 0} → ℕ → List A → List A
-without n [] = []
-without zero (x ∷ xs) = xs
-without (suc n) (x ∷ xs) = x ∷ without n xs
+pub record Write : Type 0 where
+  pub pending : Pending
+  -- the entry that it holds, where it has opened one
+  pub entry : Option AddEntry
 
--- so far each goes to a remote level that is there, and is done by one event
-abbrev pub IsPending : ℕ → Pending → Type 0
-IsPending n p = (p.stage ≡ Fresh) × (p.handed.level < n)
+abbrev pub entry_code : Coded AddEntry
+entry_code = code_by (ℕ × (List ℕ × Bool)) (coded× coded_ℕ (coded× (coded_list coded_ℕ) coded_bool))
+    (λ e. (e.number, (e.key, e.divided)))
+    (λ p. record { number = p.0; key = p.1.0; divided = p.1.1 })
+    (λ _. refl)
 
-abbrev pub ArePending : ℕ → List Pending → Type 0
-ArePending n [] = Unit {0}
-ArePending n (p ∷ ps) = IsPending n p × ArePending n ps
+abbrev pub write_code : Coded Write
+write_code = code_by (Pending × Option AddEntry) (coded× pending_type.the_row.coded (coded_option entry_code))
+    (λ w. (w.pending, w.entry))
+    (λ p. record { pending = p.0; entry = p.1 })
+    (λ _. refl)
+
+abbrev pub pending_of : Write → Pending
+pending_of w = w.pending
+
+-- writes as they are handed on: none holds an entry
+abbrev pub fresh_writes : List Pending → List Write
+fresh_writes [] = []
+fresh_writes (p ∷ ps) = record { pending = p; entry = None } ∷ fresh_writes ps
+
+-- the element at a place
+abbrev pub write_at : ℕ → List Write → Option Write
+write_at i [] = None
+write_at zero (w ∷ ws) = Some w
+write_at (suc i) (w ∷ ws) = write_at i ws
+
+-- the write at this place is done, or stands there as this one
+abbrev pub put_write : Bool → Write → List Write → List Write
+put_write true w ws = ws
+put_write false w ws = w ∷ ws
+
+abbrev pub with_write : ℕ → Bool → Write → List Write → List Write
+with_write n done w [] = []
+with_write zero done w (x ∷ xs) = put_write done w xs
+with_write (suc n) done w (x ∷ xs) = x ∷ with_write n done w xs
+
+-- the write's pending part, once an event of this moment is done
+abbrev pub stepped : ℕ → What → Pending → Pending
+stepped m x p = record p { stage = stage_after p.stage x; since = reserved_after p.since m x }
+
+-- how far a write is, and the entry that it holds then; d are the levels as disk stores
+abbrev pub IsAtStage : Config → (ℕ → DiskStore) → Stage → Option AddEntry → ℕ → Bytes → Type 0
+IsAtStage k d Fresh entry l b = entry ≡ None
+IsAtStage k d IsReserved entry l b = (kind_at k.levels l ≡ Disk) × IsHeld (d l) entry b []
+IsAtStage k d IsFilled entry l b = (kind_at k.levels l ≡ Disk) × IsHeld (d l) entry b b.bytes
+
+-- a write that can be gone on with: its level is there
+abbrev pub IsPending : Config → (ℕ → DiskStore) → Write → Type 0
+IsPending k d w = (w.pending.handed.level < length k.levels) × IsAtStage k d w.pending.stage w.entry w.pending.handed.level (bytes_in w.pending.handed)
+
+abbrev pub ArePending : Config → (ℕ → DiskStore) → List Write → Type 0
+ArePending k d [] = Unit {0}
+ArePending k d (w ∷ ws) = IsPending k d w × ArePending k d ws
+
+-- the entry that a write holds
+abbrev pub hand_in : Write → Option Hand
+hand_in w = hand_at w.entry w.pending.handed.level (length w.pending.handed.bytes)
+
+-- the numbers of the writes rise, from this one on, and are below that one
+abbrev pub AreNumbered : ℕ → ℕ → List Write → Type 0
+AreNumbered from below [] = Unit {0}
+AreNumbered from below (w ∷ ws) = (from ≤ w.pending.number) × (w.pending.number < below) × AreNumbered (suc w.pending.number) below ws
+
+-- One event of a handed write, of whose stage and moment nothing is kept yet.
+pub record Goes (k : Config) (d d2 : ℕ → DiskStore) (x : What) (old new : Write) : Type 0 where
+  pub fits : Fits (setup k) no_request (due_pending k.levels old.pending) x
+  pub pending : new.pending ≡ old.pending
+  pub own : IsOwn x
+  pub stands : ends_write x ≡ false → IsAtStage k d2 (stage_after old.pending.stage x) new.entry old.pending.handed.level (bytes_in old.pending.handed)
+  pub hands : HandsBy d x (hand_in old) (hand_in new)
+  pub others : KeepsHands (hand_in old) d d2
+
+-- One event of a handed write: the one that is due.
+pub record Advances (k : Config) (moment : ℕ) (d d2 : ℕ → DiskStore) (x : What) (old new : Write) : Type 0 where
+  pub fits : Fits (setup k) no_request (due_pending k.levels old.pending) x
+  pub pending : new.pending ≡ stepped moment x old.pending
+  pub own : IsOwn x
+  pub stands : ends_write x ≡ false → IsPending k d2 new
+  pub hands : HandsBy d x (hand_in old) (hand_in new)
+  pub others : KeepsHands (hand_in old) d d2
+
+-- one event of the write at a place among all
+pub record AdvancesAt (k : Config) (moment : ℕ) (d d2 : ℕ → DiskStore) (i : ℕ) (x : What) (old new : List Write) : Type 0 where
+  pub write : Write
+  pub at : write_at i old ≡ Some write
+  pub then : Write
+  pub advances : Advances k moment d d2 x write then
+  pub left : new ≡ with_write i (ends_write x) then old

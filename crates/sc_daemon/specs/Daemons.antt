@@ -2,30 +2,25 @@
 use Rattle.std.specs.Prelude.{◌≡◌, ◌⊎◌, ℕ, ◌+◌, ◌≤◌, List, [], ◌++◌, length, map, Some, refl}
 use Rattle.std.specs.Coded.{Coded, code_by, coded×, coded_list, coded_ℕ}
 use Rattle.sc_action.specs.Telling.{SaysCounted}
-use Rattle.sc_daemon.specs.Backlogs.{without}
+use Rattle.sc_daemon.specs.Backlogs.{Advances, Write, fresh_writes, pending_of, with_write, write_at, write_code}
 use Rattle.sc_daemon.specs.Lines.{Line, conn_of}
 use Rattle.sc_daemon.specs.Turns.{IsIdleLine, Reads, Serves_one}
 use Rattle.sc_daemon.specs.declared.reading.Reading.TheVariants as readings
 use Rattle.sc_job.specs.Setups.{setup}
-use Rattle.sc_model.specs.Machine.{Machine, counted_level, current, free_after, need_at, pend, pending_at}
+use Rattle.sc_model.specs.Machine.{Machine, counted_level, current, free_after, need_at, pend}
 use Rattle.sc_model.specs.Next.{at_moment}
 use Rattle.sc_model.specs.Rows.{Direct, by_backfill, count, level_row, row, zeroes}
 use Rattle.sc_model.specs.Script.{Script}
-use Rattle.sc_model.specs.Trace.{hands}
+use Rattle.sc_model.specs.Trace.{Open, ends_write, hands}
 use Rattle.sc_model.specs.World.{Need}
-use Rattle.sc_model.specs.contracts.phase.Pending as pending_type
-use Rattle.sc_model.specs.declared.event.Mode.TheVariants.{Whole}
-use Rattle.sc_model.specs.declared.event.Written.{Written}
-use Rattle.sc_model.specs.declared.level.Handed.{Handed}
-use Rattle.sc_model.specs.declared.phase.Pending.{Pending}
 use Rattle.sc_model.specs.declared.event.Event.{Event}
 use Rattle.sc_model.specs.declared.event.Owner.{Owner}
 use Rattle.sc_model.specs.declared.event.Owner.TheVariants.{Nobody, Request as OfRequest, Write as OfWrite}
 use Rattle.sc_model.specs.declared.event.What.{What}
-use Rattle.sc_model.specs.declared.event.What.TheVariants.{Closed, Idle, Taken, Wrote}
+use Rattle.sc_model.specs.declared.event.What.TheVariants.{Closed, Idle, Taken}
 use Rattle.sc_owned.specs.Codes.{state_code}
 use Rattle.sc_owned.specs.Moving.{OwnedMoves}
-use Rattle.sc_owned.specs.State.{State}
+use Rattle.sc_owned.specs.State.{State, disk_at, reserved_in}
 use Rattle.sc_stats.specs.contracts.counters.LevelStats as level_type
 use Rattle.sc_stats.specs.contracts.counters.ServerStats as stats_type
 use Rattle.sc_stats.specs.declared.counters.LevelStats.{LevelStats}
@@ -40,12 +35,12 @@ pub record Kept : Type 0 where
   -- what was counted of each level
   pub levels : List LevelStats
   -- the writes that were handed on and are not done, and how many ever were
-  pub background : List Pending
+  pub background : List Write
   pub handed : ℕ
 
 abbrev pub kept_code : Coded Kept
-kept_code = code_by (State × (ServerStats × (ℕ × (List LevelStats × (List Pending × ℕ)))))
-    (coded× state_code (coded× stats_type.the_row.coded (coded× coded_ℕ (coded× (coded_list level_type.the_row.coded) (coded× (coded_list pending_type.the_row.coded) coded_ℕ)))))
+kept_code = code_by (State × (ServerStats × (ℕ × (List LevelStats × (List Write × ℕ)))))
+    (coded× state_code (coded× stats_type.the_row.coded (coded× coded_ℕ (coded× (coded_list level_type.the_row.coded) (coded× (coded_list write_code) coded_ℕ)))))
     (λ d. (d.state, (d.stats, (d.free, (d.levels, (d.background, d.handed))))))
     (λ p. record { state = p.0; stats = p.1.0; free = p.1.1.0; levels = p.1.1.1.0; background = p.1.1.1.1.0; handed = p.1.1.1.1.1 })
     (λ _. refl)
@@ -54,22 +49,24 @@ kept_code = code_by (State × (ServerStats × (ℕ × (List LevelStats × (List 
 abbrev pub new_daemon : State → Kept
 new_daemon o = record { state = o; stats = no_stats; free = o.config.tokens; levels = o.config.counters; background = []; handed = 0 }
 
--- every token is free, each level has its counters, and no handed write is left
+-- every token is free, each level has its counters, no handed write is left, and nothing is reserved
 pub record IsIdleDaemon (d : Kept) : Type 0 where
   pub free : d.free ≡ d.state.config.tokens
   pub levels : length d.levels ≡ length d.state.config.levels
   pub background : d.background ≡ []
+  pub reserved : (l : ℕ) → reserved_in d.state l ≡ 0
 
 -- writes that are handed on from now are numbered from 0
 abbrev pub anew : Kept → Kept
 anew d = record d { handed = 0 }
 
--- what an event of a request leaves, beside what it counts of the daemon; last: the request's event before
-abbrev pub kept_after : Kept → ℕ → ℕ → What → Kept
-kept_after d last m x = record d {
+-- what an event of a request leaves, beside what it counts of the daemon; last: the request's event before; reserved: its last
+-- reservation
+abbrev pub kept_after : Kept → ℕ → ℕ → ℕ → What → Kept
+kept_after d last reserved m x = record d {
   free = free_after d.free x;
-  levels = counted_level d.state.config.policy (level_row Direct last 0 m x) x d.levels;
-  background = d.background ++ pend (hands d.handed m x);
+  levels = counted_level d.state.config.policy (level_row Direct last reserved m x) x d.levels;
+  background = d.background ++ fresh_writes (pend (hands d.handed m x));
   handed = d.handed + length (hands d.handed m x);
 }
 
@@ -92,13 +89,13 @@ pub record ReadsEvent (d : Kept) (c : ℕ) (input : List ℕ) (n : ℕ) (e : Eve
 -- an event of the request that is served
 pub record ServesAt (c j : ℕ) (x : What) (d d2 : Kept) (old new : Line) : Type 0 where
   pub number : j ≡ old.at
-  pub one : Serves_one d.state.config d.state.world.moment d.free x old new
+  pub one : Serves_one d.state.config (disk_at d.state) (disk_at d2.state) d.state.world.moment d.free x old new
   pub says : SaysCounted d.state.config.policy d.stats d.levels x
   pub moves : OwnedMoves d.state (need_at (setup d.state.config) (current (conn_of old)) old.phase) x d2.state
   pub config : d2.state.config ≡ d.state.config
   pub free : d2.free ≡ free_after d.free x
-  pub levels : d2.levels ≡ counted_level d.state.config.policy (level_row Direct old.last 0 d.state.world.moment x) x d.levels
-  pub background : d2.background ≡ d.background ++ pend (hands d.handed d.state.world.moment x)
+  pub levels : d2.levels ≡ counted_level d.state.config.policy (level_row Direct old.last old.reserved d.state.world.moment x) x d.levels
+  pub background : d2.background ≡ d.background ++ fresh_writes (pend (hands d.handed d.state.world.moment x))
   pub handed : d2.handed ≡ d.handed + length (hands d.handed d.state.world.moment x)
   pub stats : d2.stats ≡ count (zeroes x) d.stats (row (setup d.state.config) (current (conn_of old)) old.outcome d.state.world.moment x)
 
@@ -111,44 +108,40 @@ pub record ServesEvent (c : ℕ) (e : Event) (d d2 : Kept) (old new : Line) : Ty
   pub moment : e.moment ≡ d.state.world.moment
   pub serves : ServesWhat c e.owner e.what d d2 old new
 
--- a remote level was written as a handed write says
-pub record WritesHanded (h : Handed) (x : What) (old new : Kept) : Type 0 where
-  pub how : Written
-  pub what : x ≡ Wrote h.level h.key h.bytes Whole h.marked how
-  pub moves : (n : Need) → OwnedMoves old.state n x new.state
-  pub config : new.state.config ≡ old.state.config
-  pub same : new ≡ record old { state = new.state }
-
--- a handed write was done, and counted
-pub record DoesPending (p : Pending) (e : Event) (old new : Kept) : Type 0 where
+-- An event of the handed write at this place, which is counted.
+pub record BacksAt (i : ℕ) (w : Write) (e : Event) (old new : Kept) : Type 0 where
   pub moment : e.moment ≡ old.state.world.moment
-  pub owner : e.owner ≡ OfWrite p.number
-  pub how : Written
-  pub what : e.what ≡ Wrote p.handed.level p.handed.key p.handed.bytes Whole p.handed.marked how
+  pub owner : e.owner ≡ OfWrite w.pending.number
+  pub then : Write
+  pub advances : Advances old.state.config old.state.world.moment (disk_at old.state) (disk_at new.state) e.what w then
   pub moves : (n : Need) → OwnedMoves old.state n e.what new.state
   pub config : new.state.config ≡ old.state.config
-  pub same : new ≡ record old { state = new.state; levels = counted_level old.state.config.policy (level_row (by_backfill p.backfill p.at) 0 p.since e.moment e.what) e.what old.levels }
+  pub same : new ≡ record old {
+    state = new.state;
+    levels = counted_level old.state.config.policy (level_row (by_backfill w.pending.backfill w.pending.at) 0 w.pending.since e.moment e.what) e.what old.levels;
+    background = with_write i (ends_write e.what) then old.background;
+  }
 
 -- nothing happened
 abbrev pub idle_event : Kept → Event
 idle_event d = record { moment = d.state.world.moment; owner = Nobody; what = Idle }
 
--- the handed write at this place was done, where there is one
+-- the handed write at this place went on, where there is one
 abbrev pub BacksEvent : ℕ → Event → Kept → Kept → Type 0
 BacksEvent i e old new =
     ((length old.background ≤ i) × (e ≡ idle_event old) × (new ≡ old))
-    ⊎ ((p : Pending) × (pending_at i old.background ≡ Some p) × DoesPending p e (record old { background = without i old.background }) new)
+    ⊎ ((w : Write) × (write_at i old.background ≡ Some w) × BacksAt i w e old new)
 
--- the machine that a daemon and its connections are
-abbrev pub machine_of : Kept → List Line → Machine
-machine_of d lines = record {
+-- the machine that a daemon and its connections are, with these reservations
+abbrev pub machine_of : Kept → List Line → List Open → Machine
+machine_of d lines opens = record {
   conns = map conn_of lines;
   free = d.free;
   stats = d.stats;
   level_stats = d.levels;
-  background = d.background;
+  background = map pending_of d.background;
   handed = d.handed;
-  reserved = [];
+  reserved = opens;
   world = d.state.world;
 }
 

@@ -1,18 +1,22 @@
 -- Steps of a drive.
 use Rattle.std.specs.Prelude.{◌≡◌, ℕ, zero, suc, ◌+◌, ◌≤◌, true, List, [], ◌∷◌, ◌++◌, length, map, reverse, slice_index_or}
 use Rattle.sc_conn.specs.Ends.{end_of}
-use Rattle.sc_daemon.specs.Backlogs.{ArePending}
+use Rattle.sc_daemon.specs.Backlogs.{AreNumbered, ArePending, Write, hand_in}
 use Rattle.sc_daemon.specs.Daemons.{Kept, machine_of, script_of}
-use Rattle.sc_daemon.specs.Lines.{Line, new_line}
+use Rattle.sc_daemon.specs.Lines.{Line, line_hand, new_line}
 use Rattle.sc_daemon.specs.Standings.{Rests}
+use Rattle.sc_daemon.specs.Ties.{Owners, TiesHand}
 use Rattle.sc_daemon.specs.declared.driven.Driven.{Driven}
+use Rattle.sc_disk_cache.specs.DiskStores.{DiskStore}
 use Rattle.sc_job.specs.Setups.{Config, setup}
 use Rattle.sc_model.specs.Headline.{Result_of_run}
 use Rattle.sc_model.specs.Machine.{Does, Runs, shown_levels}
 use Rattle.sc_model.specs.Script.{End, Script}
-use Rattle.sc_model.specs.Trace.{if_too_long}
+use Rattle.sc_model.specs.Trace.{Open, if_too_long, reserved_at, reserved_by}
 use Rattle.sc_model.specs.declared.event.Event.{Event}
+use Rattle.sc_model.specs.declared.event.Owner.TheVariants.{Request as OfRequest, Write as OfWrite}
 use Rattle.sc_model.specs.declared.event.Step.{Step}
+use Rattle.sc_owned.specs.State.{disk_at, reserved_in}
 use Rattle.sc_wire.specs.Streams.{served_reader}
 
 -- connections that nothing came over
@@ -20,12 +24,33 @@ abbrev pub lines_of : ℕ → ℕ → List Line
 lines_of limit zero = []
 lines_of limit (suc n) = new_line limit ∷ lines_of limit n
 
--- each connection reads by the daemon's limit, and its first request can be gone on with or was stopped
-abbrev pub IsAt : Config → Line → Type 0
-IsAt k l = (l.limit ≡ k.limit) × Rests k l.phase l.waiting
+-- each connection reads by the daemon's limit, and its first request can be gone on with or was stopped; d are the levels as
+-- disk stores
+abbrev pub IsAt : Config → (ℕ → DiskStore) → Line → Type 0
+IsAt k d l = (l.limit ≡ k.limit) × Rests k d l.phase l.entry l.waiting
 
-abbrev pub AreAt : Config → List Line → Type 0
-AreAt k lines = (c : ℕ) → IsAt k (slice_index_or lines c (new_line k.limit))
+abbrev pub AreAt : Config → (ℕ → DiskStore) → List Line → Type 0
+AreAt k d lines = (c : ℕ) → IsAt k d (slice_index_or lines c (new_line k.limit))
+
+-- the entries of handed writes are theirs
+abbrev pub TiesWrites : Owners → List Open → (ℕ → DiskStore) → List Write → Type 0
+TiesWrites owns opens d [] = Unit {0}
+TiesWrites owns opens d (w ∷ ws) = TiesHand owns opens d (OfWrite w.pending.number) (hand_in w) × TiesWrites owns opens d ws
+
+-- and that of a connection's first request is that request's
+abbrev pub TiesLine : Owners → List Open → (ℕ → DiskStore) → ℕ → Line → Type 0
+TiesLine owns opens d c l = TiesHand owns opens d (OfRequest c l.at) (line_hand l)
+
+-- What a drive keeps between two steps: where all stand, whose each open entry is, and that as much is reserved at each level
+-- as these reservations say.
+pub record Tied (d : Kept) (conns : List Line) (opens : List Open) : Type 0 where
+  pub at : AreAt d.state.config (disk_at d.state) conns
+  pub pending : ArePending d.state.config (disk_at d.state) d.background
+  pub numbers : AreNumbered 0 d.handed d.background
+  pub owns : Owners
+  pub reserved : (l : ℕ) → reserved_at l opens ≡ reserved_in d.state l
+  pub lines : (c : ℕ) → TiesLine owns opens (disk_at d.state) c (slice_index_or conns c (new_line d.state.config.limit))
+  pub writes : TiesWrites owns opens (disk_at d.state) d.background
 
 -- a script for a daemon that is made of this
 pub record IsScriptOf (s : Script) (k : Config) (inputs : List (List ℕ)) : Type 0 where
@@ -33,21 +58,20 @@ pub record IsScriptOf (s : Script) (k : Config) (inputs : List (List ℕ)) : Typ
   pub of_reader : s.reader ≡ served_reader k.limit
   pub of_inputs : s.inputs ≡ inputs
 
--- one step of the machine
-pub record Steps (s : Script) (p : Step) (e : Event) (d d2 : Kept) (lines lines2 : List Line) : Type 0 where
-  pub does : Does s (machine_of d lines) p e (machine_of d2 lines2)
+-- one step of the machine, with these reservations before it
+pub record Steps (s : Script) (p : Step) (e : Event) (d d2 : Kept) (lines lines2 : List Line) (opens : List Open) : Type 0 where
+  pub does : Does s (machine_of d lines opens) p e (machine_of d2 lines2 (reserved_by e.owner e.what opens))
   pub config : d2.state.config ≡ d.state.config
   pub told : d2.state.told ≡ d.state.told
   pub count : length lines2 ≡ length lines
-  pub at : AreAt d.state.config lines2
   pub free : d2.free ≤ d.free + 1
-  pub pending : ArePending (length d.state.config.levels) d2.background
+  pub tied : Tied d2 lines2 (reserved_by e.owner e.what opens)
 
 -- one step of a drive: its event is the last
 pub record StepsOn (k : Config) (inputs : List (List ℕ)) (p : Step) (events events2 : List Event) (d d2 : Kept) (lines lines2 : List Line) : Type 0 where
   pub event : Event
   pub grown : events2 ≡ events ++ event ∷ []
-  pub steps : (s : Script) → IsScriptOf s k inputs → Steps s p event d d2 lines lines2
+  pub steps : (s : Script) (opens : List Open) → IsScriptOf s k inputs → Tied d lines opens → Steps s p event d d2 lines lines2 opens
 
 -- what a connection has come to
 abbrev pub line_end : Line → End
@@ -57,12 +81,12 @@ line_end l = if_too_long l.long ((served_reader l.limit).ends l.rest l.closed)
 pub record Progress (d0 d : Kept) (inputs : List (List ℕ)) (steps left : List Step) (events : List Event) (lines : List Line) : Type 0 where
   pub done : List Step
   pub split : done ++ left ≡ steps
-  pub runs : Runs (script_of d0 inputs) (machine_of d0 (lines_of d0.state.config.limit (length inputs))) (reverse done) (reverse events) (machine_of d lines)
+  pub opens : List Open
+  pub runs : Runs (script_of d0 inputs) (machine_of d0 (lines_of d0.state.config.limit (length inputs)) []) (reverse done) (reverse events) (machine_of d lines opens)
   pub config : d.state.config ≡ d0.state.config
   pub told : d.state.told ≡ true
   pub count : length lines ≡ length inputs
-  pub at : AreAt d.state.config lines
-  pub pending : ArePending (length d.state.config.levels) d.background
+  pub tied : Tied d lines opens
 
 -- what a drive came to, as the headline speaks of it
 abbrev pub result_of : Kept → Driven → Result_of_run

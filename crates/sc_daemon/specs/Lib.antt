@@ -3,4 +3,5 @@ pub mod Daemons
 pub mod Drives
 pub mod Lines
 pub mod Standings
+pub mod Ties
 pub mod Turns

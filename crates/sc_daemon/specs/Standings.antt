@@ -1,8 +1,10 @@
 -- What can be done at a phase.
-use Rattle.std.specs.Prelude.{◌≡◌, List, [], ◌∷◌}
-use Rattle.sc_action.specs.Serves.{Serves}
+use Rattle.std.specs.Prelude.{◌≡◌, ℕ, List, [], ◌∷◌, Option, None}
+use Rattle.sc_action.specs.Hands.{ServesWith}
 use Rattle.sc_daemon.specs.declared.standing.Standing.{Standing}
 use Rattle.sc_daemon.specs.declared.standing.Standing.TheVariants.{Ended, Goes, Over, Takes}
+use Rattle.sc_disk.specs.Store.{AddEntry}
+use Rattle.sc_disk_cache.specs.DiskStores.{DiskStore}
 use Rattle.sc_job.specs.Setups.{Config}
 use Rattle.sc_model.specs.declared.message.Request.{Request}
 use Rattle.sc_model.specs.declared.phase.Phase.{Phase}
@@ -15,19 +17,20 @@ standing_of (AtEnded left) = Ended
 standing_of AtOver = Over
 standing_of _ = Goes
 
--- where a request may stand: at an action that is served, or at a reply that was too long
-abbrev pub RestsAt : Config → Phase → Request → Type 0
-RestsAt k (AtEnded left) r = Unit {0}
-RestsAt k p r = Serves k p r
+-- where a request may stand, with the entry that it holds: at an action that is served, or at a reply that was too long; d are
+-- the levels as disk stores
+abbrev pub RestsAt : Config → (ℕ → DiskStore) → Phase → Option AddEntry → Request → Type 0
+RestsAt k d (AtEnded left) entry r = entry ≡ None
+RestsAt k d p entry r = ServesWith k d p entry r
 
 -- where the first of these requests may stand; where there is none, the next begins
-abbrev pub FirstRests : Config → Phase → List Request → Type 0
-FirstRests k p [] = p ≡ AtBegin
-FirstRests k p (r ∷ rs) = RestsAt k p r
+abbrev pub FirstRests : Config → (ℕ → DiskStore) → Phase → Option AddEntry → List Request → Type 0
+FirstRests k d p entry [] = (p ≡ AtBegin) × (entry ≡ None)
+FirstRests k d p entry (r ∷ rs) = RestsAt k d p entry r
 
 -- requests that wait, each of them served, and the first at this phase
-abbrev pub Rests : Config → Phase → List Request → Type 0
-Rests k p waiting = FirstRests k p waiting × AreServed waiting
+abbrev pub Rests : Config → (ℕ → DiskStore) → Phase → Option AddEntry → List Request → Type 0
+Rests k d p entry waiting = FirstRests k d p entry waiting × AreServed waiting
 
 -- where a connection's first request stands after a phase: behind one that is over the next begins
 abbrev pub settled : Phase → Phase

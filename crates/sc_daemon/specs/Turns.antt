@@ -1,13 +1,16 @@
 -- What a step does to one connection.
 use Rattle.std.specs.Prelude.{◌≡◌, ℕ, ◌+◌, ◌<◌, ◌≤◌, true, List, [], ◌∷◌, ◌++◌, length, take, drop, Option, Some, None, ◌⊎◌}
-use Rattle.sc_action.specs.Telling.{ActsFor, IsStill, SaysCounted}
+use Rattle.sc_action.specs.Hands.{ActsWith, IsOwn, hand_of}
+use Rattle.sc_action.specs.Telling.{SaysCounted}
 use Rattle.sc_action.specs.Sends.{Adds}
-use Rattle.sc_action.specs.declared.acted.Acted.{Acted}
-use Rattle.sc_daemon.specs.Lines.{IsDone, Line, conn_of}
+use Rattle.sc_action.specs.declared.acted.Action.{Action}
+use Rattle.sc_daemon.specs.Lines.{IsDone, Line, conn_of, line_hand}
 use Rattle.sc_daemon.specs.Standings.{standing_of}
 use Rattle.sc_daemon.specs.declared.reading.Reading.{Reading}
 use Rattle.sc_daemon.specs.declared.reading.Reading.TheVariants.{Closed, Nothing, Taken}
 use Rattle.sc_daemon.specs.declared.standing.Standing.TheVariants.{Ended, Takes}
+use Rattle.sc_disk_cache.specs.DiskStores.{DiskStore}
+use Rattle.sc_hold.specs.Holding.{HandsBy, KeepsHands}
 use Rattle.sc_job.specs.Setups.{Config, setup}
 use Rattle.sc_model.specs.Follows.{Fits}
 use Rattle.sc_model.specs.Machine.{advanced, current, due_at}
@@ -38,13 +41,16 @@ Reads input n Nothing old new = ((n ≡ 0) ⊎ IsDone old) × (new ≡ old)
 Reads input n (Taken bytes) old new = (IsDone old → ⊥) × (bytes ≡ take n (drop old.got input)) × (0 < length bytes) × TakesMore bytes old new
 Reads input n Closed old new = (IsDone old → ⊥) × (0 < n) × (length input ≤ old.got) × (new ≡ record old { closed = true })
 
--- One action of the first request, before the connection goes on to the next phase.
-pub record ActsFirst (k : Config) (moment : ℕ) (acted : Acted) (old new : Line) : Type 0 where
+-- One action of the first request, before the connection goes on to the next phase; d and d2 are the levels as disk stores
+-- before and after it.
+pub record ActsFirst (k : Config) (d d2 : ℕ → DiskStore) (moment : ℕ) (acted : Action) (old new : Line) : Type 0 where
   pub request : Request
   pub rest : List Request
   pub first : old.waiting ≡ request ∷ rest
-  pub acts : ActsFor k request old.phase moment acted
-  pub same : new ≡ record old { phase = AtOver; out = new.out }
+  pub acts : ActsWith k d2 request old.phase moment acted
+  pub hands : HandsBy d acted.what (line_hand old) (hand_of acted.entry acted.phase)
+  pub others : KeepsHands (line_hand old) d d2
+  pub same : new ≡ record old { phase = AtOver; entry = None; out = new.out }
   pub out : Adds k (sent_by acted.what) old.out new.out
 
 -- nothing is there to serve, a reply was too long, or a token is waited for
@@ -52,34 +58,36 @@ abbrev pub IsIdleLine : ℕ → Line → Type 0
 IsIdleLine free l = ((length l.waiting ≡ 0) ⊎ ((0 < length l.waiting) × (standing_of l.phase ≡ Ended))) ⊎ ((0 < length l.waiting) × (standing_of l.phase ≡ Takes) × (free ≡ 0))
 
 -- an event of the request that is served
-pub record Serves_one (k : Config) (moment free : ℕ) (x : What) (old new : Line) : Type 0 where
+pub record Serves_one (k : Config) (d d2 : ℕ → DiskStore) (moment free : ℕ) (x : What) (old new : Line) : Type 0 where
   pub some : 0 < length old.waiting
   pub fits : Fits (setup k) (current (conn_of old)) (due_at (setup k) (current (conn_of old)) old.phase) x
   pub token : standing_of old.phase ≡ Takes → 0 < free
   pub then : conn_of new ≡ advanced (setup k) (conn_of old) moment x
-  pub still : IsStill x
+  pub own : IsOwn x
+  pub hands : HandsBy d x (line_hand old) (line_hand new)
+  pub others : KeepsHands (line_hand old) d d2
   pub there : AreHanded (length k.levels) (handed_in x)
   pub limit : new.limit ≡ old.limit
 
-abbrev pub ServesLine : Config → ℕ → ℕ → Option What → Line → Line → Type 0
-ServesLine k moment free None old new = IsIdleLine free old × (new ≡ old)
-ServesLine k moment free (Some x) old new = Serves_one k moment free x old new
+abbrev pub ServesLine : Config → (ℕ → DiskStore) → (ℕ → DiskStore) → ℕ → ℕ → Option What → Line → Line → Type 0
+ServesLine k d d2 moment free None old new = IsIdleLine free old × (new ≡ old)
+ServesLine k d d2 moment free (Some x) old new = Serves_one k d d2 moment free x old new
 
 -- a hold moves by the event, where there is one
-abbrev pub MovesFirst : {H : Type 0} → (H → Need → What → H → Type 0) → Need → Option Acted → H → H → Type 0
+abbrev pub MovesFirst : {H : Type 0} → (H → Need → What → H → Type 0) → Need → Option Action → H → H → Type 0
 MovesFirst moves n None old new = new ≡ old
 MovesFirst moves n (Some a) old new = moves old n a.what new
 
-abbrev pub ActsFirst_or_none : Config → ℕ → Option Acted → Line → Line → Type 0
-ActsFirst_or_none k moment None old new = (old.waiting ≡ []) × (new ≡ old)
-ActsFirst_or_none k moment (Some a) old new = ActsFirst k moment a old new
+abbrev pub ActsFirst_or_none : Config → (ℕ → DiskStore) → (ℕ → DiskStore) → ℕ → Option Action → Line → Line → Type 0
+ActsFirst_or_none k d d2 moment None old new = (old.waiting ≡ []) × (new ≡ old)
+ActsFirst_or_none k d d2 moment (Some a) old new = ActsFirst k d d2 moment a old new
 
 abbrev pub MovesHold : {H : Type 0} → (H → Need → What → H → Type 0) → Need → Option What → H → H → Type 0
 MovesHold moves n None old new = new ≡ old
 MovesHold moves n (Some x) old new = moves old n x new
 
 -- what the event of the first request counts, where there is one
-abbrev pub CountsFirst : Config → ℕ → Option Acted → Line → ServerStats → ServerStats → Type 0
+abbrev pub CountsFirst : Config → ℕ → Option Action → Line → ServerStats → ServerStats → Type 0
 CountsFirst k moment None l old new = new ≡ old
 CountsFirst k moment (Some a) l old new = new ≡ count (zeroes a.what) old (row (setup k) (current (conn_of l)) l.outcome moment a.what)
 
@@ -88,7 +96,7 @@ CountsLine k moment None l old new = new ≡ old
 CountsLine k moment (Some x) l old new = new ≡ count (zeroes x) old (row (setup k) (current (conn_of l)) l.outcome moment x)
 
 -- what the event tells of what was counted is so, where there is one
-abbrev pub SaysFirst : Policy → ServerStats → List LevelStats → Option Acted → Type 0
+abbrev pub SaysFirst : Policy → ServerStats → List LevelStats → Option Action → Type 0
 SaysFirst p stats levels None = Unit {0}
 SaysFirst p stats levels (Some a) = SaysCounted p stats levels a.what
 

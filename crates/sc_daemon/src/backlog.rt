@@ -1,11 +1,15 @@
 //! The writes that were handed on and are not done.
-ghost use Rattle.std.specs.Prelude.{◌≡◌, ℕ, ◌+◌, ◌<◌, ◌≤◌, ◌^◌, ◌++◌, [], Some, length, IsTrue, ◌↔◌, IfNone, IfSome, OnOk};
-ghost use Rattle.sc_daemon.specs.Backlogs.{without};
-ghost use Rattle.sc_model.specs.Machine.{pend, pending_at};
+ghost use Rattle.std.specs.Prelude.{◌≡◌, ℕ, ◌+◌, ◌<◌, ◌≤◌, ◌^◌, ◌++◌, [], true, false, Some, length, IsTrue, ◌↔◌, IfNone, IfOk, IfSome, OnOk};
+ghost use Rattle.std.specs.List.{remove};
+ghost use Rattle.sc_daemon.specs.Backlogs.{AdvancesAt, ArePending, fresh_writes, write_at};
+ghost use Rattle.sc_model.specs.Machine.{pend};
 ghost use Rattle.sc_model.specs.Trace.{hands, numbered};
+ghost use Rattle.sc_model.specs.World.{Need};
 
+use crate::write::{Write, is_end};
 use sc_entry::NoMemory;
-use sc_model::{Handed, Pending, Stage, What};
+use sc_hold::Hold;
+use sc_model::{Handed, What};
 use std::alloc::Global;
 use std::collections::VecDeque;
 use std::marker::Model;
@@ -13,14 +17,14 @@ use std::marker::Model;
 /// The writes that were handed on and are not done, in order. Contracts see them as a list.
 #[derive(Drop)]
 pub struct Backlog {
-    writes: VecDeque<Pending>,
+    writes: VecDeque<Write>,
 }
 
 impl Model for Backlog {
     ghost use Rattle.std.specs.Prelude.{List};
-    ghost use Rattle.sc_model.specs.declared.phase.Pending.{Pending};
+    ghost use Rattle.sc_daemon.specs.Backlogs.{Write as Held};
 
-    ghost Value = { List Pending };
+    ghost Value = { List Held };
 
     ghost view = { λ b. b.writes.items };
 }
@@ -34,6 +38,11 @@ pub fn handed_count(what: &What) -> u64
         What::WriteEnded(_, handed) => handed.len() as u64,
         _ => 0,
     }
+}
+
+/// Drops a write in a call of its own: dropped at the end of a branch it takes the check minutes.
+fn discard(write: Option<Write>) {
+    drop(write);
 }
 
 impl Backlog {
@@ -58,19 +67,40 @@ impl Backlog {
     }
 
     /// The write at this place.
-    pub fn get(&self, place: usize) -> Option<&Pending>
-        ensures some { IfSome result (λ p. pending_at place self.now ≡ Some p.now) }
+    pub fn get(&self, place: usize) -> Option<&Write>
+        ensures some { IfSome result (λ w. write_at place self.now ≡ Some w.now) }
         ensures none { IfNone result (length self.now ≤ place) }
     {
         self.writes.get(place)
     }
 
-    /// Takes the write at this place out.
-    pub fn take(&mut self, place: usize) -> Option<Pending>
-        ensures some { IfSome result (λ p. (pending_at place self.old ≡ Some p) × (self.new ≡ without place self.old)) }
-        ensures none { IfNone result ((length self.old ≤ place) × (self.new ≡ self.old)) }
+    /// Does the next event of the write at this place, which goes where it is done then.
+    pub fn advance<H: Hold>(
+        &mut self,
+        alloc: Global,
+        hold: &mut H,
+        place: usize,
+    ) -> Result<What, NoMemory>
+        requires place { place < length self.old }
+        requires pending { ArePending (H.config hold.old) (H.disk hold.old) self.old }
+        ensures advances { IfOk result (λ what. AdvancesAt (H.config hold.old) (H.moment hold.old) (H.disk hold.old) (H.disk hold.new) place what self.old self.new) }
+        ensures moves { IfOk result (λ what. (n : Need) → H.moves hold.old n what hold.new) }
+        ensures same { IfOk result (λ _. H.config hold.new ≡ H.config hold.old) }
     {
-        self.writes.remove(place)
+        let what = self.writes[place].advance(alloc, hold)?;
+        self.settle(place, is_end(&what));
+        Ok(what)
+    }
+
+    /// The write at this place goes, where it is done.
+    fn settle(&mut self, place: usize, done: bool)
+        requires { place < length self.old }
+        ensures goes { done ≡ true → self.new ≡ remove self.old place }
+        ensures stays { done ≡ false → self.new ≡ self.old }
+    {
+        if done {
+            discard(self.writes.remove(place));
+        }
     }
 
     /// Adds writes that are handed on at this moment, under the numbers from `first` on. Where memory runs out, a front
@@ -83,19 +113,13 @@ impl Backlog {
         handed: &[Handed],
     ) -> Result<(), NoMemory>
         requires { first + length handed.now < 2 ^ 64 }
-        ensures { OnOk result (self.new ≡ self.old ++ pend (numbered first moment backfill handed.now)) }
+        ensures { OnOk result (self.new ≡ self.old ++ fresh_writes (pend (numbered first moment backfill handed.now))) }
     {
         let mut number = first;
         let mut left = handed;
         while let [write, rest @ ..] = left {
-            self.writes.push_back(Pending {
-                number,
-                handed: write.clone()?,
-                at: moment,
-                backfill,
-                stage: Stage::Fresh,
-                since: 0,
-            })?;
+            self.writes
+                .push_back(Write::new(number, write, moment, backfill)?)?;
             number += 1;
             left = rest;
         }
@@ -105,7 +129,7 @@ impl Backlog {
     /// Adds the writes that an event hands on, under the numbers from `first` on.
     pub fn append_event(&mut self, first: u64, moment: u64, what: &What) -> Result<(), NoMemory>
         requires { first + length (hands first moment what.now) < 2 ^ 64 }
-        ensures { OnOk result (self.new ≡ self.old ++ pend (hands first moment what.now)) }
+        ensures { OnOk result (self.new ≡ self.old ++ fresh_writes (pend (hands first moment what.now))) }
     {
         match what {
             What::Asked(_, _, _, _, handed) => self.append(first, moment, true, handed.as_slice()),

@@ -1,25 +1,26 @@
 //! A connection: what comes over it, the request that is served, and what was sent.
 ghost use Rattle.std.specs.Prelude.{◌≡◌, ◌+◌, ◌<◌, ◌≤◌, ◌^◌, false, true, [], Some, length, take, drop, IfOk, IfSome, IsOk, OnOk};
-ghost use Rattle.sc_action.specs.Serves.{Serves};
+ghost use Rattle.sc_action.specs.Hands.{ServesWith};
 ghost use Rattle.sc_conn.specs.Ends.{end_of};
 ghost use Rattle.sc_daemon.specs.Lines.{IsDone, conn_of, new_line};
 ghost use Rattle.sc_daemon.specs.Standings.{Rests, standing_of};
 ghost use Rattle.sc_daemon.specs.Turns.{ActsFirst_or_none, CountsFirst, CountsLine, IsIdleLine, MovesFirst, MovesHold, Reads, SaysFirst, SaysLine, ServesLine, TakesMore};
 ghost use Rattle.sc_daemon.specs.declared.standing.Standing.TheVariants.{Ended, Takes};
 ghost use Rattle.sc_job.specs.Setups.{setup};
-ghost use Rattle.sc_model.specs.Machine.{current, long_after, need_at, outcome_after, settle};
+ghost use Rattle.sc_model.specs.Machine.{current, long_after, need_at, outcome_after, reserved_after, settle};
 ghost use Rattle.sc_model.specs.Trace.{if_too_long};
 ghost use Rattle.sc_wire.specs.Streams.{served_reader};
 
 use crate::reading::Reading;
 use crate::standing::{Standing, standing_at};
 use crate::waiting::Waiting;
-use sc_action::{Acted, act};
+use sc_action::{Action, act};
 use sc_conn::{End, Inbox};
+use sc_disk::LruDiskCacheAddEntry;
 use sc_entry::{ByteText, NoMemory};
 use sc_hold::Hold;
 use sc_job::count_event;
-use sc_model::{Phase, What};
+use sc_model::{Phase, What, Written};
 use sc_stats::{LevelStats, ServerStats};
 use std::alloc::Global;
 use std::marker::Model;
@@ -32,8 +33,10 @@ pub struct Conn {
     waiting: Waiting,
     at: u64,
     phase: Phase,
+    entry: Option<LruDiskCacheAddEntry>,
     last: u64,
     outcome: u64,
+    reserved: u64,
     out: Vec<u8>,
     long: Option<u64>,
 }
@@ -54,8 +57,10 @@ impl Model for Conn {
       closed = c.inbox.closed;
       at = c.at;
       phase = c.phase;
+      entry = c.entry;
       last = c.last;
       outcome = c.outcome;
+      reserved = c.reserved;
       out = c.out.items;
       long = c.long;
     } };
@@ -78,12 +83,12 @@ fn next_piece(input: &[u8], got: usize, count: u64) -> &[u8]
 }
 
 /// Drops an action in a call of its own: dropped at the end of a branch it takes the check minutes.
-fn discard(acted: Acted) {
+fn discard(acted: Action) {
     drop(acted);
 }
 
 /// The action, once its event is counted.
-fn if_counted(counted: Result<(), NoMemory>, acted: Acted) -> Result<Option<Acted>, NoMemory>
+fn if_counted(counted: Result<(), NoMemory>, acted: Action) -> Result<Option<Action>, NoMemory>
     ensures acted { IfOk result (λ a. a ≡ Some acted) }
     ensures counted { IsOk result → IsOk counted }
 {
@@ -106,8 +111,10 @@ impl Conn {
             waiting: Waiting::new(alloc),
             at: 0,
             phase: Phase::AtBegin,
+            entry: None,
             last: 0,
             outcome: 0,
+            reserved: 0,
             out: Vec::new(alloc),
             long: None,
         }
@@ -125,6 +132,13 @@ impl Conn {
         ensures { result ≡ self.now.last }
     {
         self.last
+    }
+
+    /// The moment of its last reservation.
+    pub fn reserved(&self) -> u64
+        ensures { result ≡ self.now.reserved }
+    {
+        self.reserved
     }
 
     /// Whether a reply was too long.
@@ -198,22 +212,25 @@ impl Conn {
 
     /// Keeps what an event of the served request tells.
     fn note_event(&mut self, moment: u64, what: &What)
-        ensures { self.new ≡ record self.old { last = moment; outcome = outcome_after self.old.outcome moment what.now; long = long_after self.old.long what.now } }
+        ensures { self.new ≡ record self.old { last = moment; outcome = outcome_after self.old.outcome moment what.now; reserved = reserved_after self.old.reserved moment what.now; long = long_after self.old.long what.now } }
     {
         self.last = moment;
         match what {
             What::Outcome(_, _) => self.outcome = moment,
             What::TooLong(size) => self.long = Some(*size),
+            What::Reserved(_, _, _, Written::Done) => self.reserved = moment,
             _ => {}
         }
     }
 
-    /// The served request stands at the next phase; one that is over makes way for the next.
-    fn move_to(&mut self, phase: Phase)
+    /// The served request stands at the next phase, with this entry; one that is over makes way for the next.
+    fn move_to(&mut self, phase: Phase, entry: Option<LruDiskCacheAddEntry>)
         requires { 0 < length self.old.waiting }
         ensures conn { conn_of self.new ≡ settle (conn_of self.old) phase }
+        ensures entry { self.new.entry ≡ entry }
         ensures limit { self.new.limit ≡ self.old.limit }
     {
+        self.entry = entry;
         match standing_at(&phase) {
             Standing::Over => {
                 let _bound = self.inbox.got();
@@ -222,6 +239,7 @@ impl Conn {
                 self.phase = Phase::AtBegin;
                 self.last = 0;
                 self.outcome = 0;
+                self.reserved = 0;
             }
             _ => self.phase = phase,
         }
@@ -234,9 +252,9 @@ impl Conn {
         hold: &mut H,
         stats: &mut ServerStats,
         levels: &[LevelStats],
-    ) -> Result<Option<Acted>, NoMemory>
-        requires { Serves (H.config hold.old) self.old.phase (current (conn_of self.old)) }
-        ensures acts { IfOk result (λ acted. ActsFirst_or_none (H.config hold.old) (H.moment hold.old) acted self.old self.new) }
+    ) -> Result<Option<Action>, NoMemory>
+        requires { ServesWith (H.config hold.old) (H.disk hold.old) self.old.phase self.old.entry (current (conn_of self.old)) }
+        ensures acts { IfOk result (λ acted. ActsFirst_or_none (H.config hold.old) (H.disk hold.old) (H.disk hold.new) (H.moment hold.old) acted self.old self.new) }
         ensures moves { IfOk result (λ acted. MovesFirst H.moves (need_at (setup (H.config hold.old)) (current (conn_of self.old)) self.old.phase) acted hold.old hold.new) }
         ensures same { IfOk result (λ _. H.config hold.new ≡ H.config hold.old) }
         ensures says { IfOk result (λ acted. SaysFirst (H.config hold.old).policy stats.old levels.now acted) }
@@ -247,7 +265,17 @@ impl Conn {
         };
         let now = hold.now();
         let phase = std::mem::replace(&mut self.phase, Phase::AtOver);
-        let acted = act(alloc, hold, stats, levels, request, phase, &mut self.out)?;
+        let entry = self.entry.take();
+        let acted = act(
+            alloc,
+            hold,
+            stats,
+            levels,
+            request,
+            phase,
+            entry,
+            &mut self.out,
+        )?;
         let counted = count_event(alloc, stats, request, self.outcome, now, &acted.what);
         if_counted(counted, acted)
     }
@@ -262,13 +290,13 @@ impl Conn {
         levels: &[LevelStats],
         free: u64,
     ) -> Result<Option<What>, NoMemory>
-        requires { Rests (H.config hold.old) self.old.phase self.old.waiting }
-        ensures serves { IfOk result (λ what. ServesLine (H.config hold.old) (H.moment hold.old) free what self.old self.new) }
+        requires { Rests (H.config hold.old) (H.disk hold.old) self.old.phase self.old.entry self.old.waiting }
+        ensures serves { IfOk result (λ what. ServesLine (H.config hold.old) (H.disk hold.old) (H.disk hold.new) (H.moment hold.old) free what self.old self.new) }
         ensures moves { IfOk result (λ what. MovesHold H.moves (need_at (setup (H.config hold.old)) (current (conn_of self.old)) self.old.phase) what hold.old hold.new) }
         ensures same { IfOk result (λ _. H.config hold.new ≡ H.config hold.old) }
         ensures says { IfOk result (λ what. SaysLine (H.config hold.old).policy stats.old levels.now what) }
         ensures counts { IfOk result (λ what. CountsLine (H.config hold.old) (H.moment hold.old) what self.old stats.old stats.new) }
-        ensures rests { IfOk result (λ _. Rests (H.config hold.old) self.new.phase self.new.waiting) }
+        ensures rests { IfOk result (λ _. Rests (H.config hold.old) (H.disk hold.new) self.new.phase self.new.entry self.new.waiting) }
     {
         if self.is_idle(free) {
             return Ok(None);
@@ -277,9 +305,9 @@ impl Conn {
         let Some(acted) = self.act_first(alloc, hold, stats, levels)? else {
             return Ok(None);
         };
-        let Acted { what, phase } = acted;
+        let Action { what, phase, entry } = acted;
         self.note_event(now, &what);
-        self.move_to(phase);
+        self.move_to(phase, entry);
         Ok(Some(what))
     }
 

@@ -1,12 +1,13 @@
 //! A daemon: its state, what it counted, and its tokens.
 ghost use Rattle.std.specs.Prelude.{◌≡◌, ◌↔◌, ◌+◌, ◌<◌, ◌≤◌, ◌^◌, ◌++◌, IsTrue, IfOk, IsOk, OnOk, length};
-ghost use Rattle.sc_daemon.specs.Backlogs.{ArePending, IsPending};
-ghost use Rattle.sc_daemon.specs.Daemons.{BacksEvent, DoesPending, IsIdleDaemon, ReadsEvent, ServesEvent, WritesHanded, anew, kept_after, new_daemon, passed};
+ghost use Rattle.sc_daemon.specs.Backlogs.{ArePending, fresh_writes};
+ghost use Rattle.sc_daemon.specs.Daemons.{BacksEvent, IsIdleDaemon, ReadsEvent, ServesEvent, anew, kept_after, new_daemon, passed};
 ghost use Rattle.sc_daemon.specs.Standings.{Rests};
 ghost use Rattle.sc_job.specs.LevelRows.{origin_of};
 ghost use Rattle.sc_model.specs.Machine as machine;
 ghost use Rattle.sc_model.specs.Rows.{by_backfill, level_row};
 ghost use Rattle.sc_model.specs.Trace.{hands};
+ghost use Rattle.sc_owned.specs.State.{AreLevelsWithin, disk_at};
 
 use crate::backlog::{Backlog, handed_count};
 use crate::conn::Conn;
@@ -14,7 +15,7 @@ use crate::reading::Reading;
 use sc_entry::NoMemory;
 use sc_hold::Hold;
 use sc_job::{Origin, count_level};
-use sc_model::{Bytes, Event, Handed, Mode, Owner, Pending, What};
+use sc_model::{Event, Owner, What};
 use sc_owned::{Owned, Parts};
 use sc_stats::{LevelStats, ServerStats};
 use std::alloc::Global;
@@ -101,7 +102,7 @@ impl<P: Parts> Daemon<P> {
         })
     }
 
-    /// Whether every token is free, each level has its counters, and no write that was handed on is left. So far nothing is
+    /// Whether every token is free, each level has its counters, no write that was handed on is left, and nothing is
     /// reserved.
     pub fn is_idle(&self) -> bool
         ensures { IsTrue result ↔ IsIdleDaemon self.now }
@@ -109,6 +110,14 @@ impl<P: Parts> Daemon<P> {
         self.free == self.owned.tokens()
             && self.levels.len() == self.owned.levels().len()
             && self.background.is_empty()
+            && self.owned.levels().is_unreserved()
+    }
+
+    /// What its levels keep: each disk level's files and reservations take at most its capacity.
+    pub fn keeps(&self)
+        ensures { AreLevelsWithin self.now.state }
+    {
+        self.owned.keeps();
     }
 
     /// What it counted of each level: nothing that is told, where a store stands alone.
@@ -214,7 +223,7 @@ impl<P: Parts> Daemon<P> {
 
     /// Keeps the writes that an event hands on.
     fn keep_handed(&mut self, moment: u64, what: &What) -> Result<(), NoMemory>
-        ensures { OnOk result (self.new ≡ record self.old { background = self.old.background ++ machine.pend (hands self.old.handed moment what.now); handed = self.old.handed + length (hands self.old.handed moment what.now) }) }
+        ensures { OnOk result (self.new ≡ record self.old { background = self.old.background ++ fresh_writes (machine.pend (hands self.old.handed moment what.now)); handed = self.old.handed + length (hands self.old.handed moment what.now) }) }
     {
         let count = handed_count(what);
         let Some(handed) = self.handed.checked_add(count) else {
@@ -251,12 +260,19 @@ impl<P: Parts> Daemon<P> {
     }
 
     /// Keeps what an event of a request counts at a level, which tokens it takes or gives back, and the writes that it hands
-    /// on. `last` is the moment of the request's event before.
-    fn keep(&mut self, alloc: Global, last: u64, moment: u64, what: &What) -> Result<(), NoMemory>
+    /// on. `last` is the moment of the request's event before, `reserved` that of its last reservation.
+    fn keep(
+        &mut self,
+        alloc: Global,
+        last: u64,
+        reserved: u64,
+        moment: u64,
+        what: &What,
+    ) -> Result<(), NoMemory>
         requires { self.old.free + 1 < 2 ^ 64 }
-        ensures { OnOk result (self.new ≡ kept_after self.old last moment what.now) }
+        ensures { OnOk result (self.new ≡ kept_after self.old last reserved moment what.now) }
     {
-        self.count(alloc, Origin::Direct, last, 0, moment, what);
+        self.count(alloc, Origin::Direct, last, reserved, moment, what);
         self.free = free_after(self.free, what);
         self.keep_handed(moment, what)
     }
@@ -268,15 +284,16 @@ impl<P: Parts> Daemon<P> {
         number: u64,
         conn: &mut Conn,
     ) -> Result<Event, NoMemory>
-        requires rests { Rests self.old.state.config conn.old.phase conn.old.waiting }
+        requires rests { Rests self.old.state.config (disk_at self.old.state) conn.old.phase conn.old.entry conn.old.waiting }
         requires free { self.old.free + 1 < 2 ^ 64 }
         ensures serves { IfOk result (λ event. ServesEvent number event self.old self.new conn.old conn.new) }
-        ensures rests { IfOk result (λ _. Rests self.old.state.config conn.new.phase conn.new.waiting) }
+        ensures rests { IfOk result (λ _. Rests self.old.state.config (disk_at self.new.state) conn.new.phase conn.new.entry conn.new.waiting) }
         ensures free { IfOk result (λ _. self.new.free ≤ self.old.free + 1) }
     {
         let moment = self.now();
         let at = conn.at();
         let last = conn.last();
+        let reserved = conn.reserved();
         match conn.serve(
             alloc,
             &mut self.owned,
@@ -286,7 +303,7 @@ impl<P: Parts> Daemon<P> {
         )? {
             None => Ok(self.event(What::Idle)),
             Some(what) => {
-                let kept = self.keep(alloc, last, moment, &what);
+                let kept = self.keep(alloc, last, reserved, moment, &what);
                 let owner = Owner::Request(number, at);
                 let event = Event {
                     moment,
@@ -298,61 +315,25 @@ impl<P: Parts> Daemon<P> {
         }
     }
 
-    /// Writes at a remote level what a handed write says.
-    fn write(&mut self, alloc: Global, handed: Handed) -> Result<What, NoMemory>
-        requires { handed.level < length self.old.state.config.levels }
-        ensures writes { IfOk result (λ what. WritesHanded handed what self.old self.new) }
-    {
-        let Handed {
-            level,
-            key,
-            bytes,
-            marked,
-        } = handed;
-        let put = Bytes {
-            key,
-            bytes,
-            run: marked,
-        };
-        let written = self.owned.write(alloc, level, &put)?;
-        let Bytes { key, bytes, run } = put;
-        Ok(What::Wrote(level, key, bytes, Mode::Whole, run, written))
-    }
-
-    /// Does the next event of the handed write at this place among those that are left, where there is one.
+    /// Does the next event of the handed write at this place among those that are left, where there is one, and counts it.
     pub(crate) fn back(&mut self, alloc: Global, place: u64) -> Result<Event, NoMemory>
-        requires pending { ArePending (length self.old.state.config.levels) self.old.background }
+        requires pending { ArePending self.old.state.config (disk_at self.old.state) self.old.background }
         ensures backs { IfOk result (λ event. BacksEvent place event self.old self.new) }
     {
-        if place >= self.background.len() as u64 {
-            return Ok(self.event(What::Idle));
-        }
-        let Some(pending) = self.background.take(place as usize) else {
+        let Some(write) = self.background.get(place as usize) else {
             return Ok(self.event(What::Idle));
         };
-        self.done(alloc, pending)
-    }
-
-    /// Does a handed write that was taken out, and counts it.
-    fn done(&mut self, alloc: Global, pending: Pending) -> Result<Event, NoMemory>
-        requires { IsPending (length self.old.state.config.levels) pending }
-        ensures { IfOk result (λ event. DoesPending pending event self.old self.new) }
-    {
+        let owner = Owner::Write(write.number());
+        let origin = handed_origin(write.is_backfill(), write.at());
+        let since = write.since();
         let moment = self.now();
-        let Pending {
-            number,
-            handed,
-            at,
-            backfill,
-            since,
-            ..
-        } = pending;
-        let what = self.write(alloc, handed)?;
-        let origin = handed_origin(backfill, at);
+        let what = self
+            .background
+            .advance(alloc, &mut self.owned, place as usize)?;
         self.count(alloc, origin, 0, since, moment, &what);
         Ok(Event {
             moment,
-            owner: Owner::Write(number),
+            owner,
             what,
         })
     }

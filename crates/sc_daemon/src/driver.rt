@@ -1,9 +1,11 @@
 //! A drive, one step at a time.
-ghost use Rattle.std.specs.Prelude.{◌≡◌, ◌+◌, ◌<◌, ◌^◌, [], true, IfOk, length};
+ghost use Rattle.std.specs.Prelude.{◌≡◌, ◌+◌, ◌<◌, ◌^◌, [], true, IfOk, List, length};
 ghost use Rattle.sc_daemon.specs.Backlogs.{ArePending};
-ghost use Rattle.sc_daemon.specs.Drives.{AreAt, IsScriptOf, Steps, StepsOn, lines_of};
+ghost use Rattle.sc_daemon.specs.Drives.{AreAt, IsScriptOf, Steps, StepsOn, Tied, lines_of};
 ghost use Rattle.sc_job.specs.Setups.{setup};
 ghost use Rattle.sc_model.specs.Script.{Script as GivenScript};
+ghost use Rattle.sc_model.specs.Trace.{Open};
+ghost use Rattle.sc_owned.specs.State.{disk_at};
 
 use crate::conn::Conn;
 use crate::daemon::Daemon;
@@ -52,12 +54,12 @@ impl Driver {
         number: u64,
         count: u64,
     ) -> Result<Event, NoMemory>
-        requires at { AreAt daemon.now.state.config self.old.conns.items }
+        requires at { AreAt daemon.now.state.config (disk_at daemon.now.state) self.old.conns.items }
         requires inputs { length self.old.conns.items ≡ length inputs.now }
-        requires pending { ArePending (length daemon.now.state.config.levels) daemon.now.background }
-        ensures steps { IfOk result (λ event. (s : GivenScript) → IsScriptOf s daemon.now.state.config inputs.now → Steps s (Step.Read number count) event daemon.now daemon.now self.old.conns.items self.new.conns.items) }
+        ensures steps { IfOk result (λ event. (s : GivenScript) (opens : List Open) → IsScriptOf s daemon.now.state.config inputs.now → Tied daemon.now self.old.conns.items opens → Steps s (Step.Read number count) event daemon.now daemon.now self.old.conns.items self.new.conns.items opens) }
         ensures events { self.new.events ≡ self.old.events }
     {
+        daemon.keeps();
         if number >= self.conns.len() as u64 {
             return Ok(daemon.idle());
         }
@@ -79,17 +81,19 @@ impl Driver {
         daemon: &mut Daemon<P>,
         number: u64,
     ) -> Result<Event, NoMemory>
-        requires at { AreAt daemon.old.state.config self.old.conns.items }
-        requires pending { ArePending (length daemon.old.state.config.levels) daemon.old.background }
+        requires at { AreAt daemon.old.state.config (disk_at daemon.old.state) self.old.conns.items }
+        requires pending { ArePending daemon.old.state.config (disk_at daemon.old.state) daemon.old.background }
         requires told { daemon.old.state.told ≡ true }
         requires free { daemon.old.free + 1 < 2 ^ 64 }
-        ensures steps { IfOk result (λ event. (s : GivenScript) → s.setup ≡ setup daemon.old.state.config → Steps s (Step.Serve number) event daemon.old daemon.new self.old.conns.items self.new.conns.items) }
+        ensures steps { IfOk result (λ event. (s : GivenScript) (opens : List Open) → s.setup ≡ setup daemon.old.state.config → Tied daemon.old self.old.conns.items opens → Steps s (Step.Serve number) event daemon.old daemon.new self.old.conns.items self.new.conns.items opens) }
         ensures events { self.new.events ≡ self.old.events }
     {
+        daemon.keeps();
         if number >= self.conns.len() as u64 {
             return Ok(daemon.idle());
         }
         let event = daemon.serve(alloc, number, &mut self.conns[number as usize])?;
+        daemon.keeps();
         Ok(event)
     }
 
@@ -100,19 +104,27 @@ impl Driver {
         inputs: &[ByteText],
         step: &Step,
     ) -> Result<Event, NoMemory>
-        requires at { AreAt daemon.old.state.config self.old.conns.items }
+        requires at { AreAt daemon.old.state.config (disk_at daemon.old.state) self.old.conns.items }
         requires inputs { length self.old.conns.items ≡ length inputs.now }
-        requires pending { ArePending (length daemon.old.state.config.levels) daemon.old.background }
+        requires pending { ArePending daemon.old.state.config (disk_at daemon.old.state) daemon.old.background }
         requires told { daemon.old.state.told ≡ true }
         requires free { daemon.old.free + 1 < 2 ^ 64 }
-        ensures steps { IfOk result (λ event. (s : GivenScript) → IsScriptOf s daemon.old.state.config inputs.now → Steps s step.now event daemon.old daemon.new self.old.conns.items self.new.conns.items) }
+        ensures steps { IfOk result (λ event. (s : GivenScript) (opens : List Open) → IsScriptOf s daemon.old.state.config inputs.now → Tied daemon.old self.old.conns.items opens → Steps s step.now event daemon.old daemon.new self.old.conns.items self.new.conns.items opens) }
         ensures events { self.new.events ≡ self.old.events }
     {
         match step {
             Step::Read(number, count) => self.read(alloc, daemon, inputs, *number, *count),
             Step::Serve(number) => self.serve(alloc, daemon, *number),
-            Step::Back(place) => daemon.back(alloc, *place),
-            Step::Pass(nanoseconds) => Ok(daemon.pass(*nanoseconds)),
+            Step::Back(place) => {
+                let event = daemon.back(alloc, *place)?;
+                daemon.keeps();
+                Ok(event)
+            }
+            Step::Pass(nanoseconds) => {
+                let event = daemon.pass(*nanoseconds);
+                daemon.keeps();
+                Ok(event)
+            }
         }
     }
 
@@ -124,9 +136,9 @@ impl Driver {
         inputs: &[ByteText],
         step: &Step,
     ) -> Result<(), NoMemory>
-        requires at { AreAt daemon.old.state.config self.old.conns.items }
+        requires at { AreAt daemon.old.state.config (disk_at daemon.old.state) self.old.conns.items }
         requires inputs { length self.old.conns.items ≡ length inputs.now }
-        requires pending { ArePending (length daemon.old.state.config.levels) daemon.old.background }
+        requires pending { ArePending daemon.old.state.config (disk_at daemon.old.state) daemon.old.background }
         requires told { daemon.old.state.told ≡ true }
         requires free { daemon.old.free + 1 < 2 ^ 64 }
         ensures steps { IfOk result (λ _. StepsOn daemon.old.state.config inputs.now step.now self.old.events.items self.new.events.items daemon.old daemon.new self.old.conns.items self.new.conns.items) }

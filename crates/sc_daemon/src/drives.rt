@@ -45,14 +45,14 @@ fn driven_conns(alloc: Global, conns: Vec<Conn>) -> Result<Items<DrivenConn>, No
 
 /// The writes that are left, in order.
 fn writes_left(alloc: Global, background: &Backlog) -> Result<Items<Handed>, NoMemory>
-    ensures { IfOk result (λ left. left ≡ map (λ p. p.handed) background.now) }
+    ensures { IfOk result (λ left. left ≡ map (λ w. w.pending.handed) background.now) }
 {
     let mut left = Items::new(alloc);
     for place in 0..background.len() {
-        let Some(pending) = background.get(place) else {
+        let Some(write) = background.get(place) else {
             return Ok(left);
         };
-        left.push(pending.handed.clone()?)?;
+        left.push(write.handed()?)?;
     }
     Ok(left)
 }
@@ -176,7 +176,7 @@ fn all_steps<P: Parts>(
 }
 
 /// Drives a daemon: each step is one atomic step, over these bytes on each connection. What it answers is what happened,
-/// and the headline holds of it.
+/// and the headline holds of it. What the daemon is made of stays.
 pub fn drive<P: Parts>(
     alloc: Global,
     daemon: &mut Daemon<P>,
@@ -186,6 +186,7 @@ pub fn drive<P: Parts>(
     requires idle { IsIdleDaemon daemon.old }
     requires told { daemon.old.state.told ≡ true }
     ensures headline { IfOk result (λ driven. Headline (script_of daemon.old inputs.now) daemon.old.state.world (reverse steps.now) (reverse driven.trace) daemon.new.state.world (result_of daemon.new driven)) }
+    ensures config { IfOk result (λ _. daemon.new.state.config ≡ daemon.old.state.config) }
 {
     every_run();
     let driver = all_steps(alloc, daemon, inputs, steps)?;

@@ -10,6 +10,7 @@ mod drives;
 mod reading;
 mod standing;
 mod waiting;
+mod write;
 
 pub use conn::Conn;
 pub use daemon::Daemon;

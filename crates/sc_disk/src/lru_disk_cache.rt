@@ -70,6 +70,14 @@ impl<D: Disk> LruDiskCache<D> {
         self.index.size() + self.held
     }
 
+    /// The bytes that open entries have declared.
+    pub fn reserved(&self) -> u64
+        ensures { result ≡ reserved self.now }
+    {
+        let _bound = self.capacity;
+        self.held
+    }
+
     /// How many files are indexed.
     pub fn len(&self) -> usize
         ensures { result ≡ length self.now.index }

@@ -54,6 +54,17 @@ impl<D: Disk> DiskCache<D> {
         self.pair.capacity()
     }
 
+    /// The bytes that open entries have declared.
+    pub fn reserved(&self) -> u64
+        ensures { result ≡ (held_disk self.now).reserved }
+    {
+        let _limit = self.mode;
+        match self.pair.peek() {
+            Some(cache) => cache.reserved(),
+            None => 0,
+        }
+    }
+
     /// What type of store it is, in a word.
     pub fn cache_type_name(&self) -> &str
         ensures { result.now ≡ codes "disk" }

@@ -1,6 +1,10 @@
 ghost use Rattle.std.specs.Prelude.{◌≡◌, ◌≢◌, ◌<◌, ◌&&◌, ℕ, Bool, false, not, [], length, IfOk, List, Option};
 ghost use Rattle.sc_compile.specs.Tools.{reading};
 ghost use Rattle.sc_model.specs.There.{AreLevels};
+ghost use Rattle.sc_disk_cache.specs.DiskStores.{DiskStore, entry_path};
+ghost use Rattle.sc_disk_cache.specs.Entries.{ClosesEntry, FillsBy};
+ghost use Rattle.sc_disk_cache.specs.Moving.{OpensBy, written_of as reserved_of};
+ghost use Rattle.sc_hold.specs.Holding.{Elsewhere, Holds, IsGood, OpensNone, ReservesBy, SameRoom, filled_of};
 ghost use Rattle.sc_hold.specs.Quiet.{IsQuiet};
 ghost use Rattle.sc_entry.specs.Causes.{IfTold};
 ghost use Rattle.sc_job.specs.Setups.{Config, setup};
@@ -11,17 +15,19 @@ ghost use Rattle.sc_model.specs.Script.{is_single};
 ghost use Rattle.sc_model.specs.World.{Need, keys_of};
 ghost use Rattle.sc_model.specs.declared.event.KeyStep.TheVariants.{Key};
 ghost use Rattle.sc_model.specs.declared.event.What.{What};
-ghost use Rattle.sc_model.specs.declared.event.What.TheVariants.{Asked as AskedEvent, Keyed, Placed, Ran, Wrote};
+ghost use Rattle.sc_model.specs.declared.event.What.TheVariants.{Asked as AskedEvent, Committed, Filled, Keyed, Placed, Ran, Reserved, Wrote};
 ghost use Rattle.sc_model.specs.declared.event.Answer.TheVariants.{Size as SizeIs};
 ghost use Rattle.sc_model.specs.declared.event.Mode.TheVariants.{Path, Size as SizeMode, Whole};
 ghost use Rattle.sc_stats.specs.declared.counters.LevelStats.{LevelStats};
-ghost use Rattle.sc_model.specs.declared.level.LevelKind.TheVariants.{Remote};
+ghost use Rattle.sc_model.specs.declared.level.LevelKind.TheVariants.{Disk, Remote};
 ghost use Rattle.sc_model.specs.declared.message.Request.TheVariants.{Compile as CompileOf};
 
+use sc_disk::LruDiskCacheAddEntry;
+use sc_disk_cache::{Filling, Reservation};
 use sc_entry::{ByteText, CacheMode, FileObjectSource, Items, NoMemory, Queue, Text};
 use sc_model::{
-    Answer, Bytes, Compile, Handed, KeyFound, Mode, Parsed, Placing, Put, Refusal, RunAnswer,
-    Written,
+    Answer, Bytes, Compile, Handed, KeyFound, LevelKind, Mode, Parsed, Placing, Put, Refusal,
+    RunAnswer, Written,
 };
 use std::alloc::Global;
 
@@ -49,6 +55,9 @@ pub trait Hold {
 
     /// Its clock.
     ghost moment: { Self → ℕ };
+
+    /// A level as a disk store: what is open there.
+    ghost disk: { Self → ℕ → DiskStore };
 
     fn now(&self) -> u64
         ensures { result ≡ moment self.now };
@@ -98,7 +107,7 @@ pub trait Hold {
         ensures moves { IfOk result (λ found. (n : Need) → n.keys ≡ keys_of (setup (config self.old)) (CompileOf request.now) → moves self.old n (Keyed first false (Key found)) self.new) }
         ensures same { IfOk result (λ found. config self.new ≡ config self.old) };
 
-    /// Asks a level. A remote store has no paths.
+    /// Asks a level. Paths are asked for by a call of their own.
     fn ask(&mut self, alloc: Global, level: u64, key: &Text, mode: Mode) -> Result<Lookup, NoMemory>
         requires level { level < length (config self.old).levels }
         requires mode { mode ≢ Path }
@@ -138,12 +147,65 @@ pub trait Hold {
 
     /// Writes an entry at a remote level.
     fn write(&mut self, alloc: Global, level: u64, bytes: &Bytes) -> Result<Written, NoMemory>
-        requires { level < length (config self.old).levels }
+        requires level { level < length (config self.old).levels }
+        requires remote { kind_at (config self.old).levels level ≡ Remote }
         ensures moves { IfOk result (λ written. (n : Need) → moves self.old n (Wrote level bytes.now.key bytes.now.bytes Whole bytes.now.run written) self.new) }
         ensures same { IfOk result (λ written. config self.new ≡ config self.old) };
 
-    /// So far every level is a remote store.
-    ghost remote: { (hold : Self) (level : ℕ) → kind_at (config hold).levels level ≡ Remote };
+    /// What kind of store a level is.
+    fn kind(&self, level: u64) -> LevelKind
+        requires { level < length (config self.now).levels }
+        ensures { result ≡ kind_at (config self.now).levels level };
+
+    /// Opens an entry at a disk level, for these bytes under their key.
+    fn reserve(&mut self, level: u64, bytes: &Bytes) -> Result<Reservation, NoMemory>
+        requires level { level < length (config self.old).levels }
+        requires disk { kind_at (config self.old).levels level ≡ Disk }
+        ensures moves { IfOk result (λ how. (n : Need) → moves self.old n (Reserved level bytes.now.key (length bytes.now.bytes) (reserved_of how)) self.new) }
+        ensures opens { IfOk result (λ how. OpensBy (entry_path bytes.now.key) (length bytes.now.bytes) how (disk self.old level) (disk self.new level)) }
+        ensures good { IfOk result (λ how. IsGood how bytes.now.key) }
+        ensures elsewhere { IfOk result (λ _. Elsewhere level (disk self.old) (disk self.new)) }
+        ensures same { IfOk result (λ _. config self.new ≡ config self.old) };
+
+    /// Fills an open entry of a disk level with these bytes. A refusal closes it.
+    fn fill(
+        &mut self,
+        level: u64,
+        entry: LruDiskCacheAddEntry,
+        bytes: &Bytes,
+    ) -> Result<Filling, NoMemory>
+        requires level { level < length (config self.old).levels }
+        requires disk { kind_at (config self.old).levels level ≡ Disk }
+        requires holds { Holds (disk self.old level) entry bytes.now [] }
+        ensures moves { IfOk result (λ how. (n : Need) → moves self.old n (Filled level bytes.now.key bytes.now.bytes bytes.now.run (filled_of how)) self.new) }
+        ensures fills { IfOk result (λ how. FillsBy entry bytes.now.bytes how (disk self.old level) (disk self.new level)) }
+        ensures elsewhere { IfOk result (λ _. Elsewhere level (disk self.old) (disk self.new)) }
+        ensures same { IfOk result (λ _. config self.new ≡ config self.old) };
+
+    /// Puts an open entry of a disk level, which was filled with these bytes, in its key's place. It is closed then, also by a
+    /// refusal.
+    fn commit(
+        &mut self,
+        level: u64,
+        entry: LruDiskCacheAddEntry,
+        bytes: &Bytes,
+    ) -> Result<Written, NoMemory>
+        requires level { level < length (config self.old).levels }
+        requires disk { kind_at (config self.old).levels level ≡ Disk }
+        requires holds { Holds (disk self.old level) entry bytes.now bytes.now.bytes }
+        ensures moves { IfOk result (λ how. (n : Need) → moves self.old n (Committed level bytes.now.key bytes.now.bytes how) self.new) }
+        ensures closes { IfOk result (λ _. ClosesEntry entry.number (disk self.old level) (disk self.new level)) }
+        ensures elsewhere { IfOk result (λ _. Elsewhere level (disk self.old) (disk self.new)) }
+        ensures same { IfOk result (λ _. config self.new ≡ config self.old) };
+
+    /// An event that opens, fills and closes no entry leaves what is open at each level.
+    ghost still: { (a : Self) (n : Need) (what : What) (b : Self) → moves a n what b → OpensNone what → (l : ℕ) → SameRoom (disk a l) (disk b l) };
+
+    /// Whether the levels tell what they hold does not change.
+    ghost tells: { (a : Self) (n : Need) (what : What) (b : Self) → moves a n what b → (l : ℕ) → (disk b l).told ≡ (disk a l).told };
+
+    /// The bytes that are reserved at each level are those of the events.
+    ghost reserves: { (a : Self) (n : Need) (what : What) (b : Self) → moves a n what b → ReservesBy what (λ l. (disk a l).reserved) (λ l. (disk b l).reserved) };
 
     /// The levels that a write goes to are there.
     ghost planned: { (hold : Self) → AreLevels (length (config hold).levels) (plan (config hold).policy (config hold).levels) };

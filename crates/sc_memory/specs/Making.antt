@@ -5,7 +5,10 @@ use Rattle.sc_entry.specs.Keys.{normalize_key}
 use Rattle.sc_model.specs.Devices.{calls_failing}
 use Rattle.sc_model.specs.World.{Files, World, no_files}
 use Rattle.sc_model.specs.declared.event.RunAnswer.{RunAnswer}
+use Rattle.sc_model.specs.Plan.{level_facts}
 use Rattle.sc_model.specs.declared.level.Container.TheVariants.{Disabled}
+use Rattle.sc_model.specs.declared.level.LevelFacts.{LevelFacts}
+use Rattle.sc_model.specs.declared.level.LevelKind.TheVariants.{Remote}
 use Rattle.sc_script.specs.declared.level_rule.LevelRule.{LevelRule}
 use Rattle.sc_script.specs.declared.run_rule.RunRule.{RunRule}
 use Rattle.sc_script.specs.declared.script.Script.{Script}
@@ -39,6 +42,10 @@ first_held rule = held_remote memory_names rule.mode (Some (first_files rule.hol
 
 abbrev pub held_first : List LevelRule → List HeldLevel
 held_first rules = map first_held rules
+
+-- every level is a remote one
+abbrev pub AreRemote : List LevelFacts → Type 0
+AreRemote fs = (l : ℕ) → (level_facts fs l).kind ≡ Remote
 
 -- all levels of a script
 abbrev pub first_levels : Script → Held

@@ -1,16 +1,17 @@
 //! Makes a daemon of what a script says.
-ghost use Rattle.std.specs.Prelude.{◌≡◌, true, Some, IfOk, map};
+ghost use Rattle.std.specs.Prelude.{◌≡◌, ℕ, true, Some, IfOk, map};
 ghost use Rattle.sc_compile.specs.Shop.{new_shop};
-ghost use Rattle.sc_memory.specs.Making.{AreLines, first_files, first_held, first_levels, first_world, held_first, placed, told_lines, told_runs};
+ghost use Rattle.sc_memory.specs.Making.{AreLines, AreRemote, first_files, first_held, first_levels, first_world, held_first, placed, told_lines, told_runs};
 ghost use Rattle.sc_script.specs.Goods.{IsGood, are_good_levels, are_good_runs, are_store_keys};
 ghost use Rattle.sc_model.specs.Devices.{calls_failing};
 ghost use Rattle.sc_store.specs.Devices.{calls_of};
-ghost use Rattle.sc_owned.specs.State.{store_of};
+ghost use Rattle.sc_owned.specs.State.{reserved_in, store_of};
 ghost use Rattle.sc_store.specs.Levels.{held_level};
 ghost use Rattle.sc_store.specs.Telling.{new_counters};
 
 use crate::memory::Memory;
 use sc_compile::{RunLine, ScriptWorkshop, ToolTable};
+use sc_disk::MemDisk;
 use sc_entry::{ByteText, Items, NoMemory, Text};
 use sc_model::Step;
 use sc_owned::Owned;
@@ -60,7 +61,7 @@ fn device(
 }
 
 /// A remote level, over a device in memory.
-fn level(alloc: Global, rule: LevelRule) -> Result<Level<MemRemote>, NoMemory>
+fn level(alloc: Global, rule: LevelRule) -> Result<Level<MemRemote, MemDisk>, NoMemory>
     requires { are_store_keys rule.holds ≡ true }
     ensures { IfOk result (λ level. held_level level ≡ first_held rule) }
 {
@@ -69,7 +70,10 @@ fn level(alloc: Global, rule: LevelRule) -> Result<Level<MemRemote>, NoMemory>
     Ok(Level::Remote(store))
 }
 
-fn levels_of(alloc: Global, rules: Items<LevelRule>) -> Result<Vec<Level<MemRemote>>, NoMemory>
+fn levels_of(
+    alloc: Global,
+    rules: Items<LevelRule>,
+) -> Result<Vec<Level<MemRemote, MemDisk>>, NoMemory>
     requires { are_good_levels rules ≡ true }
     ensures { IfOk result (λ levels. map held_level levels.items ≡ held_first rules) }
 {
@@ -118,6 +122,8 @@ pub fn make(alloc: Global, script: Script) -> Result<Made, NoMemory>
     ensures table { IfOk result (λ made. made.owned.config.table ≡ Some script.tools) }
     ensures lines { IfOk result (λ made. AreLines made.owned.config.lines script.runs) }
     ensures told { IfOk result (λ made. made.owned.told ≡ true) }
+    ensures remote { IfOk result (λ made. AreRemote made.owned.config.levels) }
+    ensures unreserved { IfOk result (λ made. (level : ℕ) → reserved_in made.owned level ≡ 0) }
     ensures world { IfOk result (λ made. made.owned.world ≡ first_world script) }
     ensures inputs { IfOk result (λ made. made.inputs ≡ script.inputs) }
     ensures steps { IfOk result (λ made. made.steps ≡ script.steps) }

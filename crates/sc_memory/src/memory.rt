@@ -1,4 +1,5 @@
 use sc_compile::{ScriptWorkshop, ToolTable};
+use sc_disk::MemDisk;
 use sc_owned::Parts;
 use sc_store::MemRemote;
 
@@ -9,6 +10,8 @@ impl Parts for Memory {
     type Shop = ScriptWorkshop;
 
     type Store = MemRemote;
+
+    type Disk = MemDisk;
 
     type Finder = ToolTable;
 }

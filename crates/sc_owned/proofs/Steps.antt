@@ -1,53 +1,54 @@
 -- How a state moves by what its parts did.
-use Rattle.std.proofs.Common.{◌≡◌, ◌≢◌, ℕ, ◌≤◌, Bool, true, IsTrue, List, [], Option, Some, None, refl, ap, sym, subst, option_map}
+use Rattle.std.proofs.Common.{◌≡◌, ◌≢◌, ℕ, ◌≤◌, Bool, true, IsTrue, List, [], Option, Some, None, refl, ap, sym, subst, ◌∙◌, option_map}
 use Rattle.sc_compile.specs.Answers.{Runs, told_answer}
 use Rattle.sc_compile.specs.Placings.{Places}
 use Rattle.sc_entry.specs.Causes.{IfTold}
 use Rattle.sc_entry.specs.Entries.{objects}
 use Rattle.sc_entry.specs.declared.object.FileObjectSource.{FileObjectSource}
 use Rattle.sc_model.specs.Follows.{kind_at}
-use Rattle.sc_model.specs.World.{Level, Moves, Opens_by, Need, Place, RunCause, World, and_one, first_missing}
+use Rattle.sc_hold.specs.Holding.{OpensNone, ReservesBy}
+use Rattle.sc_model.specs.Plan.{level_facts}
+use Rattle.sc_model.specs.World.{Asks, Level, Moves, Opens_by, Need, Place, RunCause, World, and_one, first_missing}
 use Rattle.sc_model.specs.declared.event.Answer.{Answer}
-use Rattle.sc_model.specs.declared.event.Answer.TheVariants.{Size as SizeIs}
+use Rattle.sc_model.specs.declared.event.Answer.TheVariants.{Found as FoundAt, Hit, Miss, Refused, Size as SizeIs}
 use Rattle.sc_model.specs.declared.event.Mode.{Mode}
 use Rattle.sc_model.specs.declared.event.Mode.TheVariants.{Path, Pre, Raw, Size, Whole}
 use Rattle.sc_model.specs.declared.event.RunAnswer.{RunAnswer}
 use Rattle.sc_job.specs.Setups.{setup}
 use Rattle.sc_model.specs.declared.event.What.{What}
-use Rattle.sc_model.specs.declared.event.What.TheVariants.{Asked, Placed, Ran, Wrote}
+use Rattle.sc_model.specs.declared.event.What.TheVariants.{Asked, Began, Closed, Committed, Dist, Filled, Idle, Keyed, Outcome, Passed, Placed, Ran, Reserved, Sent, Taken, TokenTaken, TooLong, WriteEnded, Wrote}
 use Rattle.sc_model.specs.declared.event.Written.{Written}
 use Rattle.sc_model.specs.declared.level.Handed.{Handed}
 use Rattle.sc_model.specs.declared.level.LevelKind.{LevelKind}
 use Rattle.sc_model.specs.declared.level.LevelKind.TheVariants.{Disk, Remote}
-use Rattle.sc_owned.specs.Laws.{remote_levels}
 use Rattle.sc_owned.specs.Moving.{placing_of, size_in}
-use Rattle.sc_owned.specs.State.{State}
+use Rattle.sc_owned.specs.State.{State, reserved_in}
 use Rattle.sc_store.specs.Asking.{AsksAt, PutsAt, has_mode}
 use Rattle.sc_stats.specs.declared.counters.LevelStats.{LevelStats}
-use Rattle.sc_store.specs.Held.{Held, level_in}
+use Rattle.sc_store.specs.Held.{Held, Room, level_in, room_in}
 
-no_path : (mode : Mode) → mode ≢ Path → IsTrue (has_mode Remote mode)
-no_path Whole h = refl
-no_path Raw h = refl
-no_path Path h = absurd (h refl)
-no_path Pre h = refl
-no_path Size h = refl
+any_mode : (kind : LevelKind) (mode : Mode) → mode ≢ Path → IsTrue (has_mode kind mode)
+any_mode Disk mode h = refl
+any_mode Remote Whole h = refl
+any_mode Remote Raw h = refl
+any_mode Remote Path h = absurd (h refl)
+any_mode Remote Pre h = refl
+any_mode Remote Size h = refl
 
 -- how a state moves to what is told and held
 abbrev pub MovesTo : State → Need → What → Bool → World → Type 0
-MovesTo o n x told w = (told ≡ o.told) × (o.told ≡ true → Moves (setup o.config) n (λ l. 0) x o.world w)
+MovesTo o n x told w = (told ≡ o.told) × (o.told ≡ true → Moves (setup o.config) n (reserved_in o) x o.world w)
 
 -- what the levels of a state hold
 abbrev pub held_in : State → Held
-held_in o = record { titles = []; facts = o.config.levels; policy = o.config.policy; told = o.told; levels = o.world.levels }
+held_in o = record { titles = []; facts = o.config.levels; policy = o.config.policy; told = o.told; levels = o.world.levels; rooms = o.rooms }
 
 asked_of : (o : State) (after : Held) (l : ℕ) (key : List ℕ) (mode : Mode) (a : Answer) (hs : List Handed) (n : Need) → mode ≢ Path → after.told ≡ o.told → AsksAt l key mode a (held_in o) after
     → MovesTo o n (Asked l key mode a hs) after.told (record o.world { levels = after.levels })
 asked_of o after l key mode a hs n path same asks = (
   same,
   λ told.
-      let has : IsTrue (has_mode (kind_at o.config.levels l) mode) = subst (λ (k : LevelKind). IsTrue (has_mode k mode)) (sym (remote_levels o l)) (no_path mode path) in
-      let h = asks told has 0 in
+      let h = asks told (any_mode (kind_at o.config.levels l) mode path) in
       (h.0, h.1, ap (λ ls. record o.world { levels = ls }) h.2),
 )
 
@@ -57,38 +58,41 @@ pub asked : (o now : State) (after : Held) (l : ℕ) (key : List ℕ) (mode : Mo
 asked o now after l key mode a hs n is path same asks =
     subst (λ (s : State). MovesTo s n (Asked l key mode a hs) after.told (record o.world { levels = after.levels })) is (asked_of o after l key mode a hs n path same asks)
 
+size_no_path : Size ≢ Path
+size_no_path e = absurd (cc)
+
 -- a level that was asked for its size may tell whatever was counted
 opens_any : (kind : LevelKind) (z : Option ℕ) (c d : Option LevelStats) (v w : Level) → Opens_by kind Size (SizeIs z c) v w → Opens_by kind Size (SizeIs z d) v w
 opens_any Disk z c d v w h = h
 opens_any Remote z c d v w h = h
 
-sized_of : (o : State) (after : Held) (l : ℕ) (a : Answer) (d : Option LevelStats) (n : Need) → after.told ≡ o.told → a ≡ SizeIs None None → AsksAt l [] Size a (held_in o) after
+sizes_of : (o : State) (v : Level) (l : ℕ) (a : Answer) (d : Option LevelStats) → Asks objects (level_facts o.config.levels l) (reserved_in o l) [] Size a (level_in o.world.levels l) v
+    → Asks objects (level_facts o.config.levels l) (reserved_in o l) [] Size (SizeIs (size_in a) d) (level_in o.world.levels l) v
+sizes_of o v l (SizeIs z c) d e = record { later = e.later; keeps = e.keeps; answers = e.answers; opens = opens_any (kind_at o.config.levels l) z c d (level_in o.world.levels l) v e.opens }
+sizes_of o v l (Hit b m) d e = absurd e.answers
+sizes_of o v l Miss d e = absurd e.answers
+sizes_of o v l (Refused c) d e = absurd e.answers
+sizes_of o v l (FoundAt p) d e = absurd e.answers
+
+sized_of : (o : State) (after : Held) (l : ℕ) (a : Answer) (d : Option LevelStats) (n : Need) → after.told ≡ o.told → AsksAt l [] Size a (held_in o) after
     → MovesTo o n (Asked l [] Size (SizeIs (size_in a) d) []) after.told (record o.world { levels = after.levels })
-sized_of o after l a d n same is asks =
-    rw is (
-      same,
-      λ told.
-          let has : IsTrue (has_mode (kind_at o.config.levels l) Size) = subst (λ (k : LevelKind). IsTrue (has_mode k Size)) (sym (remote_levels o l)) refl in
-          let h = subst (λ (x : Answer). AsksAt l [] Size x (held_in o) after) is asks told has 0 in
-          let e = h.1 in (
-            h.0,
-            record { later = e.later; keeps = e.keeps; answers = e.answers; opens = opens_any (kind_at o.config.levels l) None None d (level_in o.world.levels l) h.0 e.opens },
-            ap (λ ls. record o.world { levels = ls }) h.2,
-          ),
-    )
+sized_of o after l a d n same asks = (
+  same,
+  λ told. let h = asks told (any_mode (kind_at o.config.levels l) Size size_no_path) in (h.0, sizes_of o h.0 l a d h.1, ap (λ ls. record o.world { levels = ls }) h.2),
+)
 
 -- a level was asked for its size
-pub sized : (o now : State) (after : Held) (l : ℕ) (key : List ℕ) (a : Answer) (d : Option LevelStats) (n : Need) → o ≡ now → key ≡ [] → after.told ≡ o.told → a ≡ SizeIs None None → AsksAt l key Size a (held_in o) after
+pub sized : (o now : State) (after : Held) (l : ℕ) (key : List ℕ) (a : Answer) (d : Option LevelStats) (n : Need) → o ≡ now → key ≡ [] → after.told ≡ o.told → AsksAt l key Size a (held_in o) after
     → MovesTo now n (Asked l [] Size (SizeIs (size_in a) d) []) after.told (record o.world { levels = after.levels })
-sized o now after l key a d n is none same at asks =
+sized o now after l key a d n is none same asks =
     subst (λ (s : State). MovesTo s n (Asked l [] Size (SizeIs (size_in a) d) []) after.told (record o.world { levels = after.levels })) is
-    (sized_of o after l a d n same at (subst (λ (k : List ℕ). AsksAt l k Size a (held_in o) after) none asks))
+    (sized_of o after l a d n same (subst (λ (k : List ℕ). AsksAt l k Size a (held_in o) after) none asks))
 
 wrote_of : (o : State) (after : Held) (l : ℕ) (key bytes : List ℕ) (run : Bool) (how : Written) (n : Need) → after.told ≡ o.told → PutsAt l key bytes how (held_in o) after
     → MovesTo o n (Wrote l key bytes Whole run how) after.told (record o.world { levels = after.levels })
 wrote_of o after l key bytes run how n same puts = (
   same,
-  λ told. let h = puts told 0 in (h.0, (h.1, h.2), ap (λ ls. record o.world { levels = ls }) h.3),
+  λ told. let h = puts told (reserved_in o l) in (h.0, (h.1, h.2), ap (λ ls. record o.world { levels = ls }) h.3),
 )
 
 -- an entry was put at a level
@@ -135,3 +139,30 @@ placed o now n outputs hit failed runs placings g is wants hits none same later 
 pub none_found : {A B : Type 0} (found : Option A) (f : A → B) (there : Option B) → ((x : A) → found ≡ Some x → ⊥) → option_map f found ≡ there → there ≡ None
 none_found None f there not_some is = sym is
 none_found (Some x) f there not_some is = absurd (not_some x refl)
+
+-- what is open stays by an event that opens and closes nothing
+same_reserves : (x : What) (r : ℕ → ℕ) → OpensNone x → ReservesBy x r r
+same_reserves Idle r none = λ l. refl
+same_reserves (Passed a) r none = λ l. refl
+same_reserves (Taken a b) r none = λ l. refl
+same_reserves (Closed a) r none = λ l. refl
+same_reserves (Began a b) r none = λ l. refl
+same_reserves (Keyed a b c) r none = λ l. refl
+same_reserves (Asked a b c d e) r none = λ l. refl
+same_reserves (Placed a) r none = λ l. refl
+same_reserves TokenTaken r none = λ l. refl
+same_reserves (Ran a) r none = λ l. refl
+same_reserves (Dist a) r none = λ l. refl
+same_reserves (Outcome a b) r none = λ l. refl
+same_reserves (Reserved a b c d) r none = absurd none
+same_reserves (Filled a b c d e) r none = absurd none
+same_reserves (Committed a b c d) r none = absurd none
+same_reserves (Wrote a b c d e f) r none = λ l. refl
+same_reserves (WriteEnded a b) r none = λ l. refl
+same_reserves (Sent a) r none = λ l. refl
+same_reserves (TooLong a) r none = λ l. refl
+
+pub still : (o now : State) (x : What) (rooms : List Room) → o ≡ now → OpensNone x → rooms ≡ o.rooms → (OpensNone x → rooms ≡ now.rooms) × ReservesBy x (reserved_in now) (λ l. (room_in rooms l).reserved)
+still o now x rooms is none same =
+    let there : rooms ≡ now.rooms = same ∙ ap (λ (s : State). s.rooms) is in
+    (λ _. there, subst (λ (rs : List Room). ReservesBy x (reserved_in now) (λ l. (room_in rs l).reserved)) (sym there) (same_reserves x (reserved_in now) none))

@@ -21,7 +21,7 @@ use Rattle.sc_model.specs.declared.level.Policy.{Policy}
 use Rattle.sc_owned.specs.State.{State, is_made}
 use Rattle.sc_stats.specs.contracts.counters.LevelStats as counters_type
 use Rattle.sc_stats.specs.declared.counters.LevelStats.{LevelStats}
-use Rattle.sc_store.specs.Held.{level_code}
+use Rattle.sc_store.specs.Held.{Room, level_code, room_code}
 use base.Stored.{coded_via}
 use mathlib.Core.HLevel.{Σ_prop_path}
 
@@ -56,10 +56,10 @@ world_code = code_by (ℕ × (List Level × (Option (List (List ℕ × RunAnswer
     (λ _. refl)
 
 -- states that are made of the same and hold the same are one
-pub same_state : (a b : State) → ◌≡◌ {A = Config × (Bool × World)} (a.config, (a.told, a.world)) (b.config, (b.told, b.world)) → a ≡ b
+pub same_state : (a b : State) → ◌≡◌ {A = Config × (Bool × (World × List Room))} (a.config, (a.told, (a.world, a.rooms))) (b.config, (b.told, (b.world, b.rooms))) → a ≡ b
 same_state a b same =
     let configs : ◌≡◌ {A = (c : Config) × (is_made c.policy c.levels c.counters c.tokens c.limit ≡ true)} (a.config, a.one) (b.config, b.one) = Σ_prop_path (λ c. Coded-set coded_bool _ _) (ap (λ p. p.0) same) in
-    λ i. record { config = (configs i).0; told = (same i).1.0; world = (same i).1.1; one = (configs i).1 }
+    λ i. record { config = (configs i).0; told = (same i).1.0; world = (same i).1.1.0; rooms = (same i).1.1.1; one = (configs i).1 }
 
 abbrev pub state_code : Coded State
-state_code = coded_via (coded× config_code (coded× coded_bool world_code)) (λ s. (s.config, (s.told, s.world))) same_state
+state_code = coded_via (coded× config_code (coded× coded_bool (coded× world_code (coded_list room_code)))) (λ s. (s.config, (s.told, (s.world, s.rooms)))) same_state

@@ -4,24 +4,16 @@ use Rattle.sc_compile.specs.Answers.{Runs}
 use Rattle.sc_compile.specs.declared.run_line.RunLine.{RunLine}
 use Rattle.sc_compile.specs.declared.tool.Tool.{Tool}
 use Rattle.sc_job.specs.Setups.{Config, StoreTold}
+use Rattle.sc_disk_cache.specs.DiskStores.{DiskStore}
+use Rattle.sc_model.specs.Plan.{level_facts}
 use Rattle.sc_model.specs.World.{Place, World}
 use Rattle.sc_model.specs.declared.level.Container.TheVariants.{Disabled}
 use Rattle.sc_model.specs.declared.level.LevelFacts.{LevelFacts}
-use Rattle.sc_model.specs.declared.level.LevelKind.{LevelKind}
-use Rattle.sc_model.specs.declared.level.LevelKind.TheVariants.{Disk, Remote}
 use Rattle.sc_model.specs.declared.level.Policy.{Policy}
 use Rattle.sc_model.specs.declared.level.Policy.TheVariants.{Levels, Single}
 use Rattle.sc_stats.specs.declared.counters.LevelStats.{LevelStats}
-use Rattle.sc_store.specs.Held.{Held}
+use Rattle.sc_store.specs.Held.{Held, IsWithin, Room, level_in, room_in}
 use Rattle.sc_store.specs.Telling.{new_counters, store_location, store_max, store_type}
-
-abbrev pub is_remote : LevelKind → Bool
-is_remote Disk = false
-is_remote Remote = true
-
-abbrev pub are_remote : List LevelFacts → Bool
-are_remote [] = true
-are_remote (f ∷ fs) = is_remote f.kind && are_remote fs
 
 abbrev pub is_one : ℕ → Bool
 is_one zero = false
@@ -33,9 +25,9 @@ abbrev pub is_count : Policy → ℕ → Bool
 is_count Single n = is_one n
 is_count (Levels ps) n = nat_lt n 17
 
--- the levels that a daemon may have; so far each is a remote store
+-- the levels that a daemon may have
 abbrev pub is_good : Policy → List LevelFacts → Bool
-is_good policy fs = are_remote fs && is_count policy (length fs)
+is_good policy fs = is_count policy (length fs)
 
 -- the limits of a daemon: 1 to 65,535 tokens, and payloads of 1 to 16,777,216 bytes
 abbrev pub is_within : ℕ → ℕ → Bool
@@ -45,11 +37,13 @@ is_within tokens limit = (nat_lt 0 tokens && nat_lt tokens 65536) && (nat_lt 0 l
 abbrev pub is_made : Policy → List LevelFacts → List LevelStats → (tokens limit : ℕ) → Bool
 is_made policy fs counters tokens limit = (is_good policy fs && is_within tokens limit) && (length counters == length fs)
 
--- What a daemon is made of, whether its levels tell what they hold, and what its parts hold where they tell it.
+-- What a daemon is made of, whether its levels tell what they hold, what its parts hold where they tell it, and what is open
+-- at its levels.
 pub record State : Type 0 where
   pub config : Config
   pub told : Bool
   pub world : World
+  pub rooms : List Room
   pub one : is_made config.policy config.levels config.counters config.tokens config.limit ≡ true
 
 -- what the store of these levels tells of itself
@@ -72,3 +66,15 @@ world_of moment held runs placings faults = record {
   maker_faults = 0;
   container = Disabled;
 }
+
+-- the bytes that are reserved at a level
+abbrev pub reserved_in : State → ℕ → ℕ
+reserved_in o l = (room_in o.rooms l).reserved
+
+-- a level as a disk store
+abbrev pub disk_at : State → ℕ → DiskStore
+disk_at o l = record { facts = level_facts o.config.levels l; told = o.told; level = level_in o.world.levels l; reserved = (room_in o.rooms l).reserved; entries = (room_in o.rooms l).entries }
+
+-- each disk level's files and reservations take at most its capacity
+abbrev pub AreLevelsWithin : State → Type 0
+AreLevelsWithin o = (l : ℕ) → IsWithin (level_facts o.config.levels l) (level_in o.world.levels l) (room_in o.rooms l)

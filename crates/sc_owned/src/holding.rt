@@ -6,16 +6,19 @@ use crate::missing::first_missing;
 use crate::owned::Owned;
 use crate::parts::Parts;
 use sc_compile::{PlainCompiler, Workshop, begin};
+use sc_disk::LruDiskCacheAddEntry;
+use sc_disk_cache::{EntryError, Filling, Reservation};
 use sc_entry::{ByteText, CacheMode, FileObjectSource, Items, NoMemory, Queue, Text};
 use sc_hold::{Hold, Lookup, PutEnd};
 use sc_model::{
-    Answer, Bytes, Compile, KeyFound, Mode, Parsed, Placing, Refusal, RunAnswer, Written,
+    Answer, Bytes, Compile, KeyFound, LevelKind, Mode, Parsed, Placing, Refusal, RunAnswer, Written,
 };
 use std::alloc::Global;
 
 impl<P: Parts> Hold for Owned<P> {
-    ghost use Rattle.sc_owned.specs.Laws.{planned_levels, quiet_moves, remote_levels};
+    ghost use Rattle.sc_owned.specs.Laws.{planned_levels, quiet_moves, reserves_rooms, still_rooms, tells_same};
     ghost use Rattle.sc_owned.specs.Moving.{OwnedMoves};
+    ghost use Rattle.sc_owned.specs.State.{disk_at};
 
     ghost config = { λ o. o.config };
 
@@ -23,7 +26,13 @@ impl<P: Parts> Hold for Owned<P> {
 
     ghost moment = { λ o. o.world.moment };
 
-    ghost remote = { λ o level. remote_levels o level };
+    ghost disk = { λ o level. disk_at o level };
+
+    ghost still = { λ a n what b moves none level. still_rooms a n what b moves none level };
+
+    ghost tells = { λ a n what b moves level. tells_same a n what b moves level };
+
+    ghost reserves = { λ a n what b moves. reserves_rooms a n what b moves };
 
     ghost planned = { λ o. planned_levels o };
 
@@ -96,7 +105,9 @@ impl<P: Parts> Hold for Owned<P> {
         mode: Mode,
     ) -> Result<Lookup, NoMemory> {
         let _count = self.levels.len();
-        let answer = self.levels.ask(alloc, level as usize, key, mode)?;
+        let answer = self
+            .levels
+            .ask(alloc, level as usize, key, mode, self.moment)?;
         let handed = self.levels.backfills(alloc, level, key, mode, &answer)?;
         Ok(Lookup { answer, handed })
     }
@@ -104,7 +115,9 @@ impl<P: Parts> Hold for Owned<P> {
     fn size(&mut self, alloc: Global, level: u64) -> Result<Option<u64>, NoMemory> {
         let _count = self.levels.len();
         let none = Text::new(alloc);
-        let answer = self.levels.ask(alloc, level as usize, &none, Mode::Size)?;
+        let answer = self
+            .levels
+            .ask(alloc, level as usize, &none, Mode::Size, self.moment)?;
         Ok(size_in(&answer))
     }
 
@@ -141,6 +154,51 @@ impl<P: Parts> Hold for Owned<P> {
             .levels
             .put_step(alloc, level as usize, &bytes.key, &bytes.bytes, bytes.run)?;
         Ok(written)
+    }
+
+    fn kind(&self, level: u64) -> LevelKind {
+        let _count = self.levels.len();
+        self.levels.kind(level as usize)
+    }
+
+    fn reserve(&mut self, level: u64, bytes: &Bytes) -> Result<Reservation, NoMemory> {
+        let _count = self.levels.len();
+        let size = bytes.bytes.len() as u64;
+        let how = self
+            .levels
+            .reserve(level as usize, &bytes.key, size, self.moment)?;
+        Ok(how)
+    }
+
+    fn fill(
+        &mut self,
+        level: u64,
+        entry: LruDiskCacheAddEntry,
+        bytes: &Bytes,
+    ) -> Result<Filling, NoMemory> {
+        let _count = self.levels.len();
+        let bytes = bytes.bytes.as_slice();
+        let how = match self.levels.fill(level as usize, entry, bytes) {
+            Ok(how) => how,
+            Err(EntryError::NoMemory) => return Err(NoMemory),
+            Err(EntryError::NotOpen) => unreachable!(),
+        };
+        Ok(how)
+    }
+
+    fn commit(
+        &mut self,
+        level: u64,
+        entry: LruDiskCacheAddEntry,
+        _bytes: &Bytes,
+    ) -> Result<Written, NoMemory> {
+        let _count = self.levels.len();
+        let how = match self.levels.commit(level as usize, entry, self.moment) {
+            Ok(how) => how,
+            Err(EntryError::NoMemory) => return Err(NoMemory),
+            Err(EntryError::NotOpen) => unreachable!(),
+        };
+        Ok(how)
     }
 }
 

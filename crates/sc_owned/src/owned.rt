@@ -1,6 +1,6 @@
 ghost use Rattle.std.specs.Prelude.{◌≡◌, ◌≤◌, true, IfOk};
 ghost use Rattle.sc_model.specs.Next.{at_moment};
-ghost use Rattle.sc_owned.specs.State.{is_good, is_made, store_of, world_of};
+ghost use Rattle.sc_owned.specs.State.{AreLevelsWithin, is_good, is_made, store_of, world_of};
 ghost use Rattle.sc_stats.specs.Sums.{sat};
 ghost use Rattle.sc_store.specs.Telling.{new_counters};
 
@@ -11,11 +11,11 @@ use sc_store::Levels;
 use std::alloc::Global;
 use std::marker::Model;
 
-/// A daemon of one's own. Contracts see what it is made of, whether its levels tell what they hold, and what its parts
-/// hold where they tell it. So far each of its levels is a remote store.
+/// A daemon of one's own. Contracts see what it is made of, whether its levels tell what they hold, what its parts hold
+/// where they tell it, and what is open at its levels.
 #[derive(Drop)]
 pub struct Owned<P: Parts> {
-    pub(crate) levels: Levels<P::Store>,
+    pub(crate) levels: Levels<P::Store, P::Disk>,
     pub(crate) shop: P::Shop,
     pub(crate) finder: P::Finder,
     pub(crate) moment: u64,
@@ -36,6 +36,7 @@ impl<P: Parts> Model for Owned<P> {
       config = config_of d.levels d.tokens d.limit (P.Finder.table d.finder) (P.Shop.lines d.shop);
       told = d.levels.told;
       world = world_of d.moment d.levels (P.Shop.runs d.shop) (P.Shop.placings d.shop) (P.Shop.fault_count d.shop);
+      rooms = d.levels.rooms;
       one = d.one;
     } };
 }
@@ -44,7 +45,7 @@ impl<P: Parts> Owned<P> {
     /// A daemon over these levels, at moment 0, with so many tokens for runs (1 to 65,535); payloads have at most
     /// `limit` bytes (1 to 16,777,216).
     pub fn new(
-        levels: Levels<P::Store>,
+        levels: Levels<P::Store, P::Disk>,
         shop: P::Shop,
         finder: P::Finder,
         tokens: u64,
@@ -62,6 +63,7 @@ impl<P: Parts> Owned<P> {
         ensures table { result.config.table ≡ P.Finder.table finder }
         ensures lines { result.config.lines ≡ P.Shop.lines shop }
         ensures told { result.told ≡ levels.told }
+        ensures rooms { result.rooms ≡ levels.rooms }
         ensures world { result.world ≡ world_of 0 levels (P.Shop.runs shop) (P.Shop.placings shop) (P.Shop.fault_count shop) }
     {
         let _count = levels.len();
@@ -83,13 +85,21 @@ impl<P: Parts> Owned<P> {
     }
 
     /// Its levels.
-    pub fn levels(&self) -> &Levels<P::Store>
+    pub fn levels(&self) -> &Levels<P::Store, P::Disk>
         ensures facts { result.now.facts ≡ self.now.config.levels }
         ensures policy { result.now.policy ≡ self.now.config.policy }
         ensures told { result.now.told ≡ self.now.told }
         ensures levels { result.now.levels ≡ self.now.world.levels }
+        ensures rooms { result.now.rooms ≡ self.now.rooms }
     {
         &self.levels
+    }
+
+    /// What its levels keep: each disk level's files and reservations take at most its capacity.
+    pub fn keeps(&self)
+        ensures { AreLevelsWithin self.now }
+    {
+        self.levels.keeps();
     }
 
     /// The counters of its levels as they begin: their names and places, and nothing counted.

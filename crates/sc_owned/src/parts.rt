@@ -1,4 +1,5 @@
 use sc_compile::{Probe, Workshop};
+use sc_disk::Disk;
 use sc_store::Remote;
 
 /// The types of what a daemon is made of.
@@ -6,6 +7,8 @@ pub trait Parts {
     type Shop: Workshop + Drop;
 
     type Store: Remote + Drop;
+
+    type Disk: Disk + Drop;
 
     type Finder: Probe + Drop;
 }

@@ -1,10 +1,11 @@
 use crate::{Owned, Parts};
 use sc_compile::{RunLine, ScriptWorkshop, Tool, ToolKind, ToolTable};
+use sc_disk::MemDisk;
 use sc_entry::{ByteText, CacheMode, FileObjectSource, Items, Object, Text};
 use sc_hold::Hold;
 use sc_model::{
-    Answer, Bytes, CCompilerKind, Compile, CompilerKind, Mode, Objects, Output, Parsed, Placing,
-    Policy, Put, Refusal, RunAnswer, RunOutput, Status, Written,
+    Answer, Bytes, CCompilerKind, Compile, CompilerKind, LevelKind, Mode, Objects, Output, Parsed,
+    Placing, Policy, Put, Refusal, RunAnswer, RunOutput, Status, Written,
 };
 use sc_store::{Level, Levels, MemRemote, RemoteStorage};
 use std::alloc::Global;
@@ -25,6 +26,8 @@ impl Parts for Memory {
     type Shop = ScriptWorkshop;
 
     type Store = MemRemote;
+
+    type Disk = MemDisk;
 
     type Finder = ToolTable;
 }
@@ -136,6 +139,7 @@ fn write_first(
     key: &str,
 ) -> Result<Written, Fail> {
     assert!(rt; daemon.levels().len() > 0);
+    assert!(rt; matches!(daemon.kind(0), LevelKind::Remote));
     let put = Bytes {
         key: text(alloc, key)?,
         bytes: bytes(alloc, ENTRY)?,

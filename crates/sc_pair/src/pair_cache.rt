@@ -111,6 +111,13 @@ impl<D: Disk> PairCache<D> {
         self.store.size()
     }
 
+    /// The bytes that open entries of both parts have declared.
+    pub fn reserved(&self) -> u64
+        ensures { result ≡ reserved self.now.store }
+    {
+        self.store.reserved()
+    }
+
     /// How many files of both parts are indexed.
     pub fn len(&self) -> usize
         ensures { result ≡ length self.now.store.index }

@@ -1,8 +1,8 @@
 -- One level moved, and no other.
-use Rattle.std.proofs.Common.{◌≡◌, ℕ, zero, suc, ◌<◌, Bool, true, false, ◌&&◌, IsTrue, List, [], ◌∷◌, length, map, slice_index_or, slice_set, Result, Ok, Err, IfOk, refl, arith, subst, sym, ap, ◌∙◌}
+use Rattle.std.proofs.Common.{◌≡◌, ◌≢◌, ◌==◌, eqb-true, eq-eqb, ℕ, zero, suc, ◌<◌, Bool, true, false, ◌&&◌, IsTrue, List, [], ◌∷◌, length, map, slice_index_or, slice_set, Result, Ok, Err, IfOk, refl, arith, subst, sym, ap, ◌∙◌}
 use Rattle.std.proofs.lemmas.List.{length-map, map-set}
 use Rattle.sc_model.specs.Plan.{level_facts, no_level}
-use Rattle.sc_model.specs.World.{Asks, Later, Level, Wrote_at, early_cause, no_level_held}
+use Rattle.sc_model.specs.World.{Asks, Later, Level, Wrote_at, causes, early_cause, no_level_held, same_maps}
 use Rattle.sc_model.specs.declared.event.Answer.{Answer}
 use Rattle.sc_model.specs.declared.event.Mode.{Mode}
 use Rattle.sc_model.specs.declared.event.Written.{Written}
@@ -10,8 +10,11 @@ use Rattle.sc_model.specs.declared.level.LevelFacts.{LevelFacts}
 use Rattle.sc_model.specs.declared.level.Policy.{Policy}
 use Rattle.sc_entry.specs.Entries.{objects}
 use Rattle.sc_model.specs.declared.event.Mode.TheVariants.{Whole}
-use Rattle.sc_store.specs.Asking.{AskCause, AsksAt, AsksLevel, PutCause, PutsAt, PutsLevel, has_mode}
-use Rattle.sc_store.specs.Held.{Held, HeldLevel, all_tell, held_of, level_in}
+use Rattle.sc_disk_cache.specs.DiskStores.{DiskStore}
+use Rattle.sc_disk_cache.specs.Moving.{ReserveCause}
+use Rattle.sc_disk_cache.specs.declared.reserving.Reservation.{Reservation}
+use Rattle.sc_store.specs.Asking.{AloneAt, AsksAt, AsksLevel, CauseBy, PutCause, PutsAt, PutsLevel, has_mode}
+use Rattle.sc_store.specs.Held.{AreWithin, Held, HeldLevel, IsWithin, Room, all_tell, disk_in, disk_of, held_of, level_in, no_room, room_in}
 
 -- what a move of one level leaves
 pub record Alone (old new : Held) (l : ℕ) (before after : HeldLevel) : Type 0 where
@@ -20,6 +23,9 @@ pub record Alone (old new : Held) (l : ℕ) (before after : HeldLevel) : Type 0 
   pub policy : new.policy ≡ old.policy
   pub told : new.told ≡ old.told
   pub alone : new.levels ≡ slice_set old.levels l after.level
+  pub rooms : new.rooms ≡ slice_set old.rooms l after.room
+  pub room_was : room_in old.rooms l ≡ before.room
+  pub room_is : room_in new.rooms l ≡ after.room
   pub facts_were : level_facts old.facts l ≡ before.facts
   pub was : level_in old.levels l ≡ before.level
   pub is : level_in new.levels l ≡ after.level
@@ -72,13 +78,16 @@ module _ {S : Type 0} (seen : S → HeldLevel) where
         policy = refl;
         told = tell_stays stores l store later within is told;
         alone = maps (λ x. x.level) new ∙ map-set (λ s. (seen s).level) stores l later ∙ ap (λ xs. slice_set xs l (seen later).level) (sym (maps (λ x. x.level) stores));
+        rooms = maps (λ x. x.room) new ∙ map-set (λ s. (seen s).room) stores l later ∙ ap (λ xs. slice_set xs l (seen later).room) (sym (maps (λ x. x.room) stores));
+        room_was = ap (λ xs. slice_index_or xs l no_room) (maps (λ x. x.room) stores) ∙ part_at (λ s. (seen s).room) stores l store no_room within is;
+        room_is = ap (λ xs. slice_index_or xs l no_room) (maps (λ x. x.room) new) ∙ new_at (λ s. (seen s).room) stores l later no_room within;
         facts_were = ap (λ xs. slice_index_or xs l no_level) (maps (λ x. x.facts) stores) ∙ part_at (λ s. (seen s).facts) stores l store no_level within is;
         was = ap (λ xs. slice_index_or xs l no_level_held) (maps (λ x. x.level) stores) ∙ part_at (λ s. (seen s).level) stores l store no_level_held within is;
         is = ap (λ xs. slice_index_or xs l no_level_held) (maps (λ x. x.level) new) ∙ new_at (λ s. (seen s).level) stores l later no_level_held within;
         tells = one_tells stores l store within is;
       }
 
-  within_stores : (policy : Policy) (stores : List S) (l : ℕ) → l < length (held_of (map seen stores) policy).levels → l < length stores
+  pub within_stores : (policy : Policy) (stores : List S) (l : ℕ) → l < length (held_of (map seen stores) policy).levels → l < length stores
   within_stores policy stores l h = rw (maps (λ x. x.level) stores, length-map) at h
 
   -- a store of the list was changed
@@ -126,24 +135,37 @@ module _ {S : Type 0} (seen : S → HeldLevel) where
       let here : l < length stores = within_stores policy stores l (subst (λ (o : Held). l < length o.levels) (sym at) within) in
       ap (λ xs. held_of (map seen xs) policy) (same_back stores l store later here is same) ∙ at
 
+  rooms_of : (policy : Policy) (stores : List S) (l : ℕ) (store later : S) → l < length stores → store ≡ slice_index_or stores l store → (seen later).room ≡ (seen store).room → (held_of (map seen (slice_set stores l later)) policy).rooms ≡ (held_of (map seen stores) policy).rooms
+  rooms_of policy stores l store later within is room = maps (λ x. x.room) (slice_set stores l later) ∙ stays (λ s. (seen s).room) stores l store later within is room ∙ sym (maps (λ x. x.room) stores)
+
+  -- nothing was opened nor closed
+  pub same_rooms : (old : Held) (policy : Policy) (stores : List S) (l : ℕ) (store later : S) → held_of (map seen stores) policy ≡ old → l < length old.levels → store ≡ slice_index_or stores l store → (seen later).room ≡ (seen store).room
+      → (held_of (map seen (slice_set stores l later)) policy).rooms ≡ old.rooms
+  same_rooms old policy stores l store later at within is room =
+      let here : l < length stores = within_stores policy stores l (subst (λ (o : Held). l < length o.levels) (sym at) within) in
+      rooms_of policy stores l store later here is room ∙ ap (λ (o : Held). o.rooms) at
+
 pub if_ok : {A E : Type 0} {P Q : A → Type 0} (r : Result A E) → ((a : A) → P a → Q a) → IfOk r P → IfOk r Q
 if_ok (Ok a) f h = f a h
 if_ok (Err e) f h = tt
 
 -- the clauses of a lookup
 pub asks_at : (old new : Held) (l : ℕ) (before after : HeldLevel) (key : List ℕ) (mode : Mode) (answer : Answer) → Alone old new l before after → AsksLevel key mode answer before after → AsksAt l key mode answer old new
-asks_at old new l before after key mode answer m asks told has r =
+asks_at old new l before after key mode answer m asks told has =
     let known : IsTrue (has_mode before.facts.kind mode) = subst (λ (f : LevelFacts). IsTrue (has_mode f.kind mode)) m.facts_were has in
-    let h = asks (m.tells told) known r in (
+    let h = asks (m.tells told) known in
+    let r = (room_in old.rooms l).reserved in (
       after.level,
-      subst (λ (v : Level). Asks objects (level_facts old.facts l) r key mode answer v after.level) (sym m.was) (subst (λ (f : LevelFacts). Asks objects f r key mode answer before.level after.level) (sym m.facts_were) h),
+      subst (λ (v : Level). Asks objects (level_facts old.facts l) r key mode answer v after.level) (sym m.was) (subst (λ (f : LevelFacts). Asks objects f r key mode answer before.level after.level) (sym m.facts_were)
+          (subst (λ (n : Room). Asks objects before.facts n.reserved key mode answer before.level after.level) (sym m.room_was) h)),
       m.alone,
     )
 
-pub cause_at : (old new : Held) (l : ℕ) (before after : HeldLevel) (key : List ℕ) (mode : Mode) (answer : Answer) → Alone old new l before after → AskCause mode answer key before.level after.level
-    → AskCause mode answer key (level_in old.levels l) (level_in new.levels l)
+pub cause_at : (old new : Held) (l : ℕ) (before after : HeldLevel) (key : List ℕ) (mode : Mode) (answer : Answer) → Alone old new l before after → CauseBy before.facts.kind mode answer key before.level after.level
+    → CauseBy (level_facts old.facts l).kind mode answer key (level_in old.levels l) (level_in new.levels l)
 cause_at old new l before after key mode answer m h =
-    subst (λ (v : Level). AskCause mode answer key v (level_in new.levels l)) (sym m.was) (subst (λ (w : Level). AskCause mode answer key before.level w) (sym m.is) h)
+    subst (λ (f : LevelFacts). CauseBy f.kind mode answer key (level_in old.levels l) (level_in new.levels l)) (sym m.facts_were)
+    (subst (λ (v : Level). CauseBy before.facts.kind mode answer key v (level_in new.levels l)) (sym m.was) (subst (λ (w : Level). CauseBy before.facts.kind mode answer key before.level w) (sym m.is) h))
 
 pub later_at : (old new : Held) (l : ℕ) (before after : HeldLevel) → Alone old new l before after → Later before.level after.level → Later (level_in old.levels l) (level_in new.levels l)
 later_at old new l before after m h = subst (λ (v : Level). Later v (level_in new.levels l)) (sym m.was) (subst (λ (w : Level). Later before.level w) (sym m.is) h)
@@ -168,3 +190,70 @@ put_cause_at old new l before after policy key how by m h =
     subst (λ (p : Policy). PutCause (early_cause p (level_facts old.facts l) key) how (level_in old.levels l) (level_in new.levels l)) by
     (subst (λ (f : LevelFacts). PutCause (early_cause policy f key) how (level_in old.levels l) (level_in new.levels l)) (sym m.facts_were)
     (subst (λ (v : Level). PutCause (early_cause policy before.facts key) how v (level_in new.levels l)) (sym m.was) (subst (λ (w : Level). PutCause (early_cause policy before.facts key) how before.level w) (sym m.is) h)))
+
+-- The clauses of calls of disk levels.
+pub alone_moved : (old new : Held) (l : ℕ) (before after : HeldLevel) → Alone old new l before after → AloneAt l old new
+alone_moved old new l before after m = record {
+  titles = m.titles;
+  facts = m.facts;
+  policy = m.policy;
+  told = m.told;
+  levels = alone_at old new l before after m;
+  rooms = m.rooms ∙ ap (λ r. slice_set old.rooms l r) (sym m.room_is);
+}
+
+-- a level that tells where all do
+abbrev pub telling : Bool → DiskStore → DiskStore
+telling told s = record s { told = told }
+
+disk_was : (old new : Held) (l : ℕ) (before after : HeldLevel) → Alone old new l before after → disk_in old l ≡ telling old.told (disk_of before)
+disk_was old new l before after m = λ i. record { facts = m.facts_were i; told = old.told; level = m.was i; reserved = (m.room_was i).reserved; entries = (m.room_was i).entries }
+
+disk_is : (old new : Held) (l : ℕ) (before after : HeldLevel) → Alone old new l before after → after.facts ≡ before.facts → disk_in new l ≡ telling new.told (disk_of after)
+disk_is old new l before after m same =
+    let facts : level_facts new.facts l ≡ after.facts = ap (λ fs. level_facts fs l) m.facts ∙ m.facts_were ∙ sym same in
+    λ i. record { facts = facts i; told = new.told; level = m.is i; reserved = (m.room_is i).reserved; entries = (m.room_is i).entries }
+
+-- what is so of a level's store is so of it among the levels
+pub disk_at : (P : DiskStore → DiskStore → Type 0) (old new : Held) (l : ℕ) (before after : HeldLevel) → Alone old new l before after → after.facts ≡ before.facts → P (telling old.told (disk_of before)) (telling new.told (disk_of after)) → P (disk_in old l) (disk_in new l)
+disk_at P old new l before after m same h =
+    subst (λ (s : DiskStore). P s (disk_in new l)) (sym (disk_was old new l before after m)) (subst (λ (s : DiskStore). P (telling old.told (disk_of before)) s) (sym (disk_is old new l before after m same)) h)
+
+pub maps_at : (old new : Held) (l : ℕ) (before after : HeldLevel) → Alone old new l before after → same_maps before.level after.level → same_maps (level_in old.levels l) (level_in new.levels l)
+maps_at old new l before after m h = subst (λ (v : Level). same_maps v (level_in new.levels l)) (sym m.was) (subst (λ (w : Level). same_maps before.level w) (sym m.is) h)
+
+pub reserve_cause_at : (old new : Held) (l : ℕ) (before after : HeldLevel) (policy : Policy) (key : List ℕ) (size : ℕ) (how : Reservation) → policy ≡ old.policy → Alone old new l before after → ReserveCause (causes policy before.facts before.room.reserved key size) how before.level after.level
+    → ReserveCause (causes old.policy (level_facts old.facts l) (room_in old.rooms l).reserved key size) how (level_in old.levels l) (level_in new.levels l)
+reserve_cause_at old new l before after policy key size how by m h =
+    subst (λ (p : Policy). ReserveCause (causes p (level_facts old.facts l) (room_in old.rooms l).reserved key size) how (level_in old.levels l) (level_in new.levels l)) by
+    (subst (λ (f : LevelFacts). ReserveCause (causes policy f (room_in old.rooms l).reserved key size) how (level_in old.levels l) (level_in new.levels l)) (sym m.facts_were)
+    (subst (λ (r : Room). ReserveCause (causes policy before.facts r.reserved key size) how (level_in old.levels l) (level_in new.levels l)) (sym m.room_was)
+    (subst (λ (v : Level). ReserveCause (causes policy before.facts before.room.reserved key size) how v (level_in new.levels l)) (sym m.was)
+    (subst (λ (w : Level). ReserveCause (causes policy before.facts before.room.reserved key size) how before.level w) (sym m.is) h))))
+
+-- The levels stay within their capacities.
+never : false ≡ true → ⊥
+never e = absurd (cc)
+
+within_at : (old : Held) (facts : List LevelFacts) (levels : List Level) (rooms : List Room) (l : ℕ) (f : LevelFacts) (v : Level) (r : Room) → level_facts facts l ≡ f → level_in levels l ≡ v → room_in rooms l ≡ r → IsWithin f v r → IsWithin (level_facts facts l) (level_in levels l) (room_in rooms l)
+within_at old facts levels rooms l f v r is_f is_v is_r h =
+    subst (λ (g : LevelFacts). IsWithin g (level_in levels l) (room_in rooms l)) (sym is_f) (subst (λ (w : Level). IsWithin f w (room_in rooms l)) (sym is_v) (subst (λ (q : Room). IsWithin f v q) (sym is_r) h))
+
+pub other_set : {A : Type 0} (xs : List A) (l m : ℕ) (x d : A) → m ≢ l → slice_index_or (slice_set xs l x) m d ≡ slice_index_or xs m d
+other_set [] l m x d apart = refl
+other_set (y ∷ ys) zero zero x d apart = absurd (apart refl)
+other_set (y ∷ ys) zero (suc m) x d apart = refl
+other_set (y ∷ ys) (suc l) zero x d apart = refl
+other_set (y ∷ ys) (suc l) (suc m) x d apart = other_set ys l m x d (λ e. apart (ap suc e))
+
+pub stays_within : (old new : Held) (l : ℕ) (before after : HeldLevel) → Alone old new l before after → after.facts ≡ before.facts → IsWithin after.facts after.level after.room → AreWithin old → AreWithin new
+stays_within old new l before after m same within all k = (elim (k == l) as (λ t. (k == l) ≡ t → IsWithin (level_facts new.facts k) (level_in new.levels k) (room_in new.rooms k)) [
+  | true ↦ λ e.
+      let is : k ≡ l = eqb-true k l e in
+      subst (λ (i : ℕ). IsWithin (level_facts new.facts i) (level_in new.levels i) (room_in new.rooms i)) (sym is)
+      (within_at old new.facts new.levels new.rooms l after.facts after.level after.room (ap (λ fs. level_facts fs l) m.facts ∙ m.facts_were ∙ sym same) m.is m.room_is within)
+  | false ↦ λ e.
+      let apart : k ≢ l = λ is. absurd (never (sym e ∙ eq-eqb k l is)) in
+      within_at old new.facts new.levels new.rooms k (level_facts old.facts k) (level_in old.levels k) (room_in old.rooms k) (ap (λ fs. level_facts fs k) m.facts)
+      (ap (λ vs. level_in vs k) m.alone ∙ other_set old.levels l k after.level no_level_held apart) (ap (λ rs. room_in rs k) m.rooms ∙ other_set old.rooms l k after.room no_room apart) (all k)
+]) refl

@@ -6,3 +6,5 @@ pub mod Spellings
 pub mod StoreKeys
 pub mod Askings
 pub mod Alone
+pub mod Behind
+pub mod Disks

@@ -15,5 +15,5 @@ test_of Background = is_background
 test_of Any = takes_writes
 
 -- what does not change of each of these levels
-abbrev pub facts_of : {R : Type 0} → List (Level R) → List LevelFacts
+abbrev pub facts_of : {R : Type 0} {D : Type 0} → List (Level R D) → List LevelFacts
 facts_of levels = map (λ l. (held_level l).facts) levels

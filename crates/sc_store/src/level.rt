@@ -1,30 +1,44 @@
-ghost use Rattle.std.specs.Prelude.{◌≡◌, true, false, Some, Ok, IfOk};
+//! One level of a daemon's store.
+ghost use Rattle.std.specs.Prelude.{◌≡◌, ◌≢◌, true, false, Some, Ok, IfOk, IfErr, OnErr, Err};
+ghost use Rattle.sc_disk_cache.specs.DiskStores.{entry_path};
+ghost use Rattle.sc_disk_cache.specs.Entries.{ClosesEntry, CommitCause, CommitsEntry, CommitsNothing, FillsBy, IsOpenAt};
+ghost use Rattle.sc_disk_cache.specs.Moving.{EvictsFor, OpensBy, ReserveCause, SameEntries};
+ghost use Rattle.sc_disk_cache.specs.declared.filling.EntryError.TheVariants.{NotOpen as IsNotOpen};
+ghost use Rattle.sc_disk_cache.specs.declared.reserving.Reservation.TheVariants.{Refused as IsNotReserved};
 ghost use Rattle.sc_entry.specs.Keys.{is_store_key as is_key};
-ghost use Rattle.sc_model.specs.World.{Later, early_cause as early};
+ghost use Rattle.sc_model.specs.World.{Later, causes, early_cause as early, same_maps};
+ghost use Rattle.sc_model.specs.declared.event.Mode.TheVariants.{Path};
 ghost use Rattle.sc_model.specs.declared.level.Cause.{Cause};
-ghost use Rattle.sc_store.specs.Asking.{AskCause, AsksLevel, PutCause, PutsLevel, fixed_answer, reads_key};
+ghost use Rattle.sc_model.specs.declared.level.LevelKind.TheVariants.{Disk as IsDisk, Remote as IsRemote};
+ghost use Rattle.sc_store.specs.Asking.{AsksLevel, CauseBy, PutCause, PutsLevel, ReservesDisk, fixed_answer, reads_key};
+ghost use Rattle.sc_store.specs.Held.{IsWithin, disk_of};
 ghost use Rattle.sc_store.specs.Levels.{held_level};
 ghost use Rattle.sc_store.specs.Telling.{level_max};
 
+use crate::disk_storage::DiskStorage;
 use crate::remote::Remote;
 use crate::remote_storage::RemoteStorage;
+use sc_disk::{Disk, LruDiskCacheAddEntry};
+use sc_disk_cache::{EntryError, Filling, Reservation};
 use sc_entry::{ByteText, CacheMode, NoMemory, Text};
 use sc_model::{Answer, LevelKind, Mode, Policy, Written};
 use std::alloc::Global;
 
 /// One level of a daemon's store.
 #[derive(Drop)]
-pub enum Level<R: Remote> {
+pub enum Level<R: Remote, D: Disk> {
     Remote(RemoteStorage<R>),
+    Disk(DiskStorage<D>),
 }
 
-impl<R: Remote> Level<R> {
+impl<R: Remote, D: Disk> Level<R, D> {
     /// What type of store it is, in a word.
     pub fn cache_type_name(&self) -> &str
         ensures { result.now ≡ (held_level self.now).title.type_name }
     {
         match self {
             Level::Remote(store) => store.cache_type_name(),
+            Level::Disk(_) => "disk",
         }
     }
 
@@ -37,6 +51,10 @@ impl<R: Remote> Level<R> {
                 let text = store.location(alloc)?;
                 Ok(text)
             }
+            Level::Disk(store) => {
+                let text = store.location(alloc)?;
+                Ok(text)
+            }
         }
     }
 
@@ -46,6 +64,10 @@ impl<R: Remote> Level<R> {
     {
         match self {
             Level::Remote(store) => store.max_size(),
+            Level::Disk(store) => {
+                store.keeps();
+                Some(store.max_size())
+            }
         }
     }
 
@@ -55,6 +77,10 @@ impl<R: Remote> Level<R> {
     {
         match self {
             Level::Remote(store) => store.kind(),
+            Level::Disk(store) => {
+                store.keeps();
+                LevelKind::Disk
+            }
         }
     }
 
@@ -64,6 +90,29 @@ impl<R: Remote> Level<R> {
     {
         match self {
             Level::Remote(store) => store.configured(),
+            Level::Disk(store) => store.configured(),
+        }
+    }
+
+    /// What every level keeps: a disk store's files and reservations take at most its capacity.
+    pub fn keeps(&self)
+        ensures { IsWithin (held_level self.now).facts (held_level self.now).level (held_level self.now).room }
+    {
+        match self {
+            Level::Remote(store) => {
+                let _remote = store.kind();
+            }
+            Level::Disk(store) => store.keeps(),
+        }
+    }
+
+    /// The bytes that open entries have declared: none at a remote level.
+    pub fn reserved(&self) -> u64
+        ensures { result ≡ (held_level self.now).room.reserved }
+    {
+        match self {
+            Level::Remote(store) => store.reserved(),
+            Level::Disk(store) => store.reserved(),
         }
     }
 
@@ -73,29 +122,47 @@ impl<R: Remote> Level<R> {
     {
         match self {
             Level::Remote(store) => store.mode(),
+            Level::Disk(store) => store.mode(),
         }
     }
+}
 
-    /// Looks a key up.
-    pub(crate) fn ask(&mut self, alloc: Global, key: &Text, mode: Mode) -> Result<Answer, NoMemory>
+impl<R: Remote, D: Disk + Drop> Level<R, D> {
+    /// Looks a key up, at this moment.
+    pub(crate) fn ask(
+        &mut self,
+        alloc: Global,
+        key: &Text,
+        mode: Mode,
+        now: u64,
+    ) -> Result<Answer, NoMemory>
+        requires { (held_level self.old).facts.kind ≡ IsDisk → mode ≢ Path }
         ensures title { (held_level self.new).title ≡ (held_level self.old).title }
         ensures facts { (held_level self.new).facts ≡ (held_level self.old).facts }
         ensures told { (held_level self.new).told ≡ (held_level self.old).told }
+        ensures room { (held_level self.new).room ≡ (held_level self.old).room }
         ensures later { Later (held_level self.old).level (held_level self.new).level }
+        ensures within { IsWithin (held_level self.new).facts (held_level self.new).level (held_level self.new).room }
         ensures asked { IfOk result (λ answer. AsksLevel key.now mode answer (held_level self.old) (held_level self.new)) }
-        ensures cause { IfOk result (λ answer. AskCause mode answer key.now (held_level self.old).level (held_level self.new).level) }
+        ensures cause { IfOk result (λ answer. CauseBy (held_level self.old).facts.kind mode answer key.now (held_level self.old).level (held_level self.new).level) }
         ensures bad_key { reads_key mode ≡ true → is_key key.now ≡ false → (result ≡ Ok (Answer.Refused Cause.BadKey)) × (self.new ≡ self.old) }
-        ensures no_read { reads_key mode ≡ false → (result ≡ Ok (fixed_answer mode)) × (self.new ≡ self.old) }
+        ensures no_read { (held_level self.old).facts.kind ≡ IsRemote → reads_key mode ≡ false → (result ≡ Ok (fixed_answer mode)) × (self.new ≡ self.old) }
     {
         match self {
             Level::Remote(store) => {
-                let answer = store.ask(alloc, key, mode)?;
-                Ok(answer)
+                let _remote = store.kind();
+                store.ask(alloc, key, mode)
+            }
+            Level::Disk(store) => {
+                store.keeps();
+                let answer = store.ask(key, mode, now);
+                store.keeps();
+                answer
             }
         }
     }
 
-    /// Puts an entry under a key.
+    /// Puts an entry under a key of a remote level.
     pub(crate) fn put_step(
         &mut self,
         alloc: Global,
@@ -103,16 +170,120 @@ impl<R: Remote> Level<R> {
         key: &Text,
         bytes: &ByteText,
     ) -> Result<Written, NoMemory>
+        requires { (held_level self.old).facts.kind ≡ IsRemote }
         ensures title { (held_level self.new).title ≡ (held_level self.old).title }
         ensures facts { (held_level self.new).facts ≡ (held_level self.old).facts }
         ensures told { (held_level self.new).told ≡ (held_level self.old).told }
+        ensures room { (held_level self.new).room ≡ (held_level self.old).room }
         ensures later { Later (held_level self.old).level (held_level self.new).level }
+        ensures within { IsWithin (held_level self.new).facts (held_level self.new).level (held_level self.new).room }
         ensures wrote { IfOk result (λ how. PutsLevel policy.now key.now bytes.now how (held_level self.old) (held_level self.new)) }
         ensures cause { IfOk result (λ how. PutCause (early policy.now (held_level self.old).facts key.now) how (held_level self.old).level (held_level self.new).level) }
         ensures early { (c : Cause) → early policy.now (held_level self.old).facts key.now ≡ Some c → (result ≡ Ok (Written.Refused c)) × (self.new ≡ self.old) }
     {
         match self {
             Level::Remote(store) => store.put_step(alloc, policy, key, bytes),
+            Level::Disk(store) => {
+                store.keeps();
+                unreachable!()
+            }
+        }
+    }
+
+    /// Opens an entry for a key of a disk level, of this size.
+    pub(crate) fn reserve(
+        &mut self,
+        policy: &Policy,
+        key: &Text,
+        size: u64,
+        now: u64,
+    ) -> Result<Reservation, NoMemory>
+        requires { (held_level self.old).facts.kind ≡ IsDisk }
+        ensures title { (held_level self.new).title ≡ (held_level self.old).title }
+        ensures facts { (held_level self.new).facts ≡ (held_level self.old).facts }
+        ensures told { (held_level self.new).told ≡ (held_level self.old).told }
+        ensures later { Later (held_level self.old).level (held_level self.new).level }
+        ensures within { IsWithin (held_level self.new).facts (held_level self.new).level (held_level self.new).room }
+        ensures moved { IfOk result (λ how. ReservesDisk policy.now key.now size how (disk_of (held_level self.old)) (disk_of (held_level self.new))) }
+        ensures entry { IfOk result (λ how. OpensBy (entry_path key.now) size how (disk_of (held_level self.old)) (disk_of (held_level self.new))) }
+        ensures kept { OnErr result (SameEntries (disk_of (held_level self.old)) (disk_of (held_level self.new))) }
+        ensures evicts { OnErr result (EvictsFor size (disk_of (held_level self.old)) (disk_of (held_level self.new))) }
+        ensures cause { IfOk result (λ how. ReserveCause (causes policy.now (held_level self.old).facts (held_level self.old).room.reserved key.now size) how (held_level self.old).level (held_level self.new).level) }
+        ensures early { (c : Cause) → early policy.now (held_level self.old).facts key.now ≡ Some c → (result ≡ Ok (IsNotReserved c)) × (self.new ≡ self.old) }
+    {
+        match self {
+            Level::Disk(store) => {
+                let how = store.reserve(policy, key, size, now);
+                store.keeps();
+                how
+            }
+            Level::Remote(store) => {
+                let _remote = store.kind();
+                unreachable!()
+            }
+        }
+    }
+
+    /// Adds bytes behind those that an open entry of a disk level was filled with. A refusal closes the entry.
+    pub(crate) fn fill(
+        &mut self,
+        entry: LruDiskCacheAddEntry,
+        bytes: &[u8],
+    ) -> Result<Filling, EntryError>
+        requires { (held_level self.old).facts.kind ≡ IsDisk }
+        ensures title { (held_level self.new).title ≡ (held_level self.old).title }
+        ensures facts { (held_level self.new).facts ≡ (held_level self.old).facts }
+        ensures told { (held_level self.new).told ≡ (held_level self.old).told }
+        ensures later { Later (held_level self.old).level (held_level self.new).level }
+        ensures within { IsWithin (held_level self.new).facts (held_level self.new).level (held_level self.new).room }
+        ensures filled { IfOk result (λ how. IsOpenAt entry (disk_of (held_level self.old)) × FillsBy entry bytes.now how (disk_of (held_level self.old)) (disk_of (held_level self.new))) }
+        ensures closed { OnErr result (IsOpenAt entry (disk_of (held_level self.old)) → ClosesEntry entry.number (disk_of (held_level self.old)) (disk_of (held_level self.new))) }
+        ensures kept { OnErr result (same_maps (held_level self.old).level (held_level self.new).level) }
+        ensures not_open { IfErr result (λ refused. refused ≡ IsNotOpen → (IsOpenAt entry (disk_of (held_level self.old)) → ⊥) × (self.new ≡ self.old)) }
+        ensures shut { (IsOpenAt entry (disk_of (held_level self.old)) → ⊥) → result ≡ Err IsNotOpen }
+    {
+        match self {
+            Level::Disk(store) => {
+                let how = store.fill(entry, bytes);
+                store.keeps();
+                how
+            }
+            Level::Remote(store) => {
+                let _remote = store.kind();
+                unreachable!()
+            }
+        }
+    }
+
+    /// Puts an open entry's file of a disk level in its key's place, and closes the entry, also by a refusal.
+    pub(crate) fn commit(
+        &mut self,
+        entry: LruDiskCacheAddEntry,
+        now: u64,
+    ) -> Result<Written, EntryError>
+        requires { (held_level self.old).facts.kind ≡ IsDisk }
+        ensures title { (held_level self.new).title ≡ (held_level self.old).title }
+        ensures facts { (held_level self.new).facts ≡ (held_level self.old).facts }
+        ensures told { (held_level self.new).told ≡ (held_level self.old).told }
+        ensures later { Later (held_level self.old).level (held_level self.new).level }
+        ensures within { IsWithin (held_level self.new).facts (held_level self.new).level (held_level self.new).room }
+        ensures closed { IsOpenAt entry (disk_of (held_level self.old)) → ClosesEntry entry.number (disk_of (held_level self.old)) (disk_of (held_level self.new)) }
+        ensures committed { IfOk result (λ how. IsOpenAt entry (disk_of (held_level self.old)) × CommitsEntry entry.number how (disk_of (held_level self.old)) (disk_of (held_level self.new))) }
+        ensures cause { IfOk result (λ how. CommitCause entry.number how (disk_of (held_level self.old)) (disk_of (held_level self.new))) }
+        ensures kept { OnErr result (CommitsNothing entry.number (disk_of (held_level self.old)) (disk_of (held_level self.new))) }
+        ensures not_open { IfErr result (λ refused. refused ≡ IsNotOpen → (IsOpenAt entry (disk_of (held_level self.old)) → ⊥) × (self.new ≡ self.old)) }
+        ensures shut { (IsOpenAt entry (disk_of (held_level self.old)) → ⊥) → result ≡ Err IsNotOpen }
+    {
+        match self {
+            Level::Disk(store) => {
+                let how = store.commit(entry, now);
+                store.keeps();
+                how
+            }
+            Level::Remote(store) => {
+                let _remote = store.kind();
+                unreachable!()
+            }
         }
     }
 }

@@ -1,14 +1,24 @@
-ghost use Rattle.std.specs.Prelude.{◌≡◌, ◌<◌, true, false, Some, Ok, IfOk, length, slice_set};
+ghost use Rattle.std.specs.Prelude.{◌≡◌, ◌≢◌, ◌<◌, ◌↔◌, ℕ, IsTrue, true, false, Some, Ok, Err, IfOk, IfErr, OnErr, length, slice_set};
+ghost use Rattle.sc_disk_cache.specs.DiskStores.{entry_path};
+ghost use Rattle.sc_disk_cache.specs.Entries.{ClosesEntry, CommitCause, CommitsEntry, CommitsNothing, FillsBy, IsOpenAt};
+ghost use Rattle.sc_disk_cache.specs.Moving.{EvictsFor, OpensBy, ReserveCause, SameEntries};
+ghost use Rattle.sc_disk_cache.specs.declared.filling.EntryError.TheVariants.{NotOpen as IsNotOpen};
+ghost use Rattle.sc_disk_cache.specs.declared.reserving.Reservation.TheVariants.{Refused as IsNotReserved};
 ghost use Rattle.sc_entry.specs.Keys.{is_store_key as is_key};
 ghost use Rattle.sc_model.specs.Plan.{level_facts};
-ghost use Rattle.sc_model.specs.World.{Later, early_cause as early};
+ghost use Rattle.sc_model.specs.World.{Later, causes, early_cause as early, same_maps};
+ghost use Rattle.sc_model.specs.declared.event.Mode.TheVariants.{Path};
 ghost use Rattle.sc_model.specs.declared.level.Cause.{Cause};
-ghost use Rattle.sc_store.specs.Asking.{AskCause, AsksAt, PutCause, PutsAt, fixed_answer, reads_key};
-ghost use Rattle.sc_store.specs.Held.{level_in};
-ghost use Rattle.sc_store.specs.Levels.{held_level, held_levels};
+ghost use Rattle.sc_model.specs.declared.level.Policy.{Policy as PolicyType};
+ghost use Rattle.sc_model.specs.declared.level.LevelKind.TheVariants.{Disk as IsDisk, Remote as IsRemote};
+ghost use Rattle.sc_store.specs.Asking.{AloneAt, AsksAt, CauseBy, PutCause, PutsAt, ReservesDisk, fixed_answer, reads_key};
+ghost use Rattle.sc_store.specs.Held.{AreWithin, are_unreserved, disk_in, level_in, room_in};
+ghost use Rattle.sc_store.specs.Levels.{held_level, held_levels, rooms_of};
 
 use crate::level::Level;
 use crate::remote::Remote;
+use sc_disk::{Disk, LruDiskCacheAddEntry};
+use sc_disk_cache::{EntryError, Filling, Reservation};
 use sc_entry::{ByteText, CacheMode, NoMemory, Text};
 use sc_model::{Answer, LevelKind, Mode, Policy, Written};
 use std::alloc::Global;
@@ -17,12 +27,12 @@ use std::marker::Model;
 /// The store of a daemon: its levels in order, and its policy. Contracts see what does not change of each level, the
 /// policy, whether every level tells what it holds, and what each holds where it tells that.
 #[derive(Drop)]
-pub struct Levels<R: Remote> {
-    pub(crate) levels: Vec<Level<R>>,
+pub struct Levels<R: Remote, D: Disk> {
+    pub(crate) levels: Vec<Level<R, D>>,
     pub(crate) policy: Policy,
 }
 
-impl<R: Remote> Model for Levels<R> {
+impl<R: Remote, D: Disk> Model for Levels<R, D> {
     ghost use Rattle.sc_store.specs.Held.{Held, held_code};
 
     ghost Value = { Held };
@@ -32,14 +42,55 @@ impl<R: Remote> Model for Levels<R> {
     ghost use Rattle.sc_store.specs.Levels.{held_levels};
 
     ghost view = { λ d. held_levels d.levels.items d.policy };
+
+    ghost use Rattle.sc_store.specs.Held.{AreWithin};
+
+    /// Each disk level is within its capacity.
+    ghost invariant = { λ d. AreWithin (held_levels d.levels.items d.policy) };
 }
 
-impl<R: Remote> Levels<R> {
+/// Each of these levels is within its capacity.
+fn keep_all<R: Remote, D: Disk>(levels: &[Level<R, D>])
+    ensures { (policy : PolicyType) → AreWithin (held_levels levels.now policy) }
+{
+    if let [first, rest @ ..] = levels {
+        first.keeps();
+        keep_all(rest);
+    }
+}
+
+/// Whether nothing is reserved at any of these levels.
+fn are_unreserved<R: Remote, D: Disk>(levels: &[Level<R, D>]) -> bool
+    ensures { result ≡ are_unreserved (rooms_of levels.now) }
+{
+    if let [first, rest @ ..] = levels {
+        return first.reserved() == 0 && are_unreserved(rest);
+    }
+    true
+}
+
+impl<R: Remote, D: Disk> Levels<R, D> {
     /// The store of these levels, in their order.
-    pub fn new(levels: Vec<Level<R>>, policy: Policy) -> Levels<R>
+    pub fn new(levels: Vec<Level<R, D>>, policy: Policy) -> Levels<R, D>
         ensures { result ≡ held_levels levels.items policy }
     {
+        keep_all(&levels);
         Levels { levels, policy }
+    }
+
+    /// What the levels keep, after each call and also after a refusal: each disk level's files and reservations take at most
+    /// its capacity.
+    pub fn keeps(&self)
+        ensures { AreWithin self.now }
+    {
+        let _within = self.levels.len();
+    }
+
+    /// Whether no bytes are reserved at any level.
+    pub fn is_unreserved(&self) -> bool
+        ensures { IsTrue result ↔ ((l : ℕ) → (room_in self.now.rooms l).reserved ≡ 0) }
+    {
+        are_unreserved(&self.levels)
     }
 
     /// How many levels there are.
@@ -47,15 +98,17 @@ impl<R: Remote> Levels<R> {
         ensures levels { result ≡ length self.now.levels }
         ensures facts { result ≡ length self.now.facts }
         ensures titles { result ≡ length self.now.titles }
+        ensures rooms { result ≡ length self.now.rooms }
     {
         self.levels.len()
     }
 
     /// A level. Levels that all tell what they hold are levels of which each tells it.
-    pub fn get(&self, level: usize) -> &Level<R>
+    pub fn get(&self, level: usize) -> &Level<R, D>
         requires { level < length self.now.levels }
         ensures facts { (held_level result.now).facts ≡ level_facts self.now.facts level }
         ensures level { (held_level result.now).level ≡ level_in self.now.levels level }
+        ensures room { (held_level result.now).room ≡ room_in self.now.rooms level }
         ensures told { self.now.told ≡ true → (held_level result.now).told ≡ true }
         ensures alone { length self.now.levels ≡ 1 → (held_level result.now).told ≡ self.now.told }
     {
@@ -91,31 +144,37 @@ impl<R: Remote> Levels<R> {
     {
         self.levels[level].mode()
     }
+}
 
-    /// Looks a key up at one level, and at no other.
+impl<R: Remote, D: Disk + Drop> Levels<R, D> {
+    /// Looks a key up at one level, and at no other, at this moment. Paths of a disk level are asked for by a call of their
+    /// own.
     pub fn ask(
         &mut self,
         alloc: Global,
         level: usize,
         key: &Text,
         mode: Mode,
+        now: u64,
     ) -> Result<Answer, NoMemory>
-        requires { level < length self.old.levels }
+        requires level { level < length self.old.levels }
+        requires mode { (level_facts self.old.facts level).kind ≡ IsDisk → mode ≢ Path }
         ensures titles { self.new.titles ≡ self.old.titles }
         ensures facts { self.new.facts ≡ self.old.facts }
         ensures policy { self.new.policy ≡ self.old.policy }
         ensures told { self.new.told ≡ self.old.told }
+        ensures rooms { self.new.rooms ≡ self.old.rooms }
         ensures alone { self.new.levels ≡ slice_set self.old.levels level (level_in self.new.levels level) }
         ensures later { Later (level_in self.old.levels level) (level_in self.new.levels level) }
         ensures asked { IfOk result (λ answer. AsksAt level key.now mode answer self.old self.new) }
-        ensures cause { IfOk result (λ answer. AskCause mode answer key.now (level_in self.old.levels level) (level_in self.new.levels level)) }
+        ensures cause { IfOk result (λ answer. CauseBy (level_facts self.old.facts level).kind mode answer key.now (level_in self.old.levels level) (level_in self.new.levels level)) }
         ensures bad_key { reads_key mode ≡ true → is_key key.now ≡ false → (result ≡ Ok (Answer.Refused Cause.BadKey)) × (self.new ≡ self.old) }
-        ensures no_read { reads_key mode ≡ false → (result ≡ Ok (fixed_answer mode)) × (self.new ≡ self.old) }
+        ensures no_read { (level_facts self.old.facts level).kind ≡ IsRemote → reads_key mode ≡ false → (result ≡ Ok (fixed_answer mode)) × (self.new ≡ self.old) }
     {
-        self.levels[level].ask(alloc, key, mode)
+        self.levels[level].ask(alloc, key, mode, now)
     }
 
-    /// Puts an entry under a key at one level, and at no other. The flag says that the bytes come from a local run: a
+    /// Puts an entry under a key at one remote level, and at no other. The flag says that the bytes come from a local run: a
     /// remote level keeps no mark of it.
     pub fn put_step(
         &mut self,
@@ -125,11 +184,13 @@ impl<R: Remote> Levels<R> {
         bytes: &ByteText,
         _from_run: bool,
     ) -> Result<Written, NoMemory>
-        requires { level < length self.old.levels }
+        requires level { level < length self.old.levels }
+        requires remote { (level_facts self.old.facts level).kind ≡ IsRemote }
         ensures titles { self.new.titles ≡ self.old.titles }
         ensures facts { self.new.facts ≡ self.old.facts }
         ensures policy { self.new.policy ≡ self.old.policy }
         ensures told { self.new.told ≡ self.old.told }
+        ensures rooms { self.new.rooms ≡ self.old.rooms }
         ensures alone { self.new.levels ≡ slice_set self.old.levels level (level_in self.new.levels level) }
         ensures later { Later (level_in self.old.levels level) (level_in self.new.levels level) }
         ensures wrote { IfOk result (λ how. PutsAt level key.now bytes.now how self.old self.new) }
@@ -137,5 +198,69 @@ impl<R: Remote> Levels<R> {
         ensures early { (c : Cause) → early self.old.policy (level_facts self.old.facts level) key.now ≡ Some c → (result ≡ Ok (Written.Refused c)) × (self.new ≡ self.old) }
     {
         self.levels[level].put_step(alloc, &self.policy, key, bytes)
+    }
+
+    /// Opens an entry for a key at one disk level, of this size, and at no other: files are evicted until it fits.
+    pub fn reserve(
+        &mut self,
+        level: usize,
+        key: &Text,
+        size: u64,
+        now: u64,
+    ) -> Result<Reservation, NoMemory>
+        requires level { level < length self.old.levels }
+        requires disk { (level_facts self.old.facts level).kind ≡ IsDisk }
+        ensures alone { AloneAt level self.old self.new }
+        ensures later { Later (level_in self.old.levels level) (level_in self.new.levels level) }
+        ensures moved { IfOk result (λ how. ReservesDisk self.old.policy key.now size how (disk_in self.old level) (disk_in self.new level)) }
+        ensures entry { IfOk result (λ how. OpensBy (entry_path key.now) size how (disk_in self.old level) (disk_in self.new level)) }
+        ensures kept { OnErr result (SameEntries (disk_in self.old level) (disk_in self.new level)) }
+        ensures evicts { OnErr result (EvictsFor size (disk_in self.old level) (disk_in self.new level)) }
+        ensures cause { IfOk result (λ how. ReserveCause (causes self.old.policy (level_facts self.old.facts level) (room_in self.old.rooms level).reserved key.now size) how (level_in self.old.levels level) (level_in self.new.levels level)) }
+        ensures early { (c : Cause) → early self.old.policy (level_facts self.old.facts level) key.now ≡ Some c → (result ≡ Ok (IsNotReserved c)) × (self.new ≡ self.old) }
+    {
+        self.levels[level].reserve(&self.policy, key, size, now)
+    }
+
+    /// Adds bytes behind those that an open entry of one disk level was filled with. A refusal closes the entry, and so does
+    /// want of memory.
+    pub fn fill(
+        &mut self,
+        level: usize,
+        entry: LruDiskCacheAddEntry,
+        bytes: &[u8],
+    ) -> Result<Filling, EntryError>
+        requires level { level < length self.old.levels }
+        requires disk { (level_facts self.old.facts level).kind ≡ IsDisk }
+        ensures alone { AloneAt level self.old self.new }
+        ensures later { Later (level_in self.old.levels level) (level_in self.new.levels level) }
+        ensures filled { IfOk result (λ how. IsOpenAt entry (disk_in self.old level) × FillsBy entry bytes.now how (disk_in self.old level) (disk_in self.new level)) }
+        ensures closed { OnErr result (IsOpenAt entry (disk_in self.old level) → ClosesEntry entry.number (disk_in self.old level) (disk_in self.new level)) }
+        ensures kept { OnErr result (same_maps (level_in self.old.levels level) (level_in self.new.levels level)) }
+        ensures not_open { IfErr result (λ refused. refused ≡ IsNotOpen → (IsOpenAt entry (disk_in self.old level) → ⊥) × (self.new ≡ self.old)) }
+        ensures shut { (IsOpenAt entry (disk_in self.old level) → ⊥) → result ≡ Err IsNotOpen }
+    {
+        self.levels[level].fill(entry, bytes)
+    }
+
+    /// Puts an open entry's file of one disk level in its key's place, and closes the entry, also by a refusal.
+    pub fn commit(
+        &mut self,
+        level: usize,
+        entry: LruDiskCacheAddEntry,
+        now: u64,
+    ) -> Result<Written, EntryError>
+        requires level { level < length self.old.levels }
+        requires disk { (level_facts self.old.facts level).kind ≡ IsDisk }
+        ensures alone { AloneAt level self.old self.new }
+        ensures later { Later (level_in self.old.levels level) (level_in self.new.levels level) }
+        ensures closed { IsOpenAt entry (disk_in self.old level) → ClosesEntry entry.number (disk_in self.old level) (disk_in self.new level) }
+        ensures committed { IfOk result (λ how. IsOpenAt entry (disk_in self.old level) × CommitsEntry entry.number how (disk_in self.old level) (disk_in self.new level)) }
+        ensures cause { IfOk result (λ how. CommitCause entry.number how (disk_in self.old level) (disk_in self.new level)) }
+        ensures kept { OnErr result (CommitsNothing entry.number (disk_in self.old level) (disk_in self.new level)) }
+        ensures not_open { IfErr result (λ refused. refused ≡ IsNotOpen → (IsOpenAt entry (disk_in self.old level) → ⊥) × (self.new ≡ self.old)) }
+        ensures shut { (IsOpenAt entry (disk_in self.old level) → ⊥) → result ≡ Err IsNotOpen }
+    {
+        self.levels[level].commit(entry, now)
     }
 }

@@ -1,6 +1,7 @@
 //! Stores of compile results: a store behind a network, and a daemon's levels of stores in order.
 #![tactic(auto)]
 
+mod disk_storage;
 mod facts;
 mod level;
 mod levels;
@@ -12,11 +13,13 @@ mod remote_storage;
 mod store_key;
 mod telling;
 
+pub use disk_storage::DiskStorage;
 pub use level::Level;
 pub use levels::Levels;
 pub use mem_remote::MemRemote;
 pub use remote::{Remote, RemoteRead, RemoteWrite};
 pub use remote_storage::RemoteStorage;
+pub use sc_disk_cache::{DiskCache, EntryError, Filling, Reservation};
 pub use store_key::normalize_key;
 
 #[cfg(test)]

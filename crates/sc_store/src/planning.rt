@@ -10,6 +10,7 @@ use crate::level::Level;
 use crate::levels::Levels;
 use crate::remote::Remote;
 use crate::remote_storage::is_read_only;
+use sc_disk::Disk;
 use sc_entry::{ByteText, Items, NoMemory, Queue, Text};
 use sc_model::{Answer, Bytes, Handed, LevelPolicy, Mode, Policy, Put, Refusal};
 use std::alloc::Global;
@@ -58,18 +59,18 @@ fn rest_policies(policies: &[LevelPolicy]) -> &[LevelPolicy]
 }
 
 /// Whether a level may be written, and takes these writes.
-fn is_taken<R: Remote>(which: Takes, level: &Level<R>, policy: LevelPolicy) -> bool
+fn is_taken<R: Remote, D: Disk>(which: Takes, level: &Level<R, D>, policy: LevelPolicy) -> bool
     ensures { result ≡ (not (plans.reads_only (held_level level.now).facts.mode) && test_of which policy) }
 {
     !is_read_only(level.mode()) && has_policy(which, policy)
 }
 
 /// The writable levels that take these writes, in order.
-fn levels_of<R: Remote>(
+fn levels_of<R: Remote, D: Disk>(
     alloc: Global,
     which: Takes,
     policies: &[LevelPolicy],
-    levels: &[Level<R>],
+    levels: &[Level<R, D>],
 ) -> Result<Queue<u64>, NoMemory>
     ensures { IfOk result (λ found. found ≡ plans.levels_of (test_of which) 0 policies.now (facts_of levels.now)) }
 {
@@ -89,7 +90,7 @@ fn levels_of<R: Remote>(
 }
 
 /// The first `count` levels, or all where there are fewer.
-fn first_levels<R: Remote>(levels: &[Level<R>], count: u64) -> &[Level<R>]
+fn first_levels<R: Remote, D: Disk>(levels: &[Level<R, D>], count: u64) -> &[Level<R, D>]
     ensures { facts_of result.now ≡ take count (facts_of levels.now) }
 {
     if count < levels.len() as u64 {
@@ -127,7 +128,7 @@ fn hit_bytes(key: &Text, bytes: &ByteText, mark: bool) -> Result<Bytes, NoMemory
     })
 }
 
-impl<R: Remote> Levels<R> {
+impl<R: Remote, D: Disk> Levels<R, D> {
     /// Whether one store stands alone, and is written by itself.
     pub fn is_single(&self) -> bool
         ensures { result ≡ single self.now.policy }

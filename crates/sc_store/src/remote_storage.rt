@@ -5,6 +5,7 @@ ghost use Rattle.sc_model.specs.Plan.{reads_only};
 ghost use Rattle.sc_model.specs.Script.{is_single as single};
 ghost use Rattle.sc_model.specs.World.{Asks, Later, early_cause as early};
 ghost use Rattle.sc_model.specs.declared.level.Cause.{Cause};
+ghost use Rattle.sc_model.specs.declared.level.LevelKind.TheVariants.{Remote as IsRemote};
 ghost use Rattle.sc_store.specs.Asking as asking;
 ghost use Rattle.sc_store.specs.Held.{held_remote, remote_facts, remote_level};
 ghost use Rattle.sc_store.specs.Telling.{kind_max};
@@ -199,10 +200,19 @@ impl<R: Remote> RemoteStorage<R> {
 
     /// What kind of store it is.
     pub fn kind(&self) -> LevelKind
-        ensures { result ≡ self.now.facts.kind }
+        ensures kind { result ≡ self.now.facts.kind }
+        ensures remote { self.now.facts.kind ≡ IsRemote }
     {
         let _facts = &self.configured;
         LevelKind::Remote
+    }
+
+    /// The bytes that open entries have declared: a remote store has none.
+    pub fn reserved(&self) -> u64
+        ensures { result ≡ self.now.room.reserved }
+    {
+        let _facts = &self.configured;
+        0
     }
 
     /// The mode that the store was made with.
@@ -226,6 +236,7 @@ impl<R: Remote> RemoteStorage<R> {
         ensures title { self.new.title ≡ self.old.title }
         ensures facts { self.new.facts ≡ self.old.facts }
         ensures told { self.new.told ≡ self.old.told }
+        ensures room { self.new.room ≡ self.old.room }
         ensures later { Later self.old.level self.new.level }
         ensures asked { IfOk result (λ answer. self.old.told ≡ true → (r : ℕ) → Asks objects self.old.facts r key.now Mode.Raw answer self.old.level self.new.level) }
         ensures cause { IfOk result (λ answer. asking.AskCause Mode.Raw answer key.now self.old.level self.new.level) }
@@ -241,6 +252,7 @@ impl<R: Remote> RemoteStorage<R> {
         ensures title { self.new.title ≡ self.old.title }
         ensures facts { self.new.facts ≡ self.old.facts }
         ensures told { self.new.told ≡ self.old.told }
+        ensures room { self.new.room ≡ self.old.room }
         ensures later { Later self.old.level self.new.level }
         ensures asked { IfOk result (λ answer. asking.AsksLevel key.now mode answer self.old self.new) }
         ensures cause { IfOk result (λ answer. asking.AskCause mode answer key.now self.old.level self.new.level) }
@@ -271,6 +283,7 @@ impl<R: Remote> RemoteStorage<R> {
         ensures title { self.new.title ≡ self.old.title }
         ensures facts { self.new.facts ≡ self.old.facts }
         ensures told { self.new.told ≡ self.old.told }
+        ensures room { self.new.room ≡ self.old.room }
         ensures later { Later self.old.level self.new.level }
         ensures wrote { IfOk result (λ how. asking.PutsLevel policy.now key.now bytes.now how self.old self.new) }
         ensures cause { IfOk result (λ how. asking.PutCause (early policy.now self.old.facts key.now) how self.old.level self.new.level) }

@@ -12,6 +12,7 @@ use crate::level::Level;
 use crate::levels::Levels;
 use crate::remote::Remote;
 use crate::remote_storage::is_read_only;
+use sc_disk::Disk;
 use sc_entry::{CacheMode, NoMemory, Text};
 use sc_model::Policy;
 use sc_stats::LevelStats;
@@ -25,7 +26,7 @@ fn some_size(size: u64) -> Option<u64>
 }
 
 /// What the levels may take together, as far as that is known. The sum stops at the end of `u64`.
-fn max_of<R: Remote>(levels: &[Level<R>]) -> u64
+fn max_of<R: Remote, D: Disk>(levels: &[Level<R, D>]) -> u64
     ensures { result ≡ telling.max_onto 0 (facts_of levels.now) }
 {
     let mut sum: u64 = 0;
@@ -38,7 +39,7 @@ fn max_of<R: Remote>(levels: &[Level<R>]) -> u64
 }
 
 /// Whether every level is read-only.
-fn all_read_only<R: Remote>(levels: &[Level<R>]) -> bool
+fn all_read_only<R: Remote, D: Disk>(levels: &[Level<R, D>]) -> bool
     ensures { result ≡ sizes.all_read_only (facts_of levels.now) }
 {
     let mut left = levels;
@@ -52,7 +53,7 @@ fn all_read_only<R: Remote>(levels: &[Level<R>]) -> bool
 }
 
 /// The mode of a store of these levels: read-only where there are levels and each is.
-fn mode_of<R: Remote>(levels: &[Level<R>]) -> CacheMode
+fn mode_of<R: Remote, D: Disk>(levels: &[Level<R, D>]) -> CacheMode
     ensures { result ≡ telling.store_mode (facts_of levels.now) }
 {
     if levels.is_empty() {
@@ -79,10 +80,10 @@ fn level_name(alloc: Global, number: u64, type_name: &str) -> Result<Text, NoMem
 }
 
 /// The counters of a level of which nothing was counted.
-fn new_counter<R: Remote>(
+fn new_counter<R: Remote, D: Disk>(
     alloc: Global,
     number: u64,
-    level: &Level<R>,
+    level: &Level<R, D>,
 ) -> Result<LevelStats, NoMemory>
     ensures { IfOk result (λ counters. counters ≡ record no_level_stats { name = telling.level_name number (held_level level.now).title.type_name; location = (held_level level.now).title.location }) }
 {
@@ -92,7 +93,10 @@ fn new_counter<R: Remote>(
     Ok(counters)
 }
 
-fn new_counters<R: Remote>(alloc: Global, levels: &[Level<R>]) -> Result<Vec<LevelStats>, NoMemory>
+fn new_counters<R: Remote, D: Disk>(
+    alloc: Global,
+    levels: &[Level<R, D>],
+) -> Result<Vec<LevelStats>, NoMemory>
     ensures { IfOk result (λ counters. counters.items ≡ telling.new_counters 0 (telling.titles_of levels.now)) }
 {
     let mut counters = Vec::new(alloc);
@@ -118,7 +122,7 @@ fn levels_location(alloc: Global, count: usize) -> Result<Text, NoMemory>
 }
 
 /// The type of the first level's store.
-fn first_type<R: Remote>(levels: &[Level<R>]) -> &str
+fn first_type<R: Remote, D: Disk>(levels: &[Level<R, D>]) -> &str
     ensures { result.now ≡ telling.first_type (telling.titles_of levels.now) }
 {
     match levels {
@@ -128,7 +132,10 @@ fn first_type<R: Remote>(levels: &[Level<R>]) -> &str
 }
 
 /// Where the first level's store is.
-fn first_location<R: Remote>(alloc: Global, levels: &[Level<R>]) -> Result<Text, NoMemory>
+fn first_location<R: Remote, D: Disk>(
+    alloc: Global,
+    levels: &[Level<R, D>],
+) -> Result<Text, NoMemory>
     ensures { IfOk result (λ text. text ≡ telling.first_location (telling.titles_of levels.now)) }
 {
     match levels {
@@ -141,7 +148,7 @@ fn first_location<R: Remote>(alloc: Global, levels: &[Level<R>]) -> Result<Text,
 }
 
 /// What the first level's store may take.
-fn first_max<R: Remote>(levels: &[Level<R>]) -> Option<u64>
+fn first_max<R: Remote, D: Disk>(levels: &[Level<R, D>]) -> Option<u64>
     ensures { result ≡ telling.first_max (facts_of levels.now) }
 {
     match levels {
@@ -150,7 +157,7 @@ fn first_max<R: Remote>(levels: &[Level<R>]) -> Option<u64>
     }
 }
 
-impl<R: Remote> Levels<R> {
+impl<R: Remote, D: Disk> Levels<R, D> {
     /// What type the store has, in a word.
     pub fn cache_type_name(&self) -> &str
         ensures { result.now ≡ telling.store_type self.now.policy self.now.titles }

@@ -1,7 +1,13 @@
-use crate::{Level, Levels, MemRemote, Remote, RemoteRead, RemoteStorage, RemoteWrite};
-use sc_entry::{ByteText, CacheMode, Items, Text};
-use sc_model::{Answer, Cause, Mode, Policy, RemoteFault, Store, Written};
+use crate::{
+    DiskStorage, Level, Levels, MemRemote, Remote, RemoteRead, RemoteStorage, RemoteWrite,
+};
+use sc_disk::MemDisk;
+use sc_disk_cache::{DiskCache, Filling, Reservation};
+use sc_entry::{ByteText, CacheMode, Calls, Items, Text};
+use sc_model::{Answer, Cause, LevelKind, Mode, Policy, RemoteFault, Store, Written};
 use std::alloc::Global;
+use std::collections::BTreeMap;
+use std::process::Abort;
 use std::test::Fail;
 
 /// An entry: `hi` on standard output.
@@ -89,7 +95,7 @@ fn ample_remote(rt: HostRuntime) -> Result<(), Fail> {
 /// One lookup, told in words; the levels are known to the caller alone.
 fn ask(
     alloc: Global,
-    levels: &mut Levels<MemRemote>,
+    levels: &mut Levels<MemRemote, MemDisk>,
     level: usize,
     key: &str,
     mode: Mode,
@@ -97,20 +103,26 @@ fn ask(
     if level >= levels.len() {
         return Ok(Answer::Found(ByteText::new(alloc)));
     }
+    let LevelKind::Remote = levels.kind(level) else {
+        return Ok(Answer::Found(ByteText::new(alloc)));
+    };
     let key = text(alloc, key)?;
-    let answer = levels.ask(alloc, level, &key, mode)?;
+    let answer = levels.ask(alloc, level, &key, mode, 0)?;
     Ok(answer)
 }
 
 fn put(
     alloc: Global,
-    levels: &mut Levels<MemRemote>,
+    levels: &mut Levels<MemRemote, MemDisk>,
     level: usize,
     key: &str,
 ) -> Result<&'static str, Fail> {
     if level >= levels.len() {
         return Ok("no level");
     }
+    let LevelKind::Remote = levels.kind(level) else {
+        return Ok("a disk level");
+    };
     let key = text(alloc, key)?;
     let entry = bytes(alloc, ENTRY)?;
     let how = levels.put_step(alloc, level, &key, &entry, true)?;
@@ -118,7 +130,7 @@ fn put(
 }
 
 /// Two levels, the second read-only.
-fn small_levels(alloc: Global, fails: u64) -> Result<Levels<MemRemote>, Fail> {
+fn small_levels(alloc: Global, fails: u64) -> Result<Levels<MemRemote, MemDisk>, Fail> {
     let mut levels = Vec::new(alloc);
     let empty = MemRemote::new(alloc, Items::new(alloc), Items::new(alloc))?;
     levels.push(Level::Remote(RemoteStorage::new(empty, CacheMode::ReadWrite)))?;
@@ -190,7 +202,69 @@ fn level_shows_its_remote(rt: HostRuntime) -> Result<(), Fail> {
     if levels.len() < 2 {
         return Ok(());
     }
-    let Level::Remote(store) = levels.get(1);
-    assert_eq!(rt; store.remote().len(), 2);
+    let held = match levels.get(1) {
+        Level::Remote(store) => store.remote().len(),
+        Level::Disk(_) => 0,
+    };
+    assert_eq!(rt; held, 2);
+    Ok(())
+}
+
+/// An empty disk in memory under this root.
+fn disk(alloc: Global, root: &[u8]) -> Result<MemDisk, Fail> {
+    let calls = Calls::failing_at(alloc, Items::new(alloc))?;
+    Ok(MemDisk::new(alloc, bytes(alloc, root)?, BTreeMap::new(alloc), calls))
+}
+
+/// One level over two such disks, of 100 bytes.
+fn disk_level(alloc: Global) -> Result<Levels<MemRemote, MemDisk>, Fail> {
+    let cache = DiskCache::new(
+        alloc,
+        disk(alloc, b"/0")?,
+        disk(alloc, b"/0p")?,
+        100,
+        CacheMode::ReadWrite,
+    );
+    let store = DiskStorage::new(cache);
+    let levels = vec![in alloc; Level::Disk(store)]?;
+    Ok(Levels::new(levels, Policy::Single))
+}
+
+/// Stores an entry at a disk level, in three steps.
+fn store(
+    rt: &impl Abort,
+    alloc: Global,
+    levels: &mut Levels<MemRemote, MemDisk>,
+    key: &str,
+    entry: &[u8],
+) -> Result<Written, Fail> {
+    assert!(rt; levels.len() > 0 && levels.kind(0) == LevelKind::Disk);
+    let size = entry.len() as u64;
+    let Reservation::Open(open) = levels.reserve(0, &text(alloc, key)?, size, 1)? else {
+        return Err(Fail::new("not opened"));
+    };
+    if levels.is_unreserved() {
+        return Err(Fail::new("nothing is reserved"));
+    }
+    let Ok(Filling::Filled(open)) = levels.fill(0, open, entry) else {
+        return Err(Fail::new("not filled"));
+    };
+    match levels.commit(0, open, 2) {
+        Ok(written) => Ok(written),
+        Err(_) => Err(Fail::new("not committed")),
+    }
+}
+
+#[test]
+fn disk_level_hits_what_it_stored(rt: HostRuntime) -> Result<(), Fail> {
+    let alloc = rt.alloc();
+    let mut levels = disk_level(alloc)?;
+    let written = store(&rt, alloc, &mut levels, "abc", ENTRY)?;
+    assert_eq!(rt; told_written(written), "done");
+    assert!(rt; levels.is_unreserved());
+    assert!(rt; levels.len() > 0);
+    let hit = levels.ask(alloc, 0, &text(alloc, "abc")?, Mode::Whole, 3)?;
+    assert_eq!(rt; told_answer(&hit), ENTRY);
+    assert_eq!(rt; levels.location(alloc)?.as_str(), "Local disk: \"/0\"");
     Ok(())
 }

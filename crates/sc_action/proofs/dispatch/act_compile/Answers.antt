@@ -40,8 +40,5 @@ returns-in-AtEnd-clause-moves g c = subst (λ (p : Phase). IfOk c.act_end.result
 pub returns-in-AtStore-clause-moves : goal.returns-in-AtStore-clause-moves
 returns-in-AtStore-clause-moves g c = subst (λ (p : Phase). IfOk c.act_store.result (λ (a : Acted). g.H.Hold.moves c.args.hold.now (need_at (setup (g.H.Hold.config c.args.hold.now)) (CompileOf c.args.request.now) p) a.what c.act_store.new.hold)) (sym c.in-AtStore.is) c.act_store.ensures.moves
 
-pub returns-in-AtWrite-clause-moves : goal.returns-in-AtWrite-clause-moves
-returns-in-AtWrite-clause-moves g c = subst (λ (p : Phase). IfOk c.act_write.result (λ (a : Acted). g.H.Hold.moves c.args.hold.now (need_at (setup (g.H.Hold.config c.args.hold.now)) (CompileOf c.args.request.now) p) a.what c.act_write.new.hold)) (sym c.in-AtWrite.is) c.act_write.ensures.moves
-
 pub returns-in-AtFinish-clause-moves : goal.returns-in-AtFinish-clause-moves
 returns-in-AtFinish-clause-moves g c = subst (λ (p : Phase). IfOk c.act_finish.result (λ (a : Acted). g.H.Hold.moves c.args.hold.now (need_at (setup (g.H.Hold.config c.args.hold.now)) (CompileOf c.args.request.now) p) a.what c.act_finish.new.hold)) (sym c.in-AtFinish.is) c.act_finish.ensures.moves

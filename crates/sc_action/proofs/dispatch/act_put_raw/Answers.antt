@@ -13,8 +13,5 @@ use Rattle.sc_action.proofs.dispatch.act_put_raw.Goals as goal
 pub returns-in-AtBegin-clause-moves : goal.returns-in-AtBegin-clause-moves
 returns-in-AtBegin-clause-moves g c = subst (λ (p : Phase). IfOk c.act_begin_put.result (λ (a : Acted). g.H.Hold.moves c.args.hold.now (need_at (setup (g.H.Hold.config c.args.hold.now)) (StoragePutRaw c.args.key.now c.args.put.now) p) a.what c.act_begin_put.new.hold)) (sym c.in-AtBegin.is) c.act_begin_put.ensures.moves
 
-pub returns-in-AtWrite-clause-moves : goal.returns-in-AtWrite-clause-moves
-returns-in-AtWrite-clause-moves g c = subst (λ (p : Phase). IfOk c.act_put.result (λ (a : Acted). g.H.Hold.moves c.args.hold.now (need_at (setup (g.H.Hold.config c.args.hold.now)) (StoragePutRaw c.args.key.now c.args.put.now) p) a.what c.act_put.new.hold)) (sym c.in-AtWrite.is) c.act_put.ensures.moves
-
 pub returns-in-AtSend-clause-moves : goal.returns-in-AtSend-clause-moves
 returns-in-AtSend-clause-moves g c = subst (λ (p : Phase). IfOk c.act_send.result (λ (a : Acted). g.H.Hold.moves c.args.hold.now (need_at (setup (g.H.Hold.config c.args.hold.now)) (StoragePutRaw c.args.key.now c.args.put.now) p) a.what c.act_send.new.hold)) (sym c.in-AtSend.is) (if_all (λ (a : Acted) (q : Request). g.H.Hold.moves c.args.hold.now (need_at (setup (g.H.Hold.config c.args.hold.now)) q (AtSend c.in-AtSend.reply)) a.what c.act_send.new.hold) c.act_send.result (StoragePutRaw c.args.key.now c.args.put.now) c.act_send.ensures.moves)

@@ -1,10 +1,9 @@
 use Rattle.std.proofs.Common.{◌≡◌, ℕ, ◌<◌, List, Some, IfSome, subst}
 use Rattle.sc_daemon.proofs.Handing.{got}
-use Rattle.sc_model.specs.Machine.{pending_at}
-use Rattle.sc_model.specs.declared.phase.Pending.{Pending}
+use Rattle.sc_daemon.specs.Backlogs.{Write, write_at}
 use Rattle.sc_daemon.proofs.backlog.Backlog.get.Goals as goal
 
 pub returns-clause-some : goal.returns-clause-some
 returns-clause-some c =
-    subst (λ (ps : List Pending). IfSome c.get.result (λ p. pending_at c.args.place ps ≡ Some p.now)) c.self.view_is
-    (got (λ p. p.now) c.self.inside.writes.items c.args.place c.get.result (λ some. subst (λ (n : ℕ). c.args.place < n) c.self.inside.writes.ok.0 (c.get.ensures.variant.0 some)) c.get.ensures.item.1)
+    subst (λ (ws : List Write). IfSome c.get.result (λ w. write_at c.args.place ws ≡ Some w.now)) c.self.view_is
+    (got (λ w. w.now) c.self.inside.writes.items c.args.place c.get.result (λ some. subst (λ (n : ℕ). c.args.place < n) c.self.inside.writes.ok.0 (c.get.ensures.variant.0 some)) c.get.ensures.item.1)

@@ -1,12 +1,13 @@
 use Rattle.std.proofs.Common.{ℕ, Option, drop, sym, ap, ◌≡◌, ◌∙◌, subst}
-use Rattle.sc_action.specs.Telling.{ActsFor}
-use Rattle.sc_action.specs.Serves.{Serves}
-use Rattle.sc_action.specs.declared.acted.Acted.{Acted}
+use Rattle.sc_action.specs.Hands.{ActsWith, ServesWith, hand_of}
+use Rattle.sc_action.specs.declared.acted.Action.{Action}
 use Rattle.sc_daemon.specs.Lines.{Line, conn_of}
 use Rattle.sc_daemon.specs.Turns.{ActsFirst, ActsFirst_or_none, CountsFirst, MovesFirst, SaysFirst}
 use Rattle.sc_daemon.specs.contracts.conn.Conn.{the_view}
 use Rattle.sc_daemon.proofs.Counted.{if_both, if_map}
 use Rattle.sc_daemon.proofs.Firsts.{current_is, first_rest}
+use Rattle.sc_disk.specs.Store.{AddEntry}
+use Rattle.sc_hold.specs.Holding.{HandsBy, KeepsHands}
 use Rattle.sc_job.specs.Setups.{setup}
 use Rattle.sc_model.specs.Machine.{current, need_at}
 use Rattle.sc_model.specs.Rows.{count, row, zeroes}
@@ -17,35 +18,50 @@ use Rattle.sc_daemon.proofs.conn.Conn.act_first.Goals as goal
 pub act-requires : goal.act-requires
 act-requires g c =
     let k = g.H.Hold.config c.args.hold.now in
+    let d = g.H.Hold.disk c.args.hold.now in
     let i = c.self.inside in
-    let here = current_is (the_view i) c.in-Some.request.now (drop 1 i.waiting) (first_rest i.waiting c.in-Some.request.now c.in-Some.ensures) in
-    subst (λ (p : Phase). Serves k p c.in-Some.request.now) (sym c.replace-phase.ensures.value)
-    (subst (λ (r : Request). Serves k i.phase r) here
-    (subst (λ (l : Line). Serves k l.phase (current (conn_of l))) (sym c.self.view_is) c.requires))
+    let r = c.in-Some.request.now in
+    let here = current_is (the_view i) r (drop 1 i.waiting) (first_rest i.waiting r c.in-Some.ensures) in
+    subst (λ (e : Option AddEntry). ServesWith k d c.replace-phase.result e r) (sym c.take-entry.ensures.value)
+    (subst (λ (p : Phase). ServesWith k d p i.entry r) (sym c.replace-phase.ensures.value)
+    (subst (λ (q : Request). ServesWith k d i.phase i.entry q) here
+    (subst (λ (l : Line). ServesWith k d l.phase l.entry (current (conn_of l))) (sym c.self.view_is) c.requires)))
 
 pub returns-clause-acts : goal.returns-clause-acts
 returns-clause-acts g c =
     let k = g.H.Hold.config c.args.hold.now in
+    let d = g.H.Hold.disk c.args.hold.now in
+    let d2 = g.H.Hold.disk c.act.new.hold in
     let m = g.H.Hold.moment c.args.hold.now in
     let acted = c.in_ok-acted.acted in
-    let after : Phase → Line = λ (p : Phase). the_view record { inbox = c.self.inside.inbox; waiting = c.self.inside.waiting; at = c.self.inside.at; phase = p; last = c.self.inside.last; outcome = c.self.inside.outcome; out = c.act.new.out; long = c.self.inside.long } in
-    let first : ActsFirst k m acted c.args.self.now (after c.replace-phase.new.dest) = subst (λ (l : Line). ActsFirst k m acted l (after c.replace-phase.new.dest)) c.self.view_is
+    let x = acted.what in
+    let i = c.self.inside in
+    let r = c.in-Some.request.now in
+    let phase = c.replace-phase.ensures.value in
+    let entry = c.take-entry.ensures.value in
+    let after : Phase → Option AddEntry → Line = λ (p : Phase) (e : Option AddEntry). the_view record { inbox = i.inbox; waiting = i.waiting; at = i.at; phase = p; entry = e; last = i.last; outcome = i.outcome; reserved = i.reserved; out = c.act.new.out; long = i.long } in
+    let now : Line = after c.replace-phase.new.dest c.take-entry.new.self in
+    let first : ActsFirst k d d2 m acted c.args.self.now now = subst (λ (l : Line). ActsFirst k d d2 m acted l now) c.self.view_is
     record {
-      request = c.in-Some.request.now;
-      rest = drop 1 c.self.inside.waiting;
-      first = first_rest c.self.inside.waiting c.in-Some.request.now c.in-Some.ensures;
-      acts = subst (λ (p : Phase). ActsFor k c.in-Some.request.now p m acted) c.replace-phase.ensures.value c.in_ok-acted.ensures.acts;
-      same = ap after c.replace-phase.ensures.after;
+      request = r;
+      rest = drop 1 i.waiting;
+      first = first_rest i.waiting r c.in-Some.ensures;
+      acts = subst (λ (p : Phase). ActsWith k d2 r p m acted) phase c.in_ok-acted.ensures.acts;
+      hands = subst (λ (e : Option AddEntry). HandsBy d x (hand_of e i.phase) (hand_of acted.entry acted.phase)) entry
+          (subst (λ (p : Phase). HandsBy d x (hand_of c.take-entry.result p) (hand_of acted.entry acted.phase)) phase c.in_ok-acted.ensures.hands);
+      others = subst (λ (e : Option AddEntry). KeepsHands (hand_of e i.phase) d d2) entry
+          (subst (λ (p : Phase). KeepsHands (hand_of c.take-entry.result p) d d2) phase c.in_ok-acted.ensures.others);
+      same = λ j. after (c.replace-phase.ensures.after j) (c.take-entry.ensures.after j);
       out = c.in_ok-acted.ensures.sent;
     } in
     if_map c.if_counted.result c.if_counted.ensures.acted
-    (λ a e. subst (λ (o : Option Acted). ActsFirst_or_none k m o c.args.self.now (after c.replace-phase.new.dest)) (sym e) first)
+    (λ a e. subst (λ (o : Option Action). ActsFirst_or_none k d d2 m o c.args.self.now now) (sym e) first)
 
 pub returns-clause-says : goal.returns-clause-says
 returns-clause-says g c =
     let k = g.H.Hold.config c.args.hold.now in
     if_map c.if_counted.result c.if_counted.ensures.acted
-    (λ a e. subst (λ (o : Option Acted). SaysFirst k.policy c.args.stats.now c.args.levels.now o) (sym e) c.in_ok-acted.ensures.says)
+    (λ a e. subst (λ (o : Option Action). SaysFirst k.policy c.args.stats.now c.args.levels.now o) (sym e) c.in_ok-acted.ensures.says)
 
 pub returns-clause-moves : goal.returns-clause-moves
 returns-clause-moves g c =
@@ -57,7 +73,7 @@ returns-clause-moves g c =
     (sym (current_is at c.in-Some.request.now (drop 1 c.self.inside.waiting) (first_rest c.self.inside.waiting c.in-Some.request.now c.in-Some.ensures)))
     (subst (λ (p : Phase). g.H.Hold.moves c.args.hold.now (need_at (setup k) c.in-Some.request.now p) what c.act.new.hold) c.replace-phase.ensures.value c.in_ok-acted.ensures.moves)) in
     if_map c.if_counted.result c.if_counted.ensures.acted
-    (λ a e. subst (λ (o : Option Acted). MovesFirst g.H.Hold.moves (need_at (setup k) (current (conn_of c.args.self.now)) c.args.self.now.phase) o c.args.hold.now c.act.new.hold) (sym e) moved)
+    (λ a e. subst (λ (o : Option Action). MovesFirst g.H.Hold.moves (need_at (setup k) (current (conn_of c.args.self.now)) c.args.self.now.phase) o c.args.hold.now c.act.new.hold) (sym e) moved)
 
 pub returns-clause-counts : goal.returns-clause-counts
 returns-clause-counts g c =
@@ -69,7 +85,7 @@ returns-clause-counts g c =
     let old = c.args.stats.now in
     let new = c.count_event-counted.new.stats in
     if_both c.if_counted.result c.count_event-counted.result c.if_counted.ensures.acted c.if_counted.ensures.counted c.count_event-counted.ensures
-    (λ a e counted. subst (λ (o : Option Acted). CountsFirst k m o c.args.self.now old new) (sym e)
+    (λ a e counted. subst (λ (o : Option Action). CountsFirst k m o c.args.self.now old new) (sym e)
     (subst (λ (l : Line). new ≡ count (zeroes what) old (row (setup k) (current (conn_of l)) l.outcome m what)) c.self.view_is
     (counted k
     ∙ ap (λ (r : Request). count (zeroes what) old (row (setup k) r c.self.inside.outcome c.now-now.result what)) (sym here)

@@ -1,5 +1,5 @@
 use Rattle.std.proofs.Common.{Option, refl, sym, subst}
-use Rattle.sc_action.specs.declared.acted.Acted.{Acted}
+use Rattle.sc_action.specs.declared.acted.Action.{Action}
 use Rattle.sc_daemon.specs.Lines.{conn_of}
 use Rattle.sc_daemon.specs.Turns.{ActsFirst, ActsFirst_or_none, CountsFirst, MovesFirst, SaysFirst, Serves_one}
 use Rattle.sc_daemon.proofs.Serving.{first_serves, serves_one, serves_rests}
@@ -8,38 +8,41 @@ use Rattle.sc_model.specs.Machine.{current, need_at}
 use Rattle.sc_daemon.proofs.conn.Conn.serve.Given as given
 use Rattle.sc_daemon.proofs.conn.Conn.serve.Goals as goal
 
-acts : (g : given.Over) (c : goal.After-move_to g) → ActsFirst (g.H.Hold.config c.args.hold.now) (g.H.Hold.moment c.args.hold.now) c.in-Some.acted c.args.self.now c.act_first.new.self
-acts g c = subst (λ (a : Option Acted). ActsFirst_or_none (g.H.Hold.config c.args.hold.now) (g.H.Hold.moment c.args.hold.now) a c.args.self.now c.act_first.new.self) c.in-Some.is c.in_ok-acted.ensures.acts
+acts : (g : given.Over) (c : goal.After-move_to g) → ActsFirst (g.H.Hold.config c.args.hold.now) (g.H.Hold.disk c.args.hold.now) (g.H.Hold.disk c.act_first.new.hold) (g.H.Hold.moment c.args.hold.now) c.in-Some.acted c.args.self.now c.act_first.new.self
+acts g c = subst (λ (a : Option Action). ActsFirst_or_none (g.H.Hold.config c.args.hold.now) (g.H.Hold.disk c.args.hold.now) (g.H.Hold.disk c.act_first.new.hold) (g.H.Hold.moment c.args.hold.now) a c.args.self.now c.act_first.new.self) c.in-Some.is c.in_ok-acted.ensures.acts
 
 pub act_first-requires : goal.act_first-requires
-act_first-requires g c = first_serves (g.H.Hold.config c.args.hold.now) c.args.self.now c.requires (c.if-is_idle.ensures.some refl) (c.if-is_idle.ensures.goes refl)
+act_first-requires g c = first_serves (g.H.Hold.config c.args.hold.now) (g.H.Hold.disk c.args.hold.now) c.args.self.now c.requires (c.if-is_idle.ensures.some refl) (c.if-is_idle.ensures.goes refl)
 
 pub returns-clause-serves : goal.returns-clause-serves
 returns-clause-serves g c =
     let k = g.H.Hold.config c.args.hold.now in
-    let m = g.H.Hold.moment c.args.hold.now in
-    subst (λ m. Serves_one k m c.args.free c.in-Some.acted.what c.args.self.now c.move_to.new.self) c.now-now.ensures
-    (serves_one k c.now-now.result c.args.free c.in-Some.acted c.args.self.now c.act_first.new.self c.note_event.new.self c.move_to.new.self
+    let d = g.H.Hold.disk c.args.hold.now in
+    let d2 = g.H.Hold.disk c.act_first.new.hold in
+    subst (λ m. Serves_one k d d2 m c.args.free c.in-Some.acted.what c.args.self.now c.move_to.new.self) c.now-now.ensures
+    (serves_one k d d2 c.now-now.result c.args.free c.in-Some.acted c.args.self.now c.act_first.new.self c.note_event.new.self c.move_to.new.self
     (c.if-is_idle.ensures.some refl) (c.if-is_idle.ensures.token refl)
-    (subst (λ n. ActsFirst k n c.in-Some.acted c.args.self.now c.act_first.new.self) (sym c.now-now.ensures) (acts g c))
-    c.note_event.ensures c.move_to.ensures.conn c.move_to.ensures.limit)
+    (subst (λ n. ActsFirst k d d2 n c.in-Some.acted c.args.self.now c.act_first.new.self) (sym c.now-now.ensures) (acts g c))
+    c.note_event.ensures c.move_to.ensures.conn c.move_to.ensures.entry c.move_to.ensures.limit)
 
 pub returns-clause-moves : goal.returns-clause-moves
 returns-clause-moves g c =
     let k = g.H.Hold.config c.args.hold.now in
-    subst (λ (a : Option Acted). MovesFirst g.H.Hold.moves (need_at (setup k) (current (conn_of c.args.self.now)) c.args.self.now.phase) a c.args.hold.now c.act_first.new.hold) c.in-Some.is c.in_ok-acted.ensures.moves
+    subst (λ (a : Option Action). MovesFirst g.H.Hold.moves (need_at (setup k) (current (conn_of c.args.self.now)) c.args.self.now.phase) a c.args.hold.now c.act_first.new.hold) c.in-Some.is c.in_ok-acted.ensures.moves
 
 pub returns-clause-says : goal.returns-clause-says
 returns-clause-says g c =
-    subst (λ (a : Option Acted). SaysFirst (g.H.Hold.config c.args.hold.now).policy c.args.stats.now c.args.levels.now a) c.in-Some.is c.in_ok-acted.ensures.says
+    subst (λ (a : Option Action). SaysFirst (g.H.Hold.config c.args.hold.now).policy c.args.stats.now c.args.levels.now a) c.in-Some.is c.in_ok-acted.ensures.says
 
 pub returns-clause-counts : goal.returns-clause-counts
 returns-clause-counts g c =
-    subst (λ (a : Option Acted). CountsFirst (g.H.Hold.config c.args.hold.now) (g.H.Hold.moment c.args.hold.now) a c.args.self.now c.args.stats.now c.act_first.new.stats) c.in-Some.is c.in_ok-acted.ensures.counts
+    subst (λ (a : Option Action). CountsFirst (g.H.Hold.config c.args.hold.now) (g.H.Hold.moment c.args.hold.now) a c.args.self.now c.args.stats.now c.act_first.new.stats) c.in-Some.is c.in_ok-acted.ensures.counts
 
 pub returns-clause-rests : goal.returns-clause-rests
 returns-clause-rests g c =
     let k = g.H.Hold.config c.args.hold.now in
-    serves_rests k c.now-now.result c.in-Some.acted c.args.self.now c.act_first.new.self c.note_event.new.self c.move_to.new.self c.requires
-    (subst (λ n. ActsFirst k n c.in-Some.acted c.args.self.now c.act_first.new.self) (sym c.now-now.ensures) (acts g c))
-    c.note_event.ensures c.move_to.ensures.conn
+    let d = g.H.Hold.disk c.args.hold.now in
+    let d2 = g.H.Hold.disk c.act_first.new.hold in
+    serves_rests k d d2 c.now-now.result c.in-Some.acted c.args.self.now c.act_first.new.self c.note_event.new.self c.move_to.new.self c.requires
+    (subst (λ n. ActsFirst k d d2 n c.in-Some.acted c.args.self.now c.act_first.new.self) (sym c.now-now.ensures) (acts g c))
+    c.note_event.ensures c.move_to.ensures.conn c.move_to.ensures.entry

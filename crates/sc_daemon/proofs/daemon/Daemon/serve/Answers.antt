@@ -10,6 +10,7 @@ use Rattle.sc_model.specs.Machine.{current, need_at}
 use Rattle.sc_model.specs.declared.event.Event.{Event}
 use Rattle.sc_model.specs.declared.event.What.{What}
 use Rattle.sc_owned.specs.Moving.{OwnedMoves}
+use Rattle.sc_owned.specs.State.{disk_at}
 use Rattle.sc_stats.specs.declared.counters.LevelStats.{LevelStats}
 use Rattle.sc_daemon.proofs.daemon.Daemon.serve.Goals as goal
 
@@ -21,7 +22,7 @@ returns-in-Some-clause-serves g c =
     let new = c.serve.new.self in
     let k = d.state.config in
     let m = d.state.world.moment in
-    let one = subst (λ (o : Option What). ServesLine k m d.free o old new) c.in-Some.is c.in_ok-serve.ensures.serves in
+    let one = subst (λ (o : Option What). ServesLine k (disk_at d.state) (disk_at c.serve.new.hold) m d.free o old new) c.in-Some.is c.in_ok-serve.ensures.serves in
     let moves = subst (λ (o : Option What). MovesHold OwnedMoves (need_at (setup k) (current (conn_of old)) old.phase) o d.state c.serve.new.hold) c.in-Some.is c.in_ok-serve.ensures.moves in
     let heard = subst (λ (ls : List LevelStats). SaysLine k.policy d.stats ls c.in_ok-serve.field-0) c.deref.ensures.value c.in_ok-serve.ensures.says in
     let says = subst (λ (o : Option What). SaysLine k.policy d.stats d.levels o) c.in-Some.is heard in
@@ -29,12 +30,16 @@ returns-in-Some-clause-serves g c =
     subst (λ (e : Kept). IfOk c.if_kept.result (λ (event : Event). ServesEvent c.args.number event e c.keep-kept.new.self old new)) c.self.view_is
     (if_both_on c.if_kept.result c.keep-kept.result c.if_kept.ensures.event c.if_kept.ensures.kept c.keep-kept.ensures
     (λ event is_event kept. subst (λ (e : Event). ServesEvent c.args.number e d c.keep-kept.new.self old new) (sym is_event)
-    (serves_event c.args.number c.at-at.result c.now-moment.result c.last-last.result c.in-Some.what d c.keep-kept.new.self c.serve.new.hold c.serve.new.stats old new
-    c.at-at.ensures (c.now-moment.ensures ∙ ap (λ (e : Kept). e.state.world.moment) (sym c.self.view_is)) c.last-last.ensures one says moves c.in_ok-serve.ensures.same counts kept)))
+    (serves_event c.args.number c.at-at.result c.now-moment.result c.last-last.result c.reserved-reserved.result c.in-Some.what d c.keep-kept.new.self c.serve.new.hold c.serve.new.stats old new
+    c.at-at.ensures (c.now-moment.ensures ∙ ap (λ (e : Kept). e.state.world.moment) (sym c.self.view_is)) c.last-last.ensures c.reserved-reserved.ensures one says moves c.in_ok-serve.ensures.same counts kept)))
 
 pub returns-in-Some-clause-rests : goal.returns-in-Some-clause-rests
 returns-in-Some-clause-rests g c =
-    subst (λ (e : Kept). IfOk c.if_kept.result (λ (event : Event). Rests e.state.config c.serve.new.self.phase c.serve.new.self.waiting)) c.self.view_is (if_any c.if_kept.result c.in_ok-serve.ensures.rests)
+    let kept = c.keep-kept.new.self in
+    let new = c.serve.new.self in
+    subst (λ (e : Kept). IfOk c.if_kept.result (λ (event : Event). Rests e.state.config (disk_at kept.state) new.phase new.entry new.waiting)) c.self.view_is
+    (if_both_on c.if_kept.result c.keep-kept.result c.if_kept.ensures.event c.if_kept.ensures.kept c.keep-kept.ensures
+    (λ event is_event same. subst (λ (e : Kept). Rests c.self.inside.owned.config (disk_at e.state) new.phase new.entry new.waiting) (sym same) c.in_ok-serve.ensures.rests))
 
 pub returns-in-Some-clause-free : goal.returns-in-Some-clause-free
 returns-in-Some-clause-free g c =

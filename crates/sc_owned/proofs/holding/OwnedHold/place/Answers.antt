@@ -1,6 +1,9 @@
 use Rattle.sc_entry.specs.Entries.{objects}
 use Rattle.sc_model.specs.World.{first_missing}
-use Rattle.sc_owned.proofs.Steps.{none_found, placed}
+use Rattle.std.proofs.Common.{refl}
+use Rattle.sc_model.specs.declared.event.What.TheVariants.{Placed}
+use Rattle.sc_owned.specs.Moving.{placing_of}
+use Rattle.sc_owned.proofs.Steps.{still, none_found, placed}
 use Rattle.sc_owned.proofs.holding.OwnedHold.place.Goals as goal
 
 pub returns-clause-moves : goal.returns-clause-moves
@@ -8,4 +11,6 @@ returns-clause-moves g c n wants hits =
     let e = c.in_ok-failed.ensures in
     let none = none_found c.in_ok-name.field-0 (λ name. name.now) (first_missing (objects c.args.entry.now) c.args.outputs.now) c.in_default.not-Some c.in_ok-name.ensures in
     rw c.placing_of.ensures
-    (placed _ c.args.self.now n c.args.outputs.now c.args.entry.now c.in_ok-failed.failed _ _ _ c.self.view_is wants hits none e.runs e.later e.placings)
+    (let m = placed _ c.args.self.now n c.args.outputs.now c.args.entry.now c.in_ok-failed.failed _ _ _ c.self.view_is wants hits none e.runs e.later e.placings in
+    let s = still _ c.args.self.now (Placed (placing_of c.in_ok-failed.failed)) _ c.self.view_is tt refl in
+    (m.0, m.1, s.0, s.1))

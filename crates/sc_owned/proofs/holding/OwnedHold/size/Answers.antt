@@ -1,8 +1,13 @@
-use Rattle.sc_owned.proofs.Steps.{sized}
+use Rattle.std.proofs.Common.{[]}
+use Rattle.sc_model.specs.declared.event.Mode.TheVariants.{Size}
+use Rattle.sc_model.specs.declared.event.What.TheVariants.{Asked}
+use Rattle.sc_owned.proofs.Steps.{still, sized}
 use Rattle.sc_owned.proofs.holding.OwnedHold.size.Goals as goal
 
 pub returns-clause-moves : goal.returns-clause-moves
 returns-clause-moves g c n counters =
     rw c.size_in.ensures
-    (sized _ c.args.self.now c.ask.new.self c.args.level c.new-none.result c.in_ok-answer.answer counters n
-    c.self.view_is c.new-none.ensures c.ask.ensures.told c.in_ok-answer.ensures.cause c.in_ok-answer.ensures.asked)
+    (let m = sized _ c.args.self.now c.ask.new.self c.args.level c.new-none.result c.in_ok-answer.answer counters n
+    c.self.view_is c.new-none.ensures c.ask.ensures.told c.in_ok-answer.ensures.asked in
+    let s = still _ c.args.self.now (Asked c.args.level [] Size c.in_ok-answer.answer []) c.ask.new.self.rooms c.self.view_is tt c.ask.ensures.rooms in
+    (m.0, m.1, s.0, s.1))

@@ -15,6 +15,7 @@ returns g c =
     record {
       facts = sym m.facts_were;
       level = sym m.was;
+      room = sym m.room_was;
       told = m.tells;
       alone = alone_tells held_level old policy stores l store c.self.view_is c.requires here;
     }

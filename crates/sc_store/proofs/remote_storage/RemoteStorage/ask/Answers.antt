@@ -4,7 +4,8 @@ use Rattle.sc_store.proofs.Askings.{mode_asks_at}
 use Rattle.sc_store.proofs.remote_storage.RemoteStorage.ask.Goals as goal
 
 pub returns-clause-asked : goal.returns-clause-asked
-returns-clause-asked g c told has r =
+returns-clause-asked g c told has =
+    let r = c.args.self.now.room.reserved in
     let reads : reads_key c.args.mode ≡ true = search rules in
     rw c.in_ok-answer.ensures
     (mode_asks_at c.args.mode c.args.self.now.facts c.self.inside.configured r c.args.key.now c.in_ok-raw.raw c.args.self.now.level c.find.new.self.level

@@ -1,0 +1,81 @@
+-- Calls of a disk level, as a level of levels that all tell.
+use Rattle.std.proofs.Common.{◌≡◌, ℕ, Bool, true, List, Option, Some, Result, Ok, Err, IfOk, IfErr, OnErr, refl, sym, ap, subst}
+use Rattle.sc_disk.specs.Store.{AddEntry}
+use Rattle.sc_disk_cache.specs.DiskStores.{DiskStore, OpenEntry, entry_at}
+use Rattle.sc_disk_cache.specs.Entries.{ClosesEntry, CommitCause, CommitsEntry, CommitsNothing, FillsBy, FillsEntry, IsOpenAt}
+use Rattle.sc_disk_cache.specs.Moving.{EvictsFor, Opens, OpensBy, ReserveCause, SameEntries, Stays, Steady}
+use Rattle.sc_disk_cache.specs.declared.filling.Filling.{Filling}
+use Rattle.sc_disk_cache.specs.declared.filling.Filling.TheVariants.{Filled, Refused as NotFilled}
+use Rattle.sc_disk_cache.specs.declared.reserving.Reservation.{Reservation}
+use Rattle.sc_disk_cache.specs.declared.reserving.Reservation.TheVariants.{Open, Refused as NotReserved}
+use Rattle.sc_model.specs.declared.event.Written.{Written}
+use Rattle.sc_model.specs.declared.event.Written.TheVariants.{Done, Refused}
+use Rattle.sc_model.specs.declared.level.Cause.{Cause}
+use Rattle.sc_model.specs.declared.level.Cause.TheVariants.{BadEntry, BadKey, FileTooLarge, Io, ReadOnly, RemoteFault, Reserved}
+use Rattle.sc_model.specs.declared.level.Policy.{Policy}
+use Rattle.sc_store.specs.Asking.{ReservesDisk}
+use Rattle.sc_store.specs.Held.{disk_title, of_disk}
+use Rattle.sc_store.proofs.Alone.{telling}
+
+-- a call that changes nothing that is open
+pub steady_title : (old new : DiskStore) → Steady old new → (of_disk new).title ≡ (of_disk old).title
+steady_title old new s = ap (λ f. disk_title f.root) s.facts
+
+pub steady_room : (old new : DiskStore) → Steady old new → (of_disk new).room ≡ (of_disk old).room
+steady_room old new s = λ i. record { reserved = s.reserved i; entries = s.entries i }
+
+pub stays_title : (old new : DiskStore) → Stays old new → (of_disk new).title ≡ (of_disk old).title
+stays_title old new s = ap (λ f. disk_title f.root) s.facts
+
+module _ (t u : Bool) (old new : DiskStore) (tells : t ≡ true → old.told ≡ true) where
+  pub reserves_telling : (p : Policy) (k : List ℕ) (size : ℕ) (how : Reservation) → ReservesDisk p k size how old new → ReservesDisk p k size how (telling t old) (telling u new)
+  reserves_telling p k size how h told = h (tells told)
+
+  pub evicts_telling : (size : ℕ) → EvictsFor size old new → EvictsFor size (telling t old) (telling u new)
+  evicts_telling size h told = h (tells told)
+
+  pub opens_telling : (path : List ℕ) (size : ℕ) (how : Reservation) → OpensBy path size how old new → OpensBy path size how (telling t old) (telling u new)
+  opens_telling path size (Open e) h = record { key = h.key; divided = h.divided; free = h.free; opened = h.opened; others = h.others; reserved = h.reserved }
+  opens_telling path size (NotReserved c) h = record { reserved = h.reserved; entries = h.entries }
+
+  pub same_telling : SameEntries old new → SameEntries (telling t old) (telling u new)
+  same_telling h = record { reserved = h.reserved; entries = h.entries }
+
+  pub closes_telling : (number : ℕ) → ClosesEntry number old new → ClosesEntry number (telling t old) (telling u new)
+  closes_telling number h = record { closed = h.closed; others = h.others; reserved = h.reserved }
+
+  pub fills_telling : (e : AddEntry) (more : List ℕ) (how : Filling) → FillsBy e more how old new → FillsBy e more how (telling t old) (telling u new)
+  fills_telling e more (Filled same) h = (
+    h.0,
+    record {
+      maps = h.1.maps;
+      reserved = h.1.reserved;
+      entry = λ o at. let x = h.1.entry o at in (x.0, x.1, λ told. x.2 (tells told));
+      others = h.1.others;
+    },
+  )
+  fills_telling e more (NotFilled c) h = (h.0, h.1, record { closed = h.2.closed; others = h.2.others; reserved = h.2.reserved })
+
+  pub commits_telling : (number : ℕ) (how : Written) → CommitsEntry number how old new → CommitsEntry number how (telling t old) (telling u new)
+  commits_telling number how h told = h (tells told)
+
+  pub nothing_telling : (number : ℕ) → CommitsNothing number old new → CommitsNothing number (telling t old) (telling u new)
+  nothing_telling number h told = h (tells told)
+
+  pub cause_telling : (number : ℕ) (how : Written) → CommitCause number how old new → CommitCause number how (telling t old) (telling u new)
+  cause_telling number Done h = tt
+  cause_telling number (Refused FileTooLarge) h = (h.0, λ told. h.1 (tells told), h.2)
+  cause_telling number (Refused Reserved) h = (h.0, λ told. h.1 (tells told), h.2, h.3)
+  cause_telling number (Refused Io) h = h
+  cause_telling number (Refused BadKey) h = absurd h
+  cause_telling number (Refused BadEntry) h = absurd h
+  cause_telling number (Refused (ReadOnly s)) h = absurd h
+  cause_telling number (Refused (RemoteFault k)) h = absurd h
+
+pub if_err : {A E : Type 0} {P Q : E → Type 0} (r : Result A E) → ((e : E) → P e → Q e) → IfErr r P → IfErr r Q
+if_err (Ok a) f h = tt
+if_err (Err e) f h = f e h
+
+pub on_err : {A E : Type 0} {P Q : Type 0} (r : Result A E) → (P → Q) → OnErr r P → OnErr r Q
+on_err (Ok a) f h = tt
+on_err (Err e) f h = f h

@@ -1,0 +1,172 @@
+//! A disk store as a level's store.
+ghost use Rattle.std.specs.Prelude.{◌≡◌, ◌≢◌, ◌+◌, ◌≤◌, false, true, Some, Ok, Err, IfOk, IfErr, OnErr};
+ghost use Rattle.sc_disk_cache.specs.DiskStores.{entry_path, held_disk};
+ghost use Rattle.sc_disk_cache.specs.Entries.{ClosesEntry, CommitCause, CommitsEntry, CommitsNothing, FillsBy, IsOpenAt};
+ghost use Rattle.sc_disk_cache.specs.Moving.{AskCause, AsksDisk, EvictsFor, OpensBy, ReserveCause, SameEntries, Stays, Steady};
+ghost use Rattle.sc_disk_cache.specs.declared.filling.EntryError.TheVariants.{NotOpen as IsNotOpen};
+ghost use Rattle.sc_disk_cache.specs.declared.reserving.Reservation.TheVariants.{Refused as IsNotReserved};
+ghost use Rattle.sc_entry.specs.Keys.{is_store_key as is_key};
+ghost use Rattle.sc_model.specs.World.{causes, early_cause as early, part_size, same_maps};
+ghost use Rattle.sc_model.specs.declared.event.Mode.TheVariants.{Path};
+ghost use Rattle.sc_model.specs.declared.level.Cause.{Cause};
+ghost use Rattle.sc_model.specs.declared.level.LevelKind.TheVariants.{Disk as IsDisk};
+ghost use Rattle.sc_store.specs.Asking.{ReservesDisk, reads_key};
+ghost use Rattle.sc_store.specs.Held.{disk_title};
+
+use sc_disk::{Disk, LruDiskCacheAddEntry};
+use sc_disk_cache::{DiskCache, EntryError, Filling, Reservation};
+use sc_entry::{ByteText, CacheMode, NoMemory, Text};
+use sc_model::{Answer, Mode, Policy, Written};
+use std::alloc::Global;
+use std::marker::Model;
+
+/// A disk store of a level. Contracts see what it holds and what is open.
+#[derive(Drop)]
+pub struct DiskStorage<D: Disk> {
+    cache: DiskCache<D>,
+}
+
+impl<D: Disk> Model for DiskStorage<D> {
+    ghost use Rattle.sc_disk_cache.specs.DiskStores.{DiskStore, held_disk};
+    ghost use Rattle.sc_store.specs.Held.{disk_code};
+
+    ghost Value = { DiskStore };
+
+    ghost coded = { disk_code };
+
+    ghost view = { λ s. held_disk s.cache };
+}
+
+/// Where a disk store is, in words.
+fn location(alloc: Global, path: &ByteText) -> Result<Text, NoMemory>
+    ensures { IfOk result (λ text. text ≡ (disk_title path.now).location) }
+{
+    let mut text = String::from_str(alloc, "Local disk: \"")?;
+    let path = String::from_utf8_lossy(alloc, path.as_slice())?;
+    text.push_str(&path)?;
+    text.push('"')?;
+    Ok(Text::from_string(text))
+}
+
+impl<D: Disk> DiskStorage<D> {
+    pub fn new(cache: DiskCache<D>) -> DiskStorage<D>
+        ensures { result ≡ held_disk cache }
+    {
+        DiskStorage { cache }
+    }
+
+    pub fn cache(&self) -> &DiskCache<D>
+        ensures { held_disk result.now ≡ self.now }
+    {
+        &self.cache
+    }
+
+    /// Where the store is, in words.
+    pub fn location(&self, alloc: Global) -> Result<Text, NoMemory>
+        ensures { IfOk result (λ text. text ≡ (disk_title self.now.facts.root).location) }
+    {
+        let text = location(alloc, self.cache.path())?;
+        Ok(text)
+    }
+
+    /// The most bytes that the files of both folders may take.
+    pub fn max_size(&self) -> u64
+        ensures { result ≡ self.now.facts.capacity }
+    {
+        self.cache.max_size()
+    }
+
+    /// The mode that the store was made with.
+    pub fn configured(&self) -> CacheMode
+        ensures { result ≡ self.now.facts.configured }
+    {
+        self.cache.configured()
+    }
+
+    /// The mode that holds.
+    pub fn mode(&self) -> CacheMode
+        ensures { result ≡ self.now.facts.mode }
+    {
+        self.cache.mode()
+    }
+
+    /// The bytes that open entries have declared.
+    pub fn reserved(&self) -> u64
+        ensures { result ≡ self.now.reserved }
+    {
+        self.cache.reserved()
+    }
+
+    /// What every disk store keeps: its files and reservations take at most its capacity.
+    pub fn keeps(&self)
+        ensures kind { self.now.facts.kind ≡ IsDisk }
+        ensures within { part_size self.now.level + self.now.reserved ≤ self.now.facts.capacity }
+    {
+        self.cache.keeps();
+    }
+}
+
+impl<D: Disk + Drop> DiskStorage<D> {
+    /// Looks a key up, or tells the store's size.
+    pub(crate) fn ask(&mut self, key: &Text, mode: Mode, now: u64) -> Result<Answer, NoMemory>
+        requires { mode ≢ Path }
+        ensures steady { Steady self.old self.new }
+        ensures asked { IfOk result (λ answer. AsksDisk key.now mode answer self.old self.new) }
+        ensures cause { IfOk result (λ answer. AskCause mode answer key.now self.old.level self.new.level) }
+        ensures bad_key { reads_key mode ≡ true → is_key key.now ≡ false → (result ≡ Ok (Answer.Refused Cause.BadKey)) × (self.new ≡ self.old) }
+    {
+        self.cache.ask(key, mode, now)
+    }
+
+    /// Opens an entry for a key, of this size.
+    pub(crate) fn reserve(
+        &mut self,
+        policy: &Policy,
+        key: &Text,
+        size: u64,
+        now: u64,
+    ) -> Result<Reservation, NoMemory>
+        ensures stays { Stays self.old self.new }
+        ensures moved { IfOk result (λ how. ReservesDisk policy.now key.now size how self.old self.new) }
+        ensures entry { IfOk result (λ how. OpensBy (entry_path key.now) size how self.old self.new) }
+        ensures kept { OnErr result (SameEntries self.old self.new) }
+        ensures evicts { OnErr result (EvictsFor size self.old self.new) }
+        ensures cause { IfOk result (λ how. ReserveCause (causes policy.now self.old.facts self.old.reserved key.now size) how self.old.level self.new.level) }
+        ensures early { (c : Cause) → early policy.now self.old.facts key.now ≡ Some c → (result ≡ Ok (IsNotReserved c)) × (self.new ≡ self.old) }
+    {
+        self.cache.reserve(policy, key, size, now)
+    }
+
+    /// Adds bytes behind those that an open entry was filled with. A refusal closes the entry, and so does want of memory.
+    pub(crate) fn fill(
+        &mut self,
+        entry: LruDiskCacheAddEntry,
+        bytes: &[u8],
+    ) -> Result<Filling, EntryError>
+        ensures stays { Stays self.old self.new }
+        ensures filled { IfOk result (λ how. IsOpenAt entry self.old × FillsBy entry bytes.now how self.old self.new) }
+        ensures closed { OnErr result (IsOpenAt entry self.old → ClosesEntry entry.number self.old self.new) }
+        ensures kept { OnErr result (same_maps self.old.level self.new.level) }
+        ensures not_open { IfErr result (λ refused. refused ≡ IsNotOpen → (IsOpenAt entry self.old → ⊥) × (self.new ≡ self.old)) }
+        ensures shut { (IsOpenAt entry self.old → ⊥) → result ≡ Err IsNotOpen }
+    {
+        self.cache.fill(entry, bytes)
+    }
+
+    /// Puts an open entry's file in its key's place, and closes the entry, also by a refusal.
+    pub(crate) fn commit(
+        &mut self,
+        entry: LruDiskCacheAddEntry,
+        now: u64,
+    ) -> Result<Written, EntryError>
+        ensures stays { Stays self.old self.new }
+        ensures closed { IsOpenAt entry self.old → ClosesEntry entry.number self.old self.new }
+        ensures committed { IfOk result (λ how. IsOpenAt entry self.old × CommitsEntry entry.number how self.old self.new) }
+        ensures cause { IfOk result (λ how. CommitCause entry.number how self.old self.new) }
+        ensures kept { OnErr result (CommitsNothing entry.number self.old self.new) }
+        ensures not_open { IfErr result (λ refused. refused ≡ IsNotOpen → (IsOpenAt entry self.old → ⊥) × (self.new ≡ self.old)) }
+        ensures shut { (IsOpenAt entry self.old → ⊥) → result ≡ Err IsNotOpen }
+    {
+        self.cache.commit(entry, now)
+    }
+}
