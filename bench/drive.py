@@ -71,4 +71,5 @@ def main():
         print(f"| {connections} | " + " | ".join(row) + " |")
 
 
-main()
+if __name__ == "__main__":
+    main()

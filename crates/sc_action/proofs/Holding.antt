@@ -1,5 +1,5 @@
 -- Entries that are held, before and after an action.
-use Rattle.std.proofs.Common.{◌≡◌, ◌≢◌, ◌==◌, ℕ, ◌++◌, Bool, true, false, List, [], length, Option, Some, None, refl, ap, sym, subst, ◌∙◌, eqb-true, eq-eqb}
+use Rattle.std.proofs.Common.{◌≡◌, ◌≢◌, ◌==◌, ℕ, ◌++◌, true, false, List, [], length, Option, Some, None, refl, ap, sym, subst, ◌∙◌, eqb-true, eq-eqb}
 use Rattle.sc_action.specs.Hands.{ActsWith, IsOwn, ServesWith, StandsWith, writes}
 use Rattle.sc_action.specs.Serves.{Serves, Stands}
 use Rattle.sc_action.specs.Telling.{ActsFor, IsStill}

@@ -1,5 +1,5 @@
 -- The miss that a level's answer makes.
-use Rattle.std.proofs.Common.{◌≡◌, ℕ, Bool, true, false, List, Option, refl, ap}
+use Rattle.std.proofs.Common.{◌≡◌, ℕ, Bool, List, Option, refl}
 use Rattle.sc_action.specs.Misses.{refused_miss}
 use Rattle.sc_model.specs.Job.{by_answer}
 use Rattle.sc_model.specs.Script.{is_single}

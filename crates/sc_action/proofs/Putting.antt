@@ -1,5 +1,5 @@
 -- A write that goes on.
-use Rattle.std.proofs.Common.{◌≡◌, ℕ, zero, suc, List, [], ◌∷◌, length, Option, Some, None, refl, ap, sym, subst, ◌∙◌}
+use Rattle.std.proofs.Common.{◌≡◌, ℕ, zero, suc, List, length, Option, Some, None, refl, ap, sym, subst, ◌∙◌}
 use Rattle.sc_action.specs.Hands.{ActsWith, IsOwn, StandsWith, hand_of}
 use Rattle.sc_action.specs.Serves.{IsWriter}
 use Rattle.sc_action.specs.declared.acted.Action.{Action}
@@ -16,7 +16,7 @@ use Rattle.sc_model.specs.declared.message.Request.{Request}
 use Rattle.sc_model.specs.declared.phase.Bytes.{Bytes}
 use Rattle.sc_model.specs.declared.phase.Ending.{Ending}
 use Rattle.sc_model.specs.declared.phase.Phase.{Phase}
-use Rattle.sc_model.specs.declared.phase.Phase.TheVariants.{AtCommit, AtFill, AtWrite}
+use Rattle.sc_model.specs.declared.phase.Phase.TheVariants.{AtWrite}
 use Rattle.sc_model.specs.declared.phase.Refusal.{Refusal}
 use Rattle.sc_model.specs.declared.phase.Refusal.TheVariants.{At, NoneYet}
 

@@ -1,5 +1,5 @@
 -- An event that a write is due tells nothing of what a daemon has counted.
-use Rattle.std.proofs.Common.{◌≡◌, ℕ, Bool, true, false, List, [], ◌∷◌}
+use Rattle.std.proofs.Common.{◌≡◌, ℕ, true, false, List, [], ◌∷◌}
 use Rattle.sc_action.specs.Hands.{writes}
 use Rattle.sc_action.specs.Telling.{SaysCounted}
 use Rattle.sc_model.specs.Follows.{Due, Fits, Over, Stopped, ToAsk, ToBegin, ToCommit, ToDist, ToEnd, ToEndWrite, ToFill, ToFinish, ToKey, ToPlace, ToReserve, ToRun, ToSend, ToTake, ToWrite, kind_at, start_write}

@@ -1,5 +1,5 @@
 -- What one level told of itself, beside those behind it.
-use Rattle.std.specs.Prelude.{ℕ, List, [], ◌∷◌, Option, Some, None}
+use Rattle.std.specs.Prelude.{ℕ, List, [], ◌∷◌, Some, None}
 use Rattle.sc_model.specs.declared.phase.Sized.{Sized}
 use Rattle.sc_stats.specs.Sums.{sat}
 use Rattle.sc_stats.specs.declared.counters.LevelStats.{LevelStats}

@@ -1,5 +1,5 @@
 -- An event of a handed write that was counted.
-use Rattle.std.proofs.Common.{◌≡◌, ◌⊎◌, ℕ, List, Some, inr, sym, ap, ◌∙◌, subst}
+use Rattle.std.proofs.Common.{◌≡◌, ℕ, List, Some, inr, sym, ap, ◌∙◌, subst}
 use Rattle.sc_daemon.proofs.Handing.{same_write}
 use Rattle.sc_daemon.specs.Backlogs.{Advances, AdvancesAt, Write, with_write, write_at}
 use Rattle.sc_daemon.specs.Daemons.{BacksAt, BacksEvent, Kept}

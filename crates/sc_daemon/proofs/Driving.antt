@@ -1,5 +1,5 @@
 -- A whole drive is a run of the machine.
-use Rattle.std.proofs.Common.{◌≡◌, ℕ, zero, suc, ◌+◌, ◌^◌, ◌<◌, Bool, true, false, ◌&&◌, nat_lt, arith, List, [], ◌∷◌, Option, None, ◌++◌, length, map, drop, reverse, get_or, refl, sym, ap, ◌∙◌, subst, append_assoc, add-one, Result, Ok, Err}
+use Rattle.std.proofs.Common.{◌≡◌, ℕ, zero, suc, ◌+◌, ◌^◌, ◌<◌, Bool, true, false, ◌&&◌, nat_lt, arith, List, [], ◌∷◌, None, ◌++◌, length, map, drop, reverse, get_or, refl, sym, ap, ◌∙◌, subst, append_assoc, add-one, Result, Ok, Err}
 use Rattle.std.specs.Prelude.{IfOk}
 use Rattle.std.proofs.Math.Seq.{drop-cons}
 use Rattle.std.proofs.lemmas.Bool.{ltb-true}
@@ -17,14 +17,14 @@ use Rattle.sc_model.proofs.Streams.{reads_on}
 use Rattle.sc_model.specs.Headline.{Headline, Result_of_run}
 use Rattle.sc_model.specs.Machine.{Conn, IsIdle, Machine, Runs, end_at, new_conn, result_of_run, shown_levels}
 use Rattle.sc_model.specs.Script.{End, Script}
-use Rattle.sc_model.specs.Trace.{Open, if_too_long, open_runs, reserved_by}
+use Rattle.sc_model.specs.Trace.{Open, if_too_long, open_runs, reservations, reserved_at, reserved_by}
 use Rattle.sc_model.specs.declared.event.Event.{Event}
 use Rattle.sc_model.specs.declared.event.Owner.TheVariants.{Request as OfRequest}
 use Rattle.sc_model.specs.declared.event.Step.{Step}
 use Rattle.sc_model.specs.declared.level.Handed.{Handed}
 use Rattle.sc_model.specs.declared.phase.Pending.{Pending}
 use Rattle.sc_owned.specs.Laws.{one_level, within_limits}
-use Rattle.sc_owned.specs.State.{State, disk_at}
+use Rattle.sc_owned.specs.State.{State, disk_at, reserved_in}
 use Rattle.sc_wire.specs.Requests.{read_served}
 use Rattle.sc_wire.specs.Streams.{served_reader}
 
@@ -89,6 +89,7 @@ begins d inputs steps events lines idle told no_events first =
       done = [];
       split = refl;
       opens = [];
+      listed = refl;
       runs = refl;
       config = refl;
       told = told;
@@ -109,6 +110,8 @@ goes_on d0 d d2 inputs steps rest p events events2 lines lines2 before on =
       done = before.done ++ p ∷ [];
       split = append_assoc before.done (p ∷ []) rest ∙ before.split;
       opens = opens2;
+      listed = ap (λ (os : List Open). reserved_by on.event.owner on.event.what os) before.listed
+          ∙ ap (λ (t : List Event). reservations t) (sym (ap (λ (es : List Event). reverse es) on.grown ∙ reverse-append events (on.event ∷ [])));
       runs = subst (λ (ps : List Step). Runs s m0 ps (reverse events2) (machine_of d2 lines2 opens2)) (sym (reverse-append before.done (p ∷ [])))
           (subst (λ (es : List Event). Runs s m0 (p ∷ reverse before.done) (reverse es) (machine_of d2 lines2 opens2)) (sym on.grown)
           (subst (λ (t : List Event). Runs s m0 (p ∷ reverse before.done) t (machine_of d2 lines2 opens2)) (sym (reverse-append events (on.event ∷ [])))
@@ -160,6 +163,12 @@ headline every d0 d inputs steps left events lines driven idle first progress no
     (subst (λ (ps : List Step). Headline s d0.state.world (reverse ps) (reverse driven.trace) d.state.world (result_of_run s m)) all
     (subst (λ (es : List Event). Headline s d0.state.world (reverse progress.done) (reverse es) d.state.world (result_of_run s m)) (sym trace)
     (every s (machine_of d0 (lines_of d0.state.config.limit (length inputs)) []) (reverse progress.done) (reverse events) m (is_idle d0 inputs idle first) progress.runs)))
+
+-- what is reserved at a level is what the trace says
+pub reserved-told : (d0 d : Kept) (inputs : List (List ℕ)) (steps left : List Step) (events : List Event) (lines : List Line) (driven : Driven) → Progress d0 d inputs steps left events lines → driven.trace ≡ events
+    → (l : ℕ) → reserved_in d.state l ≡ reserved_at l (reservations (reverse driven.trace))
+reserved-told d0 d inputs steps left events lines driven progress trace l =
+    sym (progress.tied.reserved l) ∙ ap (λ (os : List Open). reserved_at l os) (progress.listed ∙ ap (λ (es : List Event). reservations (reverse es)) (sym trace))
 
 right_of : (a b : Bool) → (a && b) ≡ true → b ≡ true
 right_of true b e = e

@@ -4,7 +4,7 @@ use Rattle.sc_action.specs.Hands.{hand_of}
 use Rattle.sc_daemon.specs.Backlogs.{AreNumbered, ArePending, IsAtStage, IsPending, Write, fresh_writes, hand_in, put_write, with_write, write_at}
 use Rattle.sc_daemon.specs.Drives.{TiesWrites}
 use Rattle.sc_daemon.specs.Lines.{Line, conn_of, line_hand}
-use Rattle.sc_daemon.specs.Standings.{FirstRests, Rests, RestsAt}
+use Rattle.sc_daemon.specs.Standings.{Rests, RestsAt}
 use Rattle.sc_daemon.specs.Ties.{IsThere, Owners, TiesHand}
 use Rattle.sc_daemon.proofs.Staying.{held_there}
 use Rattle.sc_disk.specs.Store.{AddEntry}

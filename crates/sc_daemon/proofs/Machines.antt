@@ -3,7 +3,7 @@ use Rattle.std.proofs.Common.{◌≡◌, ℕ, zero, suc, ◌+◌, ◌<◌, ◌�
 use Rattle.std.proofs.lemmas.List.{get_or-map, length-map, map-append, map-set, set-get_or}
 use Rattle.sc_conn.proofs.Inboxes.{ends_are, more_is}
 use Rattle.sc_daemon.specs.Backlogs.{Write, fresh_writes, pending_of, put_write, stepped, with_write, write_at}
-use Rattle.sc_daemon.specs.Daemons.{BacksAt, BacksEvent, Kept, ReadsWhat, ServesAt, ServesWhat, idle_event, machine_of}
+use Rattle.sc_daemon.specs.Daemons.{BacksAt, Kept, ReadsWhat, ServesAt, ServesWhat, idle_event, machine_of}
 use Rattle.sc_daemon.specs.Lines.{IsDone, Line, conn_of}
 use Rattle.sc_daemon.specs.Turns.{IsIdleLine, TakesMore}
 use Rattle.sc_daemon.proofs.Plain.{due_ended, due_takes, ended_due, says_counted, takes_due, ticked_own}

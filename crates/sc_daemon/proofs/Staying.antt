@@ -1,10 +1,10 @@
 -- What stays of others where one owner's event moved the levels.
-use Rattle.std.proofs.Common.{◌≡◌, ◌≢◌, ◌==◌, ℕ, zero, suc, ◌+◌, ◌<◌, ◌≤◌, Bool, true, false, List, [], ◌∷◌, ◌++◌, length, Option, Some, None, refl, ap, sym, subst, ◌∙◌, arith, eqb-true}
-use Rattle.sc_action.specs.Hands.{ServesWith, hand_of}
+use Rattle.std.proofs.Common.{◌≡◌, ◌==◌, ℕ, zero, suc, ◌<◌, ◌≤◌, Bool, true, false, List, [], ◌∷◌, length, Option, Some, None, refl, ap, sym, subst, ◌∙◌, arith, eqb-true}
+use Rattle.sc_action.specs.Hands.{hand_of}
 use Rattle.sc_daemon.specs.Backlogs.{ArePending, AreNumbered, IsAtStage, IsPending, Write, hand_in, with_write, put_write, write_at}
 use Rattle.sc_daemon.specs.Drives.{TiesWrites}
-use Rattle.sc_daemon.specs.Standings.{FirstRests, Rests, RestsAt}
-use Rattle.sc_daemon.specs.Ties.{IsThere, Owners, Ties, TiesHand, with_owner}
+use Rattle.sc_daemon.specs.Standings.{Rests, RestsAt}
+use Rattle.sc_daemon.specs.Ties.{IsThere, Owners, TiesHand, with_owner}
 use Rattle.sc_daemon.proofs.Tying.{others_open, others_tie}
 use Rattle.sc_disk.specs.Store.{AddEntry}
 use Rattle.sc_disk_cache.specs.DiskStores.{DiskStore, entry_at, entry_path}
@@ -13,7 +13,7 @@ use Rattle.sc_job.specs.Setups.{Config}
 use Rattle.sc_model.specs.Follows.{bytes_in}
 use Rattle.sc_model.specs.Trace.{Open, reserved_by, same_owner}
 use Rattle.sc_model.specs.declared.event.Owner.{Owner}
-use Rattle.sc_model.specs.declared.event.Owner.TheVariants.{Request as OfRequest, Write as OfWrite}
+use Rattle.sc_model.specs.declared.event.Owner.TheVariants.{Write as OfWrite}
 use Rattle.sc_model.specs.declared.event.What.{What}
 use Rattle.sc_model.specs.declared.message.Request.{Request}
 use Rattle.sc_model.specs.declared.phase.Bytes.{Bytes}

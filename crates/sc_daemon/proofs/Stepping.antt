@@ -1,5 +1,5 @@
 -- One step of a drive is one of the machine.
-use Rattle.std.proofs.Common.{◌≡◌, ◌≢◌, ◌==◌, ℕ, zero, suc, ◌+◌, ◌<◌, ◌≤◌, inl, inr, Bool, true, false, ◌&&◌, List, [], ◌∷◌, ◌++◌, length, map, set, get_or, Option, Some, None, refl, sym, ap, ◌∙◌, subst, arith, IsTrue, eqb-true}
+use Rattle.std.proofs.Common.{◌≡◌, ◌≢◌, ◌==◌, ℕ, zero, suc, ◌+◌, ◌<◌, ◌≤◌, inl, inr, Bool, true, false, ◌&&◌, List, [], ◌∷◌, ◌++◌, length, map, set, get_or, Option, Some, refl, sym, ap, ◌∙◌, subst, arith, IsTrue, eqb-true}
 use Rattle.std.proofs.lemmas.List.{get_or_past, length-map, length-set, set-get_or}
 use Rattle.sc_action.specs.Hands.{hand_of}
 use Rattle.sc_daemon.specs.Backlogs.{AreNumbered, ArePending, Write, fresh_writes, hand_in, with_write, write_at}

@@ -8,9 +8,7 @@ use Rattle.sc_model.specs.declared.event.Owner.{Owner}
 use Rattle.sc_model.specs.declared.event.Owner.TheVariants.{Nobody, Request as OfRequest, Write as OfWrite}
 use Rattle.sc_model.specs.declared.event.What.{What}
 use Rattle.sc_model.specs.declared.event.What.TheVariants.{Asked, Began, Closed, Committed, Dist, Filled, Idle, Keyed, Outcome, Passed, Placed, Ran, Reserved, Sent, Taken, TokenTaken, TooLong, WriteEnded, Wrote}
-use Rattle.sc_model.specs.declared.event.Written.{Written}
 use Rattle.sc_model.specs.declared.event.Written.TheVariants.{Done, Refused}
-use Rattle.sc_model.specs.declared.level.Cause.{Cause}
 
 pub never : false ≡ true → ⊥
 never e = absurd (cc)

@@ -1,5 +1,5 @@
 -- Writes that were handed on and are not done, and the entries of disk levels that they hold.
-use Rattle.std.specs.Prelude.{◌≡◌, ℕ, zero, suc, ◌<◌, ◌≤◌, Bool, true, false, List, [], ◌∷◌, length, map, Option, Some, None, refl}
+use Rattle.std.specs.Prelude.{◌≡◌, ℕ, zero, suc, ◌<◌, ◌≤◌, Bool, true, false, List, [], ◌∷◌, length, Option, Some, None, refl}
 use Rattle.std.specs.Coded.{Coded, code_by, coded×, coded_bool, coded_list, coded_option, coded_ℕ}
 use Rattle.sc_action.specs.Hands.{IsOwn}
 use Rattle.sc_disk.specs.Store.{AddEntry}

@@ -12,7 +12,7 @@ use Rattle.sc_job.specs.Setups.{Config, setup}
 use Rattle.sc_model.specs.Headline.{Result_of_run}
 use Rattle.sc_model.specs.Machine.{Does, Runs, shown_levels}
 use Rattle.sc_model.specs.Script.{End, Script}
-use Rattle.sc_model.specs.Trace.{Open, if_too_long, reserved_at, reserved_by}
+use Rattle.sc_model.specs.Trace.{Open, if_too_long, reservations, reserved_at, reserved_by}
 use Rattle.sc_model.specs.declared.event.Event.{Event}
 use Rattle.sc_model.specs.declared.event.Owner.TheVariants.{Request as OfRequest, Write as OfWrite}
 use Rattle.sc_model.specs.declared.event.Step.{Step}
@@ -82,6 +82,7 @@ pub record Progress (d0 d : Kept) (inputs : List (List ℕ)) (steps left : List 
   pub done : List Step
   pub split : done ++ left ≡ steps
   pub opens : List Open
+  pub listed : opens ≡ reservations (reverse events)
   pub runs : Runs (script_of d0 inputs) (machine_of d0 (lines_of d0.state.config.limit (length inputs)) []) (reverse done) (reverse events) (machine_of d lines opens)
   pub config : d.state.config ≡ d0.state.config
   pub told : d.state.told ≡ true

@@ -1,9 +1,11 @@
 //! Drives of any steps over any bytes on any connections.
-ghost use Rattle.std.specs.Prelude.{◌≡◌, [], true, Ok, IfOk, IsOk, length, map, reverse};
+ghost use Rattle.std.specs.Prelude.{◌≡◌, ℕ, [], true, Ok, IfOk, IsOk, length, map, reverse};
 ghost use Rattle.sc_conn.specs.Ends.{end_of};
 ghost use Rattle.sc_daemon.specs.Daemons.{IsIdleDaemon, anew, script_of};
 ghost use Rattle.sc_daemon.specs.Drives.{Progress, line_end, lines_of, result_of};
 ghost use Rattle.sc_model.specs.Headline.{Headline};
+ghost use Rattle.sc_model.specs.Trace.{reservations, reserved_at};
+ghost use Rattle.sc_owned.specs.State.{reserved_in};
 
 use crate::backlog::Backlog;
 use crate::conn::Conn;
@@ -176,7 +178,8 @@ fn all_steps<P: Parts>(
 }
 
 /// Drives a daemon: each step is one atomic step, over these bytes on each connection. What it answers is what happened,
-/// and the headline holds of it. What the daemon is made of stays.
+/// and the headline holds of it. What the daemon is made of stays, it still tells what it holds, and as much is reserved at each
+/// level as what happened says.
 pub fn drive<P: Parts>(
     alloc: Global,
     daemon: &mut Daemon<P>,
@@ -187,6 +190,8 @@ pub fn drive<P: Parts>(
     requires told { daemon.old.state.told ≡ true }
     ensures headline { IfOk result (λ driven. Headline (script_of daemon.old inputs.now) daemon.old.state.world (reverse steps.now) (reverse driven.trace) daemon.new.state.world (result_of daemon.new driven)) }
     ensures config { IfOk result (λ _. daemon.new.state.config ≡ daemon.old.state.config) }
+    ensures told { IfOk result (λ _. daemon.new.state.told ≡ true) }
+    ensures reserved { IfOk result (λ driven. (level : ℕ) → reserved_in daemon.new.state level ≡ reserved_at level (reservations (reverse driven.trace))) }
 {
     every_run();
     let driver = all_steps(alloc, daemon, inputs, steps)?;

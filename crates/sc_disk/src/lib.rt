@@ -34,7 +34,7 @@ pub use key_path::{is_store_key, make_key_path, normalize_key};
 pub use lazy::LazyDiskCache;
 pub use lru_disk_cache::LruDiskCache;
 pub use mem_disk::MemDisk;
-pub use opening::OpenError;
+pub use opening::{OpenError, is_kept};
 pub use writing::{FileWriter, InsertError};
 
 #[cfg(test)]

@@ -74,6 +74,13 @@ impl MemDisk {
         self.files.get(path)
     }
 
+    /// All files, as a listing tells them; no call is counted.
+    pub fn files(&self) -> Result<Items<Listed>, NoMemory>
+        ensures { IfOk result (λ all. IsListing all (memory_state self.now)) }
+    {
+        self.files.list()
+    }
+
     /// All changes of the files since the disk was made, the newest first.
     pub fn changes(&self) -> &VecDeque<Change>
         ensures { result.now.items ≡ self.now.done }
@@ -228,7 +235,7 @@ impl Disk for MemDisk {
         if self.refuses(false) {
             return Err(DiskError::Fault);
         }
-        let all = self.files.list()?;
+        let all = self.files()?;
         Ok(all)
     }
 

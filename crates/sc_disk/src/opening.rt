@@ -28,8 +28,8 @@ pub struct OpenError<D> {
     pub disk: D,
 }
 
-// Whether an opening keeps a file.
-fn is_kept(file: &Listed, capacity: u64) -> bool
+/// Whether an opening keeps a file: it is no temporary, and not over the capacity by itself.
+pub fn is_kept(file: &Listed, capacity: u64) -> bool
     ensures { result ≡ is_kept capacity file.now }
 {
     !is_temporary_path(&file.path) && file.size <= capacity

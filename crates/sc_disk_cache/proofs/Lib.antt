@@ -2,8 +2,10 @@ pub mod Askings
 pub mod Changing
 pub mod Closings
 pub mod Commits
+pub mod Counting
 pub mod Evicting
 pub mod Finding
+pub mod HeldSizes
 pub mod Lending
 pub mod Looking
 pub mod Openings
@@ -14,4 +16,5 @@ pub mod Rooms
 pub mod Sizes
 pub mod Spellings
 pub mod Steadying
+pub mod Walking
 pub mod Within

@@ -37,10 +37,10 @@ use Rattle.sc_disk_cache.proofs.Ordering.{same-order}
 use Rattle.sc_disk_cache.proofs.Sizes.{each-pair, size-in, size-none}
 
 -- a file that stands, as large as the index says
-record Stands (f : DiskFiles) (e : List ℕ × ℕ) : Type 0 where
-  bytes : List ℕ
-  stands : bytes_at f e.0 ≡ Some bytes
-  size : length bytes ≡ e.1
+pub record Stands (f : DiskFiles) (e : List ℕ × ℕ) : Type 0 where
+  pub bytes : List ℕ
+  pub stands : bytes_at f e.0 ≡ Some bytes
+  pub size : length bytes ≡ e.1
 
 one_more : (es : Index) (f : DiskFiles) (e : List ℕ × ℕ) → lookup (bytes_eq e.0) es ≡ None → Stands f e → Kind e.0
     → size_of (files_of Main (e ∷ es) f) + size_of (files_of Pre (e ∷ es) f) ≤ e.1 + (size_of (files_of Main es f) + size_of (files_of Pre es f))
@@ -86,7 +86,7 @@ distinct_suffix capacity (e ∷ es) d = (elim (nat_le (total measure (e ∷ es))
   | false ↦ distinct_suffix capacity es (IsDistinct-tail bytes_eq e.0 (keys_of es) d)
 ])
 
-distinct_reopened : (capacity : ℕ) (f : DiskFiles) → IsDistinct bytes_eq (keys_of (reopened capacity f))
+pub distinct_reopened : (capacity : ℕ) (f : DiskFiles) → IsDistinct bytes_eq (keys_of (reopened capacity f))
 unfolding reopened
 distinct_reopened capacity f =
     let kept = kept_of capacity (listing f) in
@@ -128,7 +128,7 @@ sized_bytes : (o : Option DiskFile) (n : ℕ) → option_map (λ (file : DiskFil
 sized_bytes None n h = cc
 sized_bytes (Some x) n h = (x.bytes, refl, cc)
 
-reopened_stand : (capacity : ℕ) (f : DiskFiles) (q : List ℕ) (n : ℕ) → lookup (bytes_eq q) (reopened capacity f) ≡ Some n → Stands f (q, n)
+pub reopened_stand : (capacity : ℕ) (f : DiskFiles) (q : List ℕ) (n : ℕ) → lookup (bytes_eq q) (reopened capacity f) ≡ Some n → Stands f (q, n)
 unfolding reopened
 reopened_stand capacity f q n h =
     let kept = kept_of capacity (listing f) in

@@ -1,5 +1,6 @@
 -- What a contract sees of a disk store of two folders, whether it is opened or not.
-use Rattle.std.specs.Prelude.{ℕ, suc, Bool, true, false, is_some, List, [], ◌∷◌, Option, Some, None, slice_index_or}
+use Rattle.std.specs.Prelude.{ℕ, suc, Bool, true, false, is_some, List, [], ◌∷◌, length, Option, Some, None, slice_index_or}
+use Rattle.std.specs.FinMap as map
 use Rattle.std.specs.Option.{option_map}
 use Rattle.sc_disk.specs.Disks.{DiskFiles, DiskRecord, DiskState, files_now, no_disk_files, untold_disk}
 use Rattle.sc_disk.specs.Names.{temporary}
@@ -9,7 +10,7 @@ use Rattle.sc_disk.specs.declared.pending.Pending.{Pending}
 use Rattle.sc_entry.specs.Keys.{make_key_path}
 use Rattle.sc_lru.specs.LruCache.{total}
 use Rattle.sc_entry.specs.declared.cache_mode.CacheMode.{CacheMode}
-use Rattle.sc_model.specs.World.{Level}
+use Rattle.sc_model.specs.World.{Files, Level}
 use Rattle.sc_model.specs.declared.level.LevelFacts.{LevelFacts}
 use Rattle.sc_model.specs.declared.level.LevelKind.TheVariants.{Disk}
 use Rattle.sc_pair.specs.Parts.{in_part}
@@ -109,6 +110,10 @@ bytes_of capacity None t = total size_of (reopened capacity (told_files (state_o
 
 abbrev pub indexed_bytes : {D : Type 0} {g : device.Ghosts D} → DiskCache D g → ℕ
 indexed_bytes c = bytes_of c.pair.max_size c.pair.opened c.pair.disks
+
+-- how many files these are
+abbrev pub count_of : Files → ℕ
+count_of files = length (map.entries files)
 
 -- where a store is opened, the bytes of its files and those that are reserved
 abbrev pub if_opened : Bool → ℕ → Option ℕ

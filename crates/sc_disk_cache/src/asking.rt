@@ -1,6 +1,6 @@
 //! Lookups at a disk store.
 ghost use Rattle.std.specs.Prelude.{◌≡◌, ◌≢◌, ◌+◌, true, false, is_some, Ok, IfOk};
-ghost use Rattle.sc_disk_cache.specs.DiskStores.{held_disk, if_opened, indexed_bytes};
+ghost use Rattle.sc_disk_cache.specs.DiskStores.{count_of, held_disk, if_opened, indexed_bytes};
 ghost use Rattle.sc_disk_cache.specs.Moving.{AskCause, AsksDisk, OpensFor, ReadsAt, Steady, hit_or_miss, reads_key};
 ghost use Rattle.sc_entry.specs.Keys.{IsStoreKey, is_store_key as is_key};
 ghost use Rattle.sc_model.specs.World.{level_size};
@@ -27,6 +27,19 @@ impl<D: Disk> DiskCache<D> {
             Some(cache) => {
                 cache.keeps();
                 Some(cache.size())
+            }
+            None => None,
+        }
+    }
+
+    /// How many files of both folders it has indexed. None until it is opened.
+    pub fn current_len(&self) -> Option<usize>
+        ensures told { (held_disk self.now).told ≡ true → result ≡ if_opened (held_disk self.now).level.opened (count_of (held_disk self.now).level.main + count_of (held_disk self.now).level.pre) }
+    {
+        match self.pair.peek() {
+            Some(cache) => {
+                cache.keeps();
+                Some(cache.len())
             }
             None => None,
         }

@@ -5,6 +5,7 @@ mod asking;
 mod disk_cache;
 mod facts;
 mod filling;
+mod holding;
 mod opening;
 mod reading;
 mod reserving;
@@ -12,6 +13,7 @@ mod whole;
 
 pub use disk_cache::DiskCache;
 pub use filling::{EntryError, Filling};
+pub use holding::HeldSize;
 pub use reserving::Reservation;
 pub use whole::mode_answer;
 

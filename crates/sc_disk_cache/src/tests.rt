@@ -1,4 +1,4 @@
-use crate::{DiskCache, EntryError, Filling, Reservation};
+use crate::{DiskCache, EntryError, Filling, HeldSize, Reservation};
 use sc_disk::{LruDiskCacheAddEntry, MemDisk};
 use sc_entry::{ByteText, CacheMode, CacheWrite, Calls, Items, NoMemory, Text};
 use sc_model::{Answer, Cause, Mode, Policy, Store, Written};
@@ -261,4 +261,56 @@ fn refuses_writes(rt: &impl Abort, alloc: Global, cache: &mut Cache) -> Result<(
 fn refuses_where_it_is_read_only(rt: HostRuntime) -> Result<(), Fail> {
     let mut cache = read_only_cache(rt.alloc())?;
     refuses_writes(&rt, rt.alloc(), &mut cache)
+}
+
+/// Puts a file of so many bytes on a disk.
+fn hold(
+    alloc: Global,
+    disk: &mut MemDisk,
+    path: &str,
+    moment: u64,
+    bytes: &[u8],
+) -> Result<(), NoMemory> {
+    let path = Text::from_str(alloc, path)?;
+    disk.hold(&path, moment, bytes)
+}
+
+/// A main disk with a temporary, a file over a capacity of 10, and three others whose moments don't follow their paths.
+fn main_disk(alloc: Global) -> Result<MemDisk, NoMemory> {
+    let mut disk = disk_of(alloc, b"/0", &[])?;
+    hold(alloc, &mut disk, "a/a/aab", 7, b"0123")?;
+    hold(alloc, &mut disk, "a/b/abc", 2, b"01")?;
+    hold(alloc, &mut disk, "a/c/acd", 9, b"0123456789x")?;
+    hold(alloc, &mut disk, ".sccachetmp0", 8, b"01")?;
+    hold(alloc, &mut disk, "a/d/ade", 1, b"0")?;
+    Ok(disk)
+}
+
+fn pre_disk(alloc: Global) -> Result<MemDisk, NoMemory> {
+    let mut disk = disk_of(alloc, b"/0p", &[])?;
+    hold(alloc, &mut disk, "b", 5, b"01234")?;
+    Ok(disk)
+}
+
+fn filled_cache(alloc: Global) -> Result<Cache, NoMemory> {
+    let main = main_disk(alloc)?;
+    let pre = pre_disk(alloc)?;
+    Ok(DiskCache::new(alloc, main, pre, 10, CacheMode::ReadWrite))
+}
+
+fn holds_the_same(rt: &impl Abort, alloc: Global, cache: &mut Cache) -> Result<(), Fail> {
+    assert_eq!(rt; cache.held_size()?, HeldSize { bytes: 9, files: 2 });
+    assert_eq!(rt; cache.current_size(), None);
+    assert_eq!(rt; raw_hit(alloc, cache, "aab")?, Some(4));
+    assert_eq!(rt; cache.held_size()?, HeldSize { bytes: 9, files: 2 });
+    assert!(rt; reserve_cause(alloc, cache, "abd", 3)?.is_none());
+    assert_eq!(rt; cache.held_size()?, HeldSize { bytes: 7, files: 1 });
+    Ok(())
+}
+
+/// Before it is opened a store tells of the files that it has once it is. An open entry counts by its bytes, and as no file.
+#[test]
+fn tells_its_size_unopened(rt: HostRuntime) -> Result<(), Fail> {
+    let mut cache = filled_cache(rt.alloc())?;
+    holds_the_same(&rt, rt.alloc(), &mut cache)
 }

@@ -1,18 +1,23 @@
 -- What a daemon over memory is made of, and what it holds at first.
-use Rattle.std.specs.Prelude.{◌≡◌, ℕ, List, [], ◌∷◌, map, Option, Some, None}
+use Rattle.std.specs.Prelude.{◌≡◌, ℕ, zero, suc, false, List, [], ◌∷◌, ◌++◌, codes, decimal, map, Option, Some, None}
 use Rattle.sc_compile.specs.declared.run_line.RunLine.{RunLine}
-use Rattle.sc_entry.specs.Keys.{normalize_key}
+use Rattle.sc_disk.specs.Disks.{DiskState, no_disk_files}
+use Rattle.sc_disk.specs.Memory.{outside_of}
+use Rattle.sc_disk.specs.declared.change.Change.{Change}
+use Rattle.sc_disk.specs.declared.change.Change.TheVariants.{Added, Made}
+use Rattle.sc_disk_cache.specs.DiskStores.{unopened_store}
+use Rattle.sc_entry.specs.Keys.{make_key_path, normalize_key}
 use Rattle.sc_model.specs.Devices.{calls_failing}
 use Rattle.sc_model.specs.World.{Files, World, no_files}
 use Rattle.sc_model.specs.declared.event.RunAnswer.{RunAnswer}
-use Rattle.sc_model.specs.Plan.{level_facts}
 use Rattle.sc_model.specs.declared.level.Container.TheVariants.{Disabled}
-use Rattle.sc_model.specs.declared.level.LevelFacts.{LevelFacts}
-use Rattle.sc_model.specs.declared.level.LevelKind.TheVariants.{Remote}
+use Rattle.sc_model.specs.declared.level.LevelKind.{LevelKind}
+use Rattle.sc_model.specs.declared.level.LevelKind.TheVariants.{Disk, Remote}
+use Rattle.sc_pair.specs.Twos.{joined_state, joins}
 use Rattle.sc_script.specs.declared.level_rule.LevelRule.{LevelRule}
 use Rattle.sc_script.specs.declared.run_rule.RunRule.{RunRule}
 use Rattle.sc_script.specs.declared.script.Script.{Script}
-use Rattle.sc_store.specs.Held.{Held, HeldLevel, held_of, held_remote, memory_names}
+use Rattle.sc_store.specs.Held.{Held, HeldLevel, held_of, held_remote, memory_names, of_disk}
 use Rattle.sc_store.specs.Paths.{put_all}
 
 -- what is held under keys, at the paths of the keys
@@ -20,9 +25,46 @@ abbrev pub placed : List (List ℕ × List ℕ) → List (List ℕ × List ℕ)
 placed [] = []
 placed (h ∷ holds) = (normalize_key h.0, h.1) ∷ placed holds
 
--- what the level holds at first, by path
+-- what a remote level holds at first, by path
 abbrev pub first_files : List (List ℕ × List ℕ) → Files
 first_files holds = put_all no_files (placed holds)
+
+-- where the files of the level of this number stand: those of entries, and those of preprocessor entries
+unfoldable pub main_root : ℕ → List ℕ
+main_root level = codes "/" ++ decimal level
+
+unfoldable pub pre_root : ℕ → List ℕ
+pre_root level = codes "/" ++ decimal level ++ codes "/preprocessor"
+
+-- Each key's file is made at its path and filled, one after another, the first at this moment, each later one a moment later;
+-- the newest change stands first.
+abbrev pub filled_from : ℕ → List (List ℕ × List ℕ) → List Change → List Change
+filled_from moment [] done = done
+filled_from moment (h ∷ holds) done = filled_from (suc moment) holds (Added (make_key_path h.0) h.1 ∷ Made (make_key_path h.0) moment ∷ done)
+
+-- a disk under this root that holds the files of these keys, with the moments 0, 1, .. in their order
+abbrev pub first_disk : List ℕ → List (List ℕ × List ℕ) → DiskState
+first_disk root holds = record { told = Some (record { outside = outside_of []; first = no_disk_files; done = filled_from zero holds [] }); faults = 0; root = root; divided = false }
+
+-- The level of this number, as a script says it. A disk level isn't opened, and holds no preprocessor entry.
+abbrev pub held_as : LevelKind → ℕ → LevelRule → HeldLevel
+held_as Disk level rule = of_disk (unopened_store rule.mode rule.capacity (joined_state (joins (first_disk (main_root level) rule.holds) (first_disk (pre_root level) []))))
+held_as Remote level rule = held_remote memory_names rule.mode (Some (first_files rule.holds)) 0 0 (Some (calls_failing rule.fails))
+
+abbrev pub first_held : ℕ → LevelRule → HeldLevel
+first_held level rule = held_as rule.kind level rule
+
+-- levels, of which the first has this number
+abbrev pub held_from : ℕ → List LevelRule → List HeldLevel
+held_from level [] = []
+held_from level (r ∷ rules) = first_held level r ∷ held_from (suc level) rules
+
+abbrev pub held_first : List LevelRule → List HeldLevel
+held_first rules = held_from zero rules
+
+-- all levels of a script
+abbrev pub first_levels : Script → Held
+first_levels script = held_of (held_first script.levels) script.policy
 
 -- keys and answers, in order
 abbrev pub told_lines : List RunLine → List (List ℕ × RunAnswer)
@@ -35,21 +77,6 @@ told_runs runs = map (λ r. (r.key, r.answer)) runs
 abbrev pub AreLines : Option (List RunLine) → List RunRule → Type 0
 AreLines None runs = ⊥
 AreLines (Some lines) runs = told_lines lines ≡ told_runs runs
-
--- a remote level, as a script says it
-abbrev pub first_held : LevelRule → HeldLevel
-first_held rule = held_remote memory_names rule.mode (Some (first_files rule.holds)) 0 0 (Some (calls_failing rule.fails))
-
-abbrev pub held_first : List LevelRule → List HeldLevel
-held_first rules = map first_held rules
-
--- every level is a remote one
-abbrev pub AreRemote : List LevelFacts → Type 0
-AreRemote fs = (l : ℕ) → (level_facts fs l).kind ≡ Remote
-
--- all levels of a script
-abbrev pub first_levels : Script → Held
-first_levels script = held_of (held_first script.levels) script.policy
 
 -- nothing was run, placed or refused
 abbrev pub first_world : Script → World

@@ -1,7 +1,9 @@
 //! Makes a daemon of what a script says.
-ghost use Rattle.std.specs.Prelude.{◌≡◌, ℕ, true, Some, IfOk, map};
+ghost use Rattle.std.specs.Prelude.{◌≡◌, ℕ, [], true, Some, IfOk, map};
 ghost use Rattle.sc_compile.specs.Shop.{new_shop};
-ghost use Rattle.sc_memory.specs.Making.{AreLines, AreRemote, first_files, first_held, first_levels, first_world, held_first, placed, told_lines, told_runs};
+ghost use Rattle.sc_disk.specs.Memory.{memory_state};
+ghost use Rattle.sc_memory.specs.Making.{AreLines, first_disk, first_files, first_held, first_levels, first_world, held_as, held_first, main_root, placed, pre_root, told_lines, told_runs};
+ghost use Rattle.sc_model.specs.declared.level.LevelKind.TheVariants as kinds;
 ghost use Rattle.sc_script.specs.Goods.{IsGood, are_good_levels, are_good_runs, are_store_keys};
 ghost use Rattle.sc_model.specs.Devices.{calls_failing};
 ghost use Rattle.sc_store.specs.Devices.{calls_of};
@@ -11,13 +13,15 @@ ghost use Rattle.sc_store.specs.Telling.{new_counters};
 
 use crate::memory::Memory;
 use sc_compile::{RunLine, ScriptWorkshop, ToolTable};
-use sc_disk::MemDisk;
-use sc_entry::{ByteText, Items, NoMemory, Text};
-use sc_model::Step;
+use sc_disk::{MemDisk, make_key_path, normalize_key};
+use sc_disk_cache::DiskCache;
+use sc_entry::{ByteText, Calls, Items, NoMemory, Text};
+use sc_model::{LevelKind, Step};
 use sc_owned::Owned;
 use sc_script::{LevelRule, RunRule, Script};
-use sc_store::{Level, Levels, MemRemote, RemoteStorage, normalize_key};
+use sc_store::{DiskStorage, Level, Levels, MemRemote, RemoteStorage};
 use std::alloc::Global;
+use std::collections::BTreeMap;
 
 /// A daemon that a script is for, and what it is given.
 #[derive(Drop)]
@@ -61,13 +65,84 @@ fn device(
 }
 
 /// A remote level, over a device in memory.
-fn level(alloc: Global, rule: LevelRule) -> Result<Level<MemRemote, MemDisk>, NoMemory>
+fn remote_level(alloc: Global, rule: LevelRule) -> Result<Level<MemRemote, MemDisk>, NoMemory>
     requires { are_store_keys rule.holds ≡ true }
-    ensures { IfOk result (λ level. held_level level ≡ first_held rule) }
+    ensures { IfOk result (λ level. held_level level ≡ held_as kinds.Remote 0 rule) }
 {
     let remote = device(alloc, rule.holds, rule.fails)?;
     let store = RemoteStorage::new(remote, rule.mode);
     Ok(Level::Remote(store))
+}
+
+/// Where the entries of the level of this number stand.
+#[tactic(auto, unfolding(crate::specs::Making::main_root))]
+fn main_root(alloc: Global, level: usize) -> Result<ByteText, NoMemory>
+    ensures { IfOk result (λ root. root ≡ main_root level) }
+{
+    let root = format!(in alloc; "/{level}")?;
+    Ok(ByteText::from_vec(root.into_bytes()))
+}
+
+/// Where its preprocessor entries stand.
+#[tactic(auto, unfolding(crate::specs::Making::pre_root))]
+fn pre_root(alloc: Global, level: usize) -> Result<ByteText, NoMemory>
+    ensures { IfOk result (λ root. root ≡ pre_root level) }
+{
+    let root = format!(in alloc; "/{level}/preprocessor")?;
+    Ok(ByteText::from_vec(root.into_bytes()))
+}
+
+/// A disk with the files of these keys, each a moment younger than the one before.
+fn disk(
+    alloc: Global,
+    root: ByteText,
+    holds: &[(Text, ByteText)],
+    calls: Calls,
+) -> Result<MemDisk, NoMemory>
+    requires keys { are_store_keys holds.now ≡ true }
+    requires faults { calls.faults ≡ 0 }
+    ensures { IfOk result (λ disk. memory_state disk ≡ first_disk root holds.now) }
+{
+    let mut disk = MemDisk::new(alloc, root, BTreeMap::new(alloc), calls);
+    for moment in 0..holds.len() {
+        let hold = &holds[moment];
+        let path = make_key_path(alloc, &hold.0)?;
+        disk.hold(&path, moment as u64, hold.1.as_slice())?;
+    }
+    Ok(disk)
+}
+
+/// A disk level over two disks in memory. That of preprocessor entries holds none, and refuses no call.
+fn disk_level(
+    alloc: Global,
+    level: usize,
+    rule: LevelRule,
+) -> Result<Level<MemRemote, MemDisk>, NoMemory>
+    requires { are_store_keys rule.holds ≡ true }
+    ensures { IfOk result (λ made. held_level made ≡ held_as kinds.Disk level rule) }
+{
+    let root = main_root(alloc, level)?;
+    let calls = Calls::failing_at(alloc, rule.fails)?;
+    let main = disk(alloc, root, rule.holds.as_slice(), calls)?;
+    let root = pre_root(alloc, level)?;
+    let pre = disk(alloc, root, &[], Calls::new(alloc))?;
+    let cache = DiskCache::new(alloc, main, pre, rule.capacity, rule.mode);
+    Ok(Level::Disk(DiskStorage::new(cache)))
+}
+
+/// The level of this number.
+fn level(
+    alloc: Global,
+    level: usize,
+    rule: LevelRule,
+) -> Result<Level<MemRemote, MemDisk>, NoMemory>
+    requires { are_store_keys rule.holds ≡ true }
+    ensures { IfOk result (λ made. held_level made ≡ first_held level rule) }
+{
+    match rule.kind {
+        LevelKind::Disk => disk_level(alloc, level, rule),
+        LevelKind::Remote => remote_level(alloc, rule),
+    }
 }
 
 fn levels_of(
@@ -79,7 +154,8 @@ fn levels_of(
 {
     let mut levels = Vec::new(alloc);
     for rule in rules.into_vec() {
-        levels.push(level(alloc, rule)?)?;
+        let made = level(alloc, levels.len(), rule)?;
+        levels.push(made)?;
     }
     Ok(levels)
 }
@@ -122,7 +198,6 @@ pub fn make(alloc: Global, script: Script) -> Result<Made, NoMemory>
     ensures table { IfOk result (λ made. made.owned.config.table ≡ Some script.tools) }
     ensures lines { IfOk result (λ made. AreLines made.owned.config.lines script.runs) }
     ensures told { IfOk result (λ made. made.owned.told ≡ true) }
-    ensures remote { IfOk result (λ made. AreRemote made.owned.config.levels) }
     ensures unreserved { IfOk result (λ made. (level : ℕ) → reserved_in made.owned level ≡ 0) }
     ensures world { IfOk result (λ made. made.owned.world ≡ first_world script) }
     ensures inputs { IfOk result (λ made. made.inputs ≡ script.inputs) }

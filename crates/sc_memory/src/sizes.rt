@@ -1,52 +1,61 @@
 //! What the levels of a daemon over memory hold, in numbers.
-ghost use Rattle.std.specs.Prelude.{◌≡◌, IfOk};
-ghost use Rattle.sc_memory.specs.Making.{AreRemote};
+ghost use Rattle.std.specs.Prelude.{◌≡◌, ℕ, true, IfOk};
+ghost use Rattle.sc_disk_cache.specs.DiskStores.{held_disk};
 ghost use Rattle.sc_memory.specs.Sizes.{size_of, sizes_of};
-ghost use Rattle.sc_model.specs.declared.level.LevelKind.TheVariants.{Remote as IsRemote};
+ghost use Rattle.sc_owned.specs.State.{reserved_in};
+ghost use Rattle.sc_store.specs.Held.{room_in};
 ghost use Rattle.sc_store.specs.Levels.{held_level};
 
 use crate::memory::Memory;
 use sc_disk::MemDisk;
+use sc_disk_cache::DiskCache;
 use sc_entry::NoMemory;
 use sc_owned::Owned;
 use sc_report::LevelSize;
 use sc_store::{Level, Levels, MemRemote};
 use std::alloc::Global;
 
-fn size_of(level: &Level<MemRemote, MemDisk>) -> LevelSize
-    requires { (held_level level.now).facts.kind ≡ IsRemote }
-    ensures { result ≡ size_of (held_level level.now).level }
+/// What a disk store holds. It need not be opened.
+fn disk_size(cache: &DiskCache<MemDisk>) -> Result<LevelSize, NoMemory>
+    ensures { (held_disk cache.now).told ≡ true → IfOk result (λ size. size ≡ size_of (held_disk cache.now).reserved (held_disk cache.now).level) }
+{
+    cache.keeps();
+    let held = cache.held_size()?;
+    Ok(LevelSize {
+        bytes: held.bytes,
+        entries: held.files as u64,
+    })
+}
+
+fn size_of(level: &Level<MemRemote, MemDisk>) -> Result<LevelSize, NoMemory>
+    ensures { (held_level level.now).told ≡ true → IfOk result (λ size. size ≡ size_of (held_level level.now).room.reserved (held_level level.now).level) }
 {
     match level {
         Level::Remote(store) => {
             let remote = store.remote();
-            LevelSize {
-                bytes: remote.size(),
+            Ok(LevelSize {
+                bytes: remote.size().saturating_add(level.reserved()),
                 entries: remote.len() as u64,
-            }
+            })
         }
-        Level::Disk(store) => {
-            store.keeps();
-            unreachable!()
-        }
+        Level::Disk(store) => disk_size(store.cache()),
     }
 }
 
 fn sizes_of(alloc: Global, levels: &Levels<MemRemote, MemDisk>) -> Result<Vec<LevelSize>, NoMemory>
-    requires { AreRemote levels.now.facts }
-    ensures { IfOk result (λ sizes. sizes.items ≡ sizes_of levels.now.levels) }
+    ensures { levels.now.told ≡ true → IfOk result (λ sizes. sizes.items ≡ sizes_of (λ l. (room_in levels.now.rooms l).reserved) levels.now.levels) }
 {
     let mut sizes = Vec::new(alloc);
     for level in 0..levels.len() {
-        sizes.push(size_of(levels.get(level)))?;
+        sizes.push(size_of(levels.get(level))?)?;
     }
     Ok(sizes)
 }
 
-/// How many bytes each level holds, and at how many paths. All are remote ones so far.
+/// How many bytes each level holds and has reserved, and at how many paths it holds some. A disk level need not be opened: it
+/// is told what an opening would keep.
 pub fn level_sizes(alloc: Global, owned: &Owned<Memory>) -> Result<Vec<LevelSize>, NoMemory>
-    requires { AreRemote owned.now.config.levels }
-    ensures { IfOk result (λ sizes. sizes.items ≡ sizes_of owned.now.world.levels) }
+    ensures { owned.now.told ≡ true → IfOk result (λ sizes. sizes.items ≡ sizes_of (reserved_in owned.now) owned.now.world.levels) }
 {
     let sizes = sizes_of(alloc, owned.levels())?;
     Ok(sizes)

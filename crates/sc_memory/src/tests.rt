@@ -39,3 +39,20 @@ fn ample_make(rt: HostRuntime) -> Result<(), Fail> {
     assert!(rt; matches!(found, Answer::Hit(_, false)));
     Ok(())
 }
+
+/// A disk level that isn't opened, of whose files the newest two fit.
+const DISK: &[u8] =
+    b"script 1\nlevel disk 9 rw\nhold 0 abc 1234\nhold 0 abd 123456\nhold 0 abe 12\n";
+
+#[test]
+fn ample_level_sizes(rt: HostRuntime) -> Result<(), Fail> {
+    let alloc = rt.alloc();
+    read_scripts_are_good();
+    let script = read_script(alloc, DISK)?;
+    let made = make(alloc, script)?;
+    let sizes = level_sizes(alloc, &made.owned)?;
+    assert_eq!(rt; sizes.len(), 1);
+    assert_eq!(rt; sizes[0].bytes, 8);
+    assert_eq!(rt; sizes[0].entries, 2);
+    Ok(())
+}

@@ -102,6 +102,14 @@ impl<D: Disk> LazyPair<D> {
         self.opened.as_ref()
     }
 
+    /// Both disks, until the store is opened.
+    pub fn disks(&self) -> Option<&Two<D>>
+        ensures disks { option_copied result ≡ self.now.disks }
+        ensures unopened { self.now.opened ≡ None → is_some result ≡ true }
+    {
+        self.disks.as_ref()
+    }
+
     /// The most bytes that the files of both parts may take together.
     pub fn capacity(&self) -> u64
         ensures { result ≡ self.now.max_size }

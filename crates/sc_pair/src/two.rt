@@ -5,12 +5,13 @@ ghost use Rattle.sc_disk.specs.declared.disk.DiskError.TheVariants as disk_error
 ghost use Rattle.sc_disk.specs.Disks.{Adopts, AdoptsPart, DiskCause, Does, DoesPart, HasBytes, IsListing, IsSize};
 ghost use Rattle.sc_entry.specs.Causes.{IfTold};
 ghost use Rattle.sc_pair.specs.Parts.{all_in, in_part};
+ghost use Rattle.sc_pair.specs.declared.part.Part.TheVariants as parts;
 ghost use Rattle.sc_pair.specs.Twos.{IsJoint, Refuses, Unplaced, disk_of, joined_state, joins};
 
 use crate::history::History;
 use crate::part::Part;
 use crate::paths;
-use sc_disk::{Disk, DiskError, Listed};
+use sc_disk::{Disk, DiskError, Listed, MemDisk};
 use sc_entry::{ByteText, Items, NoMemory, Text};
 use std::alloc::Global;
 use std::marker::Model;
@@ -140,6 +141,18 @@ impl<D: Disk> Two<D> {
     }
 }
 
+impl Two<MemDisk> {
+    /// The files of both, as a listing tells them; no call is counted.
+    pub fn files(&self) -> Result<Items<Listed>, NoMemory>
+        ensures { IfOk result (λ all. IsListing all (joined_state self.now)) }
+    {
+        let main = self.main.files()?;
+        let pre = self.pre.files()?;
+        let all = join_files(self.alloc, main, pre)?;
+        Ok(all)
+    }
+}
+
 impl<D: Disk> Disk for Two<D> {
     ghost state = { joined_state };
 
@@ -163,10 +176,8 @@ impl<D: Disk> Disk for Two<D> {
     fn list(&mut self) -> Result<Items<Listed>, DiskError> {
         let main = self.main.list()?;
         let pre = self.pre.list()?;
-        let mut all = Vec::new(self.alloc);
-        add_files(&mut all, self.alloc, Part::Main, main)?;
-        add_files(&mut all, self.alloc, Part::Pre, pre)?;
-        Ok(Items::from_vec(all))
+        let all = join_files(self.alloc, main, pre)?;
+        Ok(all)
     }
 
     fn create(&mut self, path: &Text, now: u64) -> Result<(), DiskError> {
@@ -281,6 +292,20 @@ impl<D: Disk> Disk for Two<D> {
             }
         }
     }
+}
+
+// The main disk's files, then the other's, their paths among those of both.
+fn join_files(
+    alloc: Global,
+    main: Items<Listed>,
+    pre: Items<Listed>,
+) -> Result<Items<Listed>, NoMemory>
+    ensures { IfOk result (λ all. all ≡ all_in parts.Main main ++ all_in parts.Pre pre) }
+{
+    let mut all = Vec::new(alloc);
+    add_files(&mut all, alloc, Part::Main, main)?;
+    add_files(&mut all, alloc, Part::Pre, pre)?;
+    Ok(Items::from_vec(all))
 }
 
 // Adds a part's files behind the others, their paths among those of both.

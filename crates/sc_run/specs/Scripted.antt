@@ -8,9 +8,12 @@ use Rattle.sc_memory.specs.Making.{AreLines, first_levels, first_world}
 use Rattle.sc_memory.specs.Sizes.{sizes_of}
 use Rattle.sc_model.specs.Headline.{Headline}
 use Rattle.sc_model.specs.Machine.{shown_levels}
+use Rattle.sc_model.specs.Trace.{reservations, reserved_at}
+use Rattle.sc_model.specs.declared.event.Event.{Event}
 use Rattle.sc_model.specs.declared.event.Step.{Step}
 use Rattle.sc_owned.specs.State.{store_of}
 use Rattle.sc_report.specs.Report.{report_of}
+use Rattle.sc_report.specs.declared.levels.LevelSize.{LevelSize}
 use Rattle.sc_script.specs.Scripts.{first_bad, script_of}
 use Rattle.sc_script.specs.declared.script.Script.{Script}
 use Rattle.sc_script.specs.declared.script.ScriptError.{ScriptError}
@@ -31,11 +34,15 @@ pub record Begins (s : Script) (d : Kept) : Type 0 where
   pub world : d.state.world ≡ first_world s
   pub new : d ≡ new_daemon d.state
 
+-- what each level holds at last, and what is reserved at it by all that happened
+abbrev pub last_sizes : Kept → List Event → List LevelSize
+last_sizes last trace = sizes_of (λ l. reserved_at l (reservations (reverse trace))) last.state.world.levels
+
 -- The text is the report of a drive from the one daemon to the other that the headline holds of.
 pub record ReportsDrive (first last : Kept) (inputs : List (List ℕ)) (steps : List Step) (text : List ℕ) : Type 0 where
   pub driven : Driven
   pub headline : Headline (given_of first inputs) first.state.world (reverse steps) (reverse driven.trace) last.state.world (result_of last driven)
-  pub report : text ≡ report_of (map (λ c. c.end) driven.conns) driven.trace (sizes_of last.state.world.levels) (shown_levels last.state.config.policy last.levels) (length driven.background) last.free last.stats
+  pub report : text ≡ report_of (map (λ c. c.end) driven.conns) driven.trace (last_sizes last driven.trace) (shown_levels last.state.config.policy last.levels) (length driven.background) last.free last.stats
 
 -- The text is the report of a drive by the script that the headline holds of.
 pub record Reports (s : Script) (text : List ℕ) : Type 0 where
@@ -44,7 +51,7 @@ pub record Reports (s : Script) (text : List ℕ) : Type 0 where
   pub driven : Driven
   pub begins : Begins s first
   pub headline : Headline (given_of first s.inputs) first.state.world (reverse s.steps) (reverse driven.trace) last.state.world (result_of last driven)
-  pub report : text ≡ report_of (map (λ c. c.end) driven.conns) driven.trace (sizes_of last.state.world.levels) (shown_levels last.state.config.policy last.levels) (length driven.background) last.free last.stats
+  pub report : text ≡ report_of (map (λ c. c.end) driven.conns) driven.trace (last_sizes last driven.trace) (shown_levels last.state.config.policy last.levels) (length driven.background) last.free last.stats
 
 -- Bytes that are a script are driven by, and others refused with their first bad line; want of memory is free.
 abbrev pub DrivesScript : List ℕ → Result (Vec ℕ) ScriptError → Type 0

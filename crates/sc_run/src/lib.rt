@@ -2,8 +2,12 @@
 #![tactic(auto)]
 
 #[cfg(test)]
+mod disk_tests;
+#[cfg(test)]
 mod level_tests;
 mod outside;
+#[cfg(test)]
+mod policy_tests;
 mod printing;
 mod running;
 mod scripted;

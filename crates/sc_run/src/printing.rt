@@ -1,8 +1,8 @@
 //! The report of a drive over memory.
-ghost use Rattle.std.specs.Prelude.{◌≡◌, IfOk, length, map};
-ghost use Rattle.sc_memory.specs.Making.{AreRemote};
+ghost use Rattle.std.specs.Prelude.{◌≡◌, true, IfOk, length, map};
 ghost use Rattle.sc_memory.specs.Sizes.{sizes_of};
 ghost use Rattle.sc_model.specs.Machine.{shown_levels};
+ghost use Rattle.sc_owned.specs.State.{reserved_in};
 ghost use Rattle.sc_report.specs.Report.{report_of};
 
 use sc_conn::End;
@@ -39,8 +39,7 @@ fn shown_counters(daemon: &Daemon<Memory>) -> &[LevelStats]
 
 /// The report of what a drive came to.
 pub fn printed(alloc: Global, daemon: &Daemon<Memory>, driven: &Driven) -> Result<Vec<u8>, NoMemory>
-    requires { AreRemote daemon.now.state.config.levels }
-    ensures { IfOk result (λ text. text.items ≡ report_of (map (λ c. c.end) driven.now.conns) driven.now.trace (sizes_of daemon.now.state.world.levels) (shown_levels daemon.now.state.config.policy daemon.now.levels) (length driven.now.background) daemon.now.free daemon.now.stats) }
+    ensures { daemon.now.state.told ≡ true → IfOk result (λ text. text.items ≡ report_of (map (λ c. c.end) driven.now.conns) driven.now.trace (sizes_of (reserved_in daemon.now.state) daemon.now.state.world.levels) (shown_levels daemon.now.state.config.policy daemon.now.levels) (length driven.now.background) daemon.now.free daemon.now.stats) }
 {
     let ends = ends_of(alloc, driven.conns.as_slice())?;
     let levels = level_sizes(alloc, daemon.owned())?;

@@ -1,7 +1,6 @@
 //! A drive by a script.
 ghost use Rattle.std.specs.Prelude.{◌≡◌, true, IfOk};
 ghost use Rattle.sc_daemon.specs.Daemons.{IsIdleDaemon};
-ghost use Rattle.sc_memory.specs.Making.{AreRemote};
 ghost use Rattle.sc_run.specs.Scripted.{DrivesScript, Reports, ReportsDrive};
 ghost use Rattle.sc_script.specs.Goods.{IsGood};
 ghost use Rattle.sc_script.specs.declared.script.Script.{Script as ScriptRead};
@@ -33,7 +32,6 @@ fn reported(
 ) -> Result<Vec<u8>, NoMemory>
     requires idle { IsIdleDaemon daemon.old }
     requires told { daemon.old.state.told ≡ true }
-    requires remote { AreRemote daemon.old.state.config.levels }
     ensures { IfOk result (λ text. ReportsDrive daemon.old daemon.new inputs.now steps.now text.items) }
 {
     let driven = drive(alloc, daemon, inputs, steps)?;

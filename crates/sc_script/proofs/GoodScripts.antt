@@ -7,7 +7,7 @@ use Rattle.sc_script.proofs.Tests.{both, by_only, by_test, by_then, eq_of_test, 
 use Rattle.sc_model.specs.declared.level.LevelPolicy.{LevelPolicy}
 use Rattle.sc_model.specs.declared.level.Policy.TheVariants.{Single}
 use Rattle.sc_script.specs.Goods.{IsGood, are_good_levels, are_good_runs, are_store_keys, is_good_level}
-use Rattle.sc_script.specs.Levels.{changed, fits_word, has_its_levels, is_driven, policy_of, rule_of, with_call, with_key}
+use Rattle.sc_script.specs.Levels.{changed, fits_word, has_its_levels, policy_of, rule_of, with_call, with_key}
 use Rattle.sc_script.specs.Lines.{line_of_words}
 use Rattle.sc_script.specs.Parts.{parts_of, words_of}
 use Rattle.sc_script.specs.Reading.{only_if}
@@ -56,7 +56,7 @@ few_changed : (rules : List LevelRule) (l : ℕ) (f : LevelRule → LevelRule) �
 few_changed rules l f few = rw (length-changed rules l f) few
 
 one_key : (r : LevelRule) (key bytes : List ℕ) → is_store_key key ≡ true → is_good_level r ≡ true → is_good_level (with_key key bytes r) ≡ true
-one_key r key bytes good e = both _ _ (left_of (is_driven r.kind) _ e) (keys_more r.holds key bytes (right_of (is_driven r.kind) _ e) good)
+one_key r key bytes good e = keys_more r.holds key bytes e good
 
 few_more : (rules : List LevelRule) (r : LevelRule) → nat_lt (length rules) 16 ≡ true → length (rules ++ r ∷ []) ≤ 16
 few_more rules r test = rw (length-append rules (r ∷ [])) (omega (arith, lt_of_test (length rules) 16 test))
@@ -68,13 +68,11 @@ new_level d e l g is = by_only (d.begun && takes_level d l) _ e
     (λ test same.
     let takes = right_of d.begun (takes_level d l) test in
     let room = nat_lt (length d.levels) 16 in
-    let both_hold = left_of (room && is_driven l.kind) (fits_word (policy_name d) l.policy) takes in
-    let driven = right_of room (is_driven l.kind) both_hold in
-    let few = left_of room (is_driven l.kind) both_hold in
+    let few = left_of room (fits_word (policy_name d) l.policy) takes in
     subst GoodDraft same (record {
       tokens = g.tokens;
       limit = g.limit;
-      levels = levels_more d.levels (rule_of l) g.levels (both _ _ driven refl);
+      levels = levels_more d.levels (rule_of l) g.levels refl;
       few = few_more d.levels (rule_of l) few;
       answers = g.answers;
     })) is

@@ -3,7 +3,6 @@ use Rattle.std.specs.Prelude.{◌≡◌, ℕ, ◌≤◌, Bool, true, ◌&&◌, L
 use Rattle.sc_compile.specs.GoodNames.{is_good_answer}
 use Rattle.sc_entry.specs.Keys.{is_store_key}
 use Rattle.sc_model.specs.declared.level.Policy.TheVariants.{Single}
-use Rattle.sc_script.specs.Levels.{is_driven}
 use Rattle.sc_script.specs.declared.level_rule.LevelRule.{LevelRule}
 use Rattle.sc_script.specs.declared.run_rule.RunRule.{RunRule}
 use Rattle.sc_script.specs.declared.script.Script.{Script}
@@ -13,9 +12,9 @@ abbrev pub are_store_keys : List (List ℕ × List ℕ) → Bool
 are_store_keys [] = true
 are_store_keys (h ∷ holds) = is_store_key h.0 && are_store_keys holds
 
--- every level is of a kind that can be driven, and holds store keys alone
+-- every level holds store keys alone
 abbrev pub is_good_level : LevelRule → Bool
-is_good_level r = is_driven r.kind && are_store_keys r.holds
+is_good_level r = are_store_keys r.holds
 
 abbrev pub are_good_levels : List LevelRule → Bool
 are_good_levels [] = true

@@ -1,7 +1,5 @@
 -- The levels that a script has, and how they are written.
-use Rattle.std.specs.Prelude.{ℕ, zero, suc, ◌==◌, Bool, true, false, List, [], ◌∷◌, ◌++◌, replicate, Option, is_none, is_some}
-use Rattle.sc_model.specs.declared.level.LevelKind.{LevelKind}
-use Rattle.sc_model.specs.declared.level.LevelKind.TheVariants.{Disk, Remote}
+use Rattle.std.specs.Prelude.{ℕ, zero, suc, ◌==◌, Bool, true, List, [], ◌∷◌, ◌++◌, replicate, Option, is_none, is_some}
 use Rattle.sc_model.specs.declared.level.LevelPolicy.{LevelPolicy}
 use Rattle.sc_model.specs.declared.level.LevelPolicy.TheVariants.{Required}
 use Rattle.sc_model.specs.declared.level.Policy.{Policy}
@@ -10,11 +8,6 @@ use Rattle.sc_script.specs.declared.level_rule.LevelRule.{LevelRule}
 use Rattle.sc_script.specs.declared.line.LevelLine.{LevelLine}
 use Rattle.sc_script.specs.declared.policies.PolicyName.{PolicyName}
 use Rattle.sc_script.specs.declared.policies.PolicyName.TheVariants as named
-
--- Disk levels can't be driven yet: the line of one is read, and is bad.
-abbrev pub is_driven : LevelKind → Bool
-is_driven Disk = false
-is_driven Remote = true
 
 -- a level's line ends in a policy of its own exactly where each level has one
 abbrev pub fits_word : PolicyName → Option LevelPolicy → Bool

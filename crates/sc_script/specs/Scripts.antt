@@ -10,7 +10,7 @@ use Rattle.sc_script.specs.Parts.{words_of, parts_of}
 use Rattle.sc_script.specs.Lines.{line_of_words}
 use Rattle.sc_script.specs.Inputs.{appended}
 use Rattle.sc_script.specs.Frames.{frame_of}
-use Rattle.sc_script.specs.Levels.{changed, fits_word, has_its_levels, is_driven, policy_of, rule_of, with_call, with_key}
+use Rattle.sc_script.specs.Levels.{changed, fits_word, has_its_levels, policy_of, rule_of, with_call, with_key}
 use Rattle.sc_script.specs.declared.line.HoldLine.{HoldLine}
 use Rattle.sc_script.specs.declared.line.LevelLine.{LevelLine}
 use Rattle.sc_script.specs.declared.line.Line.{Line}
@@ -85,7 +85,7 @@ with_policy d name = only_if (may_set d && is_none d.policy && is_in_time name d
 
 -- at most sixteen levels
 abbrev pub takes_level : Draft → LevelLine → Bool
-takes_level d l = nat_lt (length d.levels) 16 && is_driven l.kind && fits_word (policy_name d) l.policy
+takes_level d l = nat_lt (length d.levels) 16 && fits_word (policy_name d) l.policy
 
 unfoldable pub with_level : Draft → LevelLine → Option Draft
 with_level d l =

@@ -10,7 +10,7 @@ use crate::inputs::Inputs;
 use crate::level_rule::LevelRule;
 use crate::level_rules::LevelRules;
 use crate::line::{HoldLine, LevelLine, Line};
-use crate::policies::{PolicyName, fits_word, has_its_levels, is_driven, policy_of};
+use crate::policies::{PolicyName, fits_word, has_its_levels, policy_of};
 use crate::run_rule::RunRule;
 use crate::script::{Script, ScriptError};
 use sc_compile::Tool;
@@ -198,9 +198,7 @@ impl Draft {
     fn takes_level(&self, level: LevelLine) -> bool
         ensures { result ≡ takes_level self.now level }
     {
-        self.levels.len() < MOST_LEVELS
-            && is_driven(level.kind)
-            && fits_word(self.policy_name(), level.policy)
+        self.levels.len() < MOST_LEVELS && fits_word(self.policy_name(), level.policy)
     }
 
     #[tactic(auto, unfolding(crate::specs::Scripts::with_level))]

@@ -129,7 +129,7 @@ fn bad_line(alloc: Global, script: &[u8]) -> Result<u64, Fail> {
 
 #[test]
 fn bad_levels(rt: HostRuntime) -> Result<(), Fail> {
-    let cases: [(&[u8], u64); 14] = [
+    let cases: [(&[u8], u64); 17] = [
         (b"script 1\npolicy all\npolicy all\n", 3),
         (b"script 1\npolicy some\n", 2),
         (b"script 1\npolicy ignore\n", 0),
@@ -144,7 +144,10 @@ fn bad_levels(rt: HostRuntime) -> Result<(), Fail> {
             b"script 1\nlevel remote rw\nhold 0 abc -\nhold 0 abc A\n",
             4,
         ),
-        (b"script 1\nlevel disk 9 rw\n", 2),
+        (b"script 1\nlevel disk 9 rw\n", 0),
+        (b"script 1\nlevel disk 18446744073709551615 ro\n", 0),
+        (b"script 1\nlevel disk 18446744073709551616 ro\n", 2),
+        (b"script 1\nlevel disk rw\n", 2),
         (b"script 1\nlevel remote rw\nback 0\npolicy all\n", 4),
         (
             b"script 1\nconns 1\nlevel remote rw\nask 0 get-raw abc\npolicy all\n",

@@ -1,10 +1,10 @@
 //! How the levels are written.
 ghost use Rattle.std.specs.Prelude.{◌≡◌, replicate, IfOk};
 ghost use Rattle.sc_model.specs.declared.level.LevelPolicy.TheVariants.{Required};
-ghost use Rattle.sc_script.specs.Levels.{fits_word, has_its_levels, is_driven, policy_of};
+ghost use Rattle.sc_script.specs.Levels.{fits_word, has_its_levels, policy_of};
 
 use sc_entry::{Items, NoMemory};
-use sc_model::{LevelKind, LevelPolicy, Policy};
+use sc_model::{LevelPolicy, Policy};
 use std::alloc::Global;
 
 /// How a script names the way that the levels are written.
@@ -20,16 +20,6 @@ pub enum PolicyName {
     All,
     /// Each level has a policy of its own.
     Levels,
-}
-
-/// Whether levels of such a kind can be driven.
-pub fn is_driven(kind: LevelKind) -> bool
-    ensures { result ≡ is_driven kind }
-{
-    match kind {
-        LevelKind::Disk => false,
-        LevelKind::Remote => true,
-    }
 }
 
 /// Whether a level's line may end in this word, or in none.

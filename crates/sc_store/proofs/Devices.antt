@@ -1,5 +1,5 @@
 -- A call of a device in memory is counted, and fails where it is to fail.
-use Rattle.std.proofs.Common.{◌≡◌, ℕ, ◌+◌, ◌-◌, ◌^◌, ◌<◌, ◌≤◌, min, Bool, true, false, IsTrue, List, Option, None, Some, refl, arith, subst, sym, ap, ◌∙◌}
+use Rattle.std.proofs.Common.{◌≡◌, ℕ, ◌-◌, ◌^◌, ◌<◌, ◌≤◌, Bool, true, false, IsTrue, List, Option, None, Some, refl, arith, subst, sym, ap, ◌∙◌}
 use Rattle.std.specs.FinSet as set
 use Rattle.std.specs.Cmp.{nat_cmp_total}
 use Rattle.std.specs.List.{list_any}
@@ -7,7 +7,7 @@ use Rattle.std.specs.Ordering.{nat_cmp, eq_by_cmp}
 use Rattle.sc_entry.specs.Causes.{Rose}
 use Rattle.sc_entry.specs.Failing.{fails_at, faults_after, one_more}
 use Rattle.sc_entry.specs.declared.calls.Calls.{Calls as Counted}
-use Rattle.sc_model.specs.Devices.{Calls, calls_failing, Makes, MakesOn, is_listed, numbers_of}
+use Rattle.sc_model.specs.Devices.{Calls, calls_failing, MakesOn, is_listed, numbers_of}
 use Rattle.sc_model.specs.World.{Later, Level, is_later}
 use Rattle.sc_store.specs.Devices.{calls_of}
 

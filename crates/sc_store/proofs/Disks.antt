@@ -1,16 +1,15 @@
 -- Calls of a disk level, as a level of levels that all tell.
-use Rattle.std.proofs.Common.{◌≡◌, ℕ, Bool, true, List, Option, Some, Result, Ok, Err, IfOk, IfErr, OnErr, refl, sym, ap, subst}
+use Rattle.std.proofs.Common.{◌≡◌, ℕ, Bool, true, List, Result, Ok, Err, IfErr, OnErr, ap}
 use Rattle.sc_disk.specs.Store.{AddEntry}
-use Rattle.sc_disk_cache.specs.DiskStores.{DiskStore, OpenEntry, entry_at}
-use Rattle.sc_disk_cache.specs.Entries.{ClosesEntry, CommitCause, CommitsEntry, CommitsNothing, FillsBy, FillsEntry, IsOpenAt}
-use Rattle.sc_disk_cache.specs.Moving.{EvictsFor, Opens, OpensBy, ReserveCause, SameEntries, Stays, Steady}
+use Rattle.sc_disk_cache.specs.DiskStores.{DiskStore}
+use Rattle.sc_disk_cache.specs.Entries.{ClosesEntry, CommitCause, CommitsEntry, CommitsNothing, FillsBy}
+use Rattle.sc_disk_cache.specs.Moving.{EvictsFor, OpensBy, SameEntries, Stays, Steady}
 use Rattle.sc_disk_cache.specs.declared.filling.Filling.{Filling}
 use Rattle.sc_disk_cache.specs.declared.filling.Filling.TheVariants.{Filled, Refused as NotFilled}
 use Rattle.sc_disk_cache.specs.declared.reserving.Reservation.{Reservation}
 use Rattle.sc_disk_cache.specs.declared.reserving.Reservation.TheVariants.{Open, Refused as NotReserved}
 use Rattle.sc_model.specs.declared.event.Written.{Written}
 use Rattle.sc_model.specs.declared.event.Written.TheVariants.{Done, Refused}
-use Rattle.sc_model.specs.declared.level.Cause.{Cause}
 use Rattle.sc_model.specs.declared.level.Cause.TheVariants.{BadEntry, BadKey, FileTooLarge, Io, ReadOnly, RemoteFault, Reserved}
 use Rattle.sc_model.specs.declared.level.Policy.{Policy}
 use Rattle.sc_store.specs.Asking.{ReservesDisk}

@@ -2,8 +2,6 @@ mod Plans
 mod Tellings
 mod Devices
 pub mod PathMaps
-pub mod Spellings
-pub mod StoreKeys
 pub mod Askings
 pub mod Alone
 pub mod Behind

@@ -43,25 +43,6 @@ raw_answer (Found bytes) = Hit bytes false
 raw_answer NotFound = Miss
 raw_answer (ReadRefused fault) = Refused (RemoteRefused fault)
 
--- bytes that spell no entry are a refusal
-abbrev pub hit_of : Option (List ℕ) → Bool → Answer
-hit_of (Some bytes) mark = Hit bytes mark
-hit_of None mark = Refused BadEntry
-
--- the bytes, where they spell an entry
-abbrev pub if_spells : {A : Type 0} → Option A → List ℕ → Option (List ℕ)
-if_spells (Some os) bytes = Some bytes
-if_spells None bytes = None
-
-abbrev pub whole_answer : Answer → Answer
-whole_answer (Hit bytes mark) = hit_of (if_spells (objects bytes) bytes) mark
-whole_answer answer = answer
-
--- an entry, or the bytes as they are
-abbrev pub mode_answer : Mode → Answer → Answer
-mode_answer Whole answer = whole_answer answer
-mode_answer mode answer = answer
-
 -- what a remote store answers without a read: it keeps no preprocessor entries, and has neither paths nor a size
 abbrev pub fixed_answer : Mode → Answer
 fixed_answer Sizes = SizeIs None None

@@ -1,9 +1,8 @@
 -- Which levels a write goes to, as code tells it.
-use Rattle.std.specs.Prelude.{ℕ, Bool, List, map}
+use Rattle.std.specs.Prelude.{Bool, List, map}
 use Rattle.sc_model.specs.Plan.{is_background, is_required, takes_writes}
 use Rattle.sc_model.specs.declared.level.LevelFacts.{LevelFacts}
 use Rattle.sc_model.specs.declared.level.LevelPolicy.{LevelPolicy}
-use Rattle.sc_store.specs.Held.{HeldLevel}
 use Rattle.sc_store.specs.Levels.{held_level}
 use Rattle.sc_store.specs.declared.level.Level.{Level}
 use Rattle.sc_store.specs.declared.planning.Takes.{Takes}

@@ -10,7 +10,6 @@ mod path_map;
 mod planning;
 mod remote;
 mod remote_storage;
-mod store_key;
 mod telling;
 
 pub use disk_storage::DiskStorage;
@@ -20,7 +19,6 @@ pub use mem_remote::MemRemote;
 pub use remote::{Remote, RemoteRead, RemoteWrite};
 pub use remote_storage::RemoteStorage;
 pub use sc_disk_cache::{DiskCache, EntryError, Filling, Reservation};
-pub use store_key::normalize_key;
 
 #[cfg(test)]
 mod tests;

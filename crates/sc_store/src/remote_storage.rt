@@ -11,8 +11,9 @@ ghost use Rattle.sc_store.specs.Held.{held_remote, remote_facts, remote_level};
 ghost use Rattle.sc_store.specs.Telling.{kind_max};
 
 use crate::remote::{Remote, RemoteRead, RemoteWrite};
-use crate::store_key::{is_store_key, normalize_key};
-use sc_entry::{ByteText, CacheMode, CacheRead, NoMemory, ReadEntryError, Text};
+use sc_disk::{is_store_key, normalize_key};
+use sc_disk_cache::mode_answer;
+use sc_entry::{ByteText, CacheMode, NoMemory, Text};
 use sc_model::{Answer, Cause, LevelKind, Mode, Policy, Store, Written};
 use std::alloc::Global;
 use std::marker::Model;
@@ -42,50 +43,6 @@ fn raw_answer(found: RemoteRead) -> Answer
         RemoteRead::Found(bytes) => Answer::Hit(bytes, false),
         RemoteRead::NotFound => Answer::Miss,
         RemoteRead::Refused(fault) => Answer::Refused(Cause::RemoteFault(fault)),
-    }
-}
-
-/// The bytes again, where they spell an entry.
-fn if_spells(alloc: Global, bytes: ByteText) -> Result<Option<ByteText>, NoMemory>
-    ensures { IfOk result (λ whole. whole ≡ asking.if_spells (objects bytes) bytes) }
-{
-    match CacheRead::from(alloc, bytes) {
-        Ok(entry) => Ok(Some(entry.into_bytes())),
-        Err(ReadEntryError::BadEntry) => Ok(None),
-        Err(ReadEntryError::NoMemory) => Err(NoMemory),
-    }
-}
-
-/// A hit, or the refusal of bytes that spell no entry.
-fn hit_of(whole: Option<ByteText>, mark: bool) -> Answer
-    ensures { result ≡ asking.hit_of whole mark }
-{
-    match whole {
-        Some(bytes) => Answer::Hit(bytes, mark),
-        None => Answer::Refused(Cause::BadEntry),
-    }
-}
-
-/// What an answer of bytes as they are tells of an entry.
-fn whole_answer(alloc: Global, answer: Answer) -> Result<Answer, NoMemory>
-    ensures { IfOk result (λ whole. whole ≡ asking.whole_answer answer) }
-{
-    match answer {
-        Answer::Hit(bytes, mark) => {
-            let whole = if_spells(alloc, bytes)?;
-            Ok(hit_of(whole, mark))
-        }
-        other => Ok(other),
-    }
-}
-
-/// What bytes as they are tell of a lookup.
-fn mode_answer(alloc: Global, mode: Mode, raw: Answer) -> Result<Answer, NoMemory>
-    ensures { IfOk result (λ answer. answer ≡ asking.mode_answer mode raw) }
-{
-    match mode {
-        Mode::Whole => whole_answer(alloc, raw),
-        _ => Ok(raw),
     }
 }
 

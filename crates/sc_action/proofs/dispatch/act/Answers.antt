@@ -1,4 +1,4 @@
-use Rattle.std.proofs.Common.{◌≡◌, ◌∙◌, Option, None, sym, subst}
+use Rattle.std.proofs.Common.{◌∙◌, Option, None, sym, subst}
 use Rattle.sc_action.proofs.Holding.{plain_serves, still_hands}
 use Rattle.sc_action.proofs.Saying.{write_says}
 use Rattle.sc_action.specs.Hands.{hand_of}

@@ -1,4 +1,4 @@
-use Rattle.std.proofs.Common.{Result, ap}
+use Rattle.std.proofs.Common.{ap}
 use Rattle.sc_model.proofs.There.{put_there}
 use Rattle.sc_model.specs.declared.phase.Phase.TheVariants.{AtSend}
 use Rattle.sc_model.specs.declared.message.Response.TheVariants.{StoragePutRaw as PutReply}

@@ -1,9 +1,9 @@
-use Rattle.std.proofs.Common.{rules, ◌≡◌, ◌∷◌, None, sym, subst}
+use Rattle.std.proofs.Common.{None, sym, subst}
 use Rattle.sc_action.specs.declared.acted.Action.{Action}
 use Rattle.sc_job.specs.Setups.{setup}
 use Rattle.sc_model.specs.Machine.{need_at}
 use Rattle.sc_model.specs.declared.phase.Phase.TheVariants.{AtWrite}
-use Rattle.sc_action.proofs.Holding.{no_need, still_keeps, still_none}
+use Rattle.sc_action.proofs.Holding.{still_keeps, still_none}
 use Rattle.sc_action.proofs.Plains.{plain_still}
 use Rattle.sc_action.proofs.writing.act_next.Goals as goal
 

@@ -1,4 +1,4 @@
-use Rattle.std.proofs.Common.{◌≡◌, Option, Some, sym, subst}
+use Rattle.std.proofs.Common.{Option, sym, subst}
 use Rattle.sc_action.specs.Hands.{hand_of}
 use Rattle.sc_disk.specs.Store.{AddEntry}
 use Rattle.sc_hold.specs.Holding.{KeepsHands}

@@ -1,12 +1,12 @@
-use Rattle.std.proofs.Common.{◌≡◌, ◌++◌, map, true}
+use Rattle.std.proofs.Common.{◌≡◌, ◌++◌, length, map, true}
 use Rattle.std.specs.Vec.Iter.{into_iter_items}
-use Rattle.sc_memory.specs.Making.{held_first}
+use Rattle.sc_memory.specs.Making.{held_first, held_from}
 use Rattle.sc_script.specs.Goods.{are_good_levels}
 use Rattle.sc_store.specs.Levels.{held_level}
 use Rattle.sc_memory.proofs.making.levels_of.Given as goal
 
 abbrev pub invariant-loop-rule : goal.invariant-loop-rule
 invariant-loop-rule l = record {
-  same : map held_level l.levels.items ++ held_first (into_iter_items l.rule-iterator) ≡ held_first l.fn.rules;
+  same : map held_level l.levels.items ++ held_from (length l.levels.items) (into_iter_items l.rule-iterator) ≡ held_first l.fn.rules;
   good : are_good_levels (into_iter_items l.rule-iterator) ≡ true;
 }

@@ -1,6 +1,5 @@
 use Rattle.std.proofs.Common.{◌≡◌, List, true, sym, ap, ◌∙◌, subst}
-use Rattle.sc_memory.proofs.Firsts.{firsts_free, firsts_remote, firsts_tell, good_levels}
-use Rattle.sc_memory.specs.Making.{AreRemote}
+use Rattle.sc_memory.proofs.Firsts.{firsts_free, firsts_tell, good_levels}
 use Rattle.sc_owned.specs.State.{is_good}
 use Rattle.sc_store.specs.Held.{Held, HeldLevel, Room, held_of, room_in}
 use Rattle.sc_memory.proofs.making.make.Goals as goal
@@ -16,12 +15,6 @@ returns-clause-told c =
     let s = c.args.script in
     let same = c.new-levels.ensures ∙ ap (λ (ls : List HeldLevel). held_of ls s.policy) c.in_ok-levels.ensures in
     c.new-owned.ensures.told ∙ ap (λ (h : Held). h.told) same ∙ firsts_tell s.levels
-
-pub returns-clause-remote : goal.returns-clause-remote
-returns-clause-remote c =
-    let s = c.args.script in
-    let same = c.new-levels.ensures ∙ ap (λ (ls : List HeldLevel). held_of ls s.policy) c.in_ok-levels.ensures in
-    subst AreRemote (sym (c.new-owned.ensures.levels ∙ ap (λ (h : Held). h.facts) same)) (firsts_remote s.levels)
 
 pub returns-clause-unreserved : goal.returns-clause-unreserved
 returns-clause-unreserved c l =

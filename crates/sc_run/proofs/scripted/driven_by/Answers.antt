@@ -2,7 +2,7 @@ use Rattle.std.proofs.Common.{sym, ap, ◌∙◌, subst}
 use Rattle.sc_owned.specs.State.{State}
 use Rattle.sc_daemon.specs.Daemons.{IsIdleDaemon, Kept, new_daemon}
 use Rattle.sc_daemon.proofs.Beginning.{new_idle}
-use Rattle.sc_memory.specs.Making.{AreLines, AreRemote}
+use Rattle.sc_memory.specs.Making.{AreLines}
 use Rattle.sc_run.specs.Scripted.{Begins}
 use Rattle.sc_run.proofs.Reporting.{if_ok, reports}
 use Rattle.sc_run.proofs.scripted.driven_by.Goals as goal
@@ -14,7 +14,6 @@ pub reported-text-requires : goal.reported-text-requires
 reported-text-requires c = record {
   idle = subst IsIdleDaemon (sym c.in_ok-daemon.ensures) (new_idle c.in_ok-made.made.owned c.in_ok-made.ensures.unreserved);
   told = ap (λ (d : Kept). d.state.told) c.in_ok-daemon.ensures ∙ c.in_ok-made.ensures.told;
-  remote = subst (λ (d : Kept). AreRemote d.state.config.levels) (sym c.in_ok-daemon.ensures) c.in_ok-made.ensures.remote;
 }
 
 pub returns : goal.returns

@@ -1,4 +1,4 @@
-use Rattle.std.proofs.Common.{◌≡◌, ℕ, ◌<◌, Some, List, length, subst, sym, refl, ap, ◌∙◌, set}
+use Rattle.std.proofs.Common.{◌≡◌, ◌<◌, Some, List, length, subst, sym, refl, set}
 use Rattle.sc_daemon.proofs.Handing.{at_place, went}
 use Rattle.sc_daemon.proofs.Leaving.{pending_at_place}
 use Rattle.sc_daemon.specs.Backlogs.{Write, write_at, with_write}

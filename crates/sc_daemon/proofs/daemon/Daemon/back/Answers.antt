@@ -1,4 +1,4 @@
-use Rattle.std.proofs.Common.{ap, sym, subst, ◌∙◌}
+use Rattle.std.proofs.Common.{sym, subst, ◌∙◌}
 use Rattle.sc_daemon.proofs.Backing.{backs_event}
 use Rattle.sc_daemon.proofs.Handing.{place_within}
 use Rattle.sc_daemon.specs.Backlogs.{ArePending}

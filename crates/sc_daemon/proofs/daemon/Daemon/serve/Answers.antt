@@ -4,7 +4,7 @@ use Rattle.sc_daemon.specs.Daemons.{Kept, ServesEvent}
 use Rattle.sc_daemon.specs.Lines.{conn_of}
 use Rattle.sc_daemon.specs.Standings.{Rests}
 use Rattle.sc_daemon.specs.Turns.{CountsLine, MovesHold, SaysLine, ServesLine}
-use Rattle.sc_daemon.proofs.Counted.{free_most, if_any, if_both_on, serves_event}
+use Rattle.sc_daemon.proofs.Counted.{free_most, if_both_on, serves_event}
 use Rattle.sc_job.specs.Setups.{setup}
 use Rattle.sc_model.specs.Machine.{current, need_at}
 use Rattle.sc_model.specs.declared.event.Event.{Event}
