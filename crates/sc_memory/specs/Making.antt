@@ -17,7 +17,7 @@ use Rattle.sc_pair.specs.Twos.{joined_state, joins}
 use Rattle.sc_script.specs.declared.level_rule.LevelRule.{LevelRule}
 use Rattle.sc_script.specs.declared.run_rule.RunRule.{RunRule}
 use Rattle.sc_script.specs.declared.script.Script.{Script}
-use Rattle.sc_store.specs.Held.{Held, HeldLevel, held_of, held_remote, memory_names, of_disk}
+use Rattle.sc_store.specs.Held.{Held, HeldLevel, as_configured, held_of, held_remote, memory_names, nothing_given, of_disk}
 use Rattle.sc_store.specs.Paths.{put_all}
 
 -- what is held under keys, at the paths of the keys
@@ -48,8 +48,8 @@ first_disk root holds = record { told = Some (record { outside = outside_of []; 
 
 -- The level of this number, as a script says it. A disk level isn't opened, and holds no preprocessor entry.
 abbrev pub held_as : LevelKind → ℕ → LevelRule → HeldLevel
-held_as Disk level rule = of_disk (unopened_store rule.mode rule.capacity (joined_state (joins (first_disk (main_root level) rule.holds) (first_disk (pre_root level) []))))
-held_as Remote level rule = held_remote memory_names rule.mode (Some (first_files rule.holds)) 0 0 (Some (calls_failing rule.fails))
+held_as Disk level rule = of_disk nothing_given (unopened_store rule.mode rule.capacity (joined_state (joins (first_disk (main_root level) rule.holds) (first_disk (pre_root level) []))))
+held_as Remote level rule = held_remote memory_names nothing_given (as_configured rule.mode) (Some (first_files rule.holds)) 0 0 (Some (calls_failing rule.fails))
 
 abbrev pub first_held : ℕ → LevelRule → HeldLevel
 first_held level rule = held_as rule.kind level rule

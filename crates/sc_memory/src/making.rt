@@ -70,7 +70,7 @@ fn remote_level(alloc: Global, rule: LevelRule) -> Result<Level<MemRemote, MemDi
     ensures { IfOk result (λ level. held_level level ≡ held_as kinds.Remote 0 rule) }
 {
     let remote = device(alloc, rule.holds, rule.fails)?;
-    let store = RemoteStorage::new(remote, rule.mode);
+    let store = RemoteStorage::new(remote, Items::new(alloc), rule.mode);
     Ok(Level::Remote(store))
 }
 
@@ -127,7 +127,7 @@ fn disk_level(
     let root = pre_root(alloc, level)?;
     let pre = disk(alloc, root, &[], Calls::new(alloc))?;
     let cache = DiskCache::new(alloc, main, pre, rule.capacity, rule.mode);
-    Ok(Level::Disk(DiskStorage::new(cache)))
+    Ok(Level::Disk(DiskStorage::new(cache, false, Items::new(alloc))))
 }
 
 /// The level of this number.

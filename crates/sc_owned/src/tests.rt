@@ -97,7 +97,7 @@ fn owned(alloc: Global, fails: u64) -> Result<Owned<Memory>, Fail> {
     let mut failing = Items::new(alloc);
     failing.push(fails)?;
     let remote = MemRemote::new(alloc, Items::new(alloc), failing)?;
-    let store = RemoteStorage::new(remote, CacheMode::ReadWrite);
+    let store = RemoteStorage::new(remote, Items::new(alloc), CacheMode::ReadWrite);
     let levels = Levels::new(vec![in alloc; Level::Remote(store)]?, Policy::Single);
     Ok(Owned::new(levels, shop(alloc)?, tools(alloc)?, 1, 64))
 }

@@ -14,7 +14,7 @@ use Rattle.sc_disk_cache.specs.DiskStores.{DiskStore}
 use Rattle.sc_disk_cache.specs.Moving.{ReserveCause}
 use Rattle.sc_disk_cache.specs.declared.reserving.Reservation.{Reservation}
 use Rattle.sc_store.specs.Asking.{AloneAt, AsksAt, AsksLevel, CauseBy, PutCause, PutsAt, PutsLevel, has_mode}
-use Rattle.sc_store.specs.Held.{AreWithin, Held, HeldLevel, IsWithin, Room, all_tell, disk_in, disk_of, held_of, level_in, no_room, room_in}
+use Rattle.sc_store.specs.Held.{AreWithin, Held, HeldLevel, IsWithin, Room, all_tell, disk_in, disk_of, held_of, level_in, no_room, no_title, room_in, title_in}
 
 -- what a move of one level leaves
 pub record Alone (old new : Held) (l : ℕ) (before after : HeldLevel) : Type 0 where
@@ -26,24 +26,25 @@ pub record Alone (old new : Held) (l : ℕ) (before after : HeldLevel) : Type 0 
   pub rooms : new.rooms ≡ slice_set old.rooms l after.room
   pub room_was : room_in old.rooms l ≡ before.room
   pub room_is : room_in new.rooms l ≡ after.room
+  pub title_was : title_in old.titles l ≡ before.title
   pub facts_were : level_facts old.facts l ≡ before.facts
   pub was : level_in old.levels l ≡ before.level
   pub is : level_in new.levels l ≡ after.level
   pub tells : old.told ≡ true → before.told ≡ true
 
 -- a part that did not change is as it was in the whole list
-stays : {S A : Type 0} (part : S → A) (stores : List S) (l : ℕ) (store later : S) → l < length stores → store ≡ slice_index_or stores l store → part later ≡ part store
+pub stays : {S A : Type 0} (part : S → A) (stores : List S) (l : ℕ) (store later : S) → l < length stores → store ≡ slice_index_or stores l store → part later ≡ part store
     → map part (slice_set stores l later) ≡ map part stores
 stays part [] l store later within is same = absurd (omega arith)
 stays part (s ∷ ss) zero store later within is same = ap (λ x. x ∷ map part ss) (same ∙ ap part is)
 stays part (s ∷ ss) (suc l) store later within is same = ap (λ xs. part s ∷ xs) (stays part ss l store later (omega arith) is same)
 
-part_at : {S A : Type 0} (part : S → A) (stores : List S) (l : ℕ) (store : S) (other : A) → l < length stores → store ≡ slice_index_or stores l store → slice_index_or (map part stores) l other ≡ part store
+pub part_at : {S A : Type 0} (part : S → A) (stores : List S) (l : ℕ) (store : S) (other : A) → l < length stores → store ≡ slice_index_or stores l store → slice_index_or (map part stores) l other ≡ part store
 part_at part [] l store other within is = absurd (omega arith)
 part_at part (s ∷ ss) zero store other within is = ap part (sym is)
 part_at part (s ∷ ss) (suc l) store other within is = part_at part ss l store other (omega arith) is
 
-new_at : {S A : Type 0} (part : S → A) (stores : List S) (l : ℕ) (later : S) (other : A) → l < length stores → slice_index_or (map part (slice_set stores l later)) l other ≡ part later
+pub new_at : {S A : Type 0} (part : S → A) (stores : List S) (l : ℕ) (later : S) (other : A) → l < length stores → slice_index_or (map part (slice_set stores l later)) l other ≡ part later
 new_at part [] l later other within = absurd (omega arith)
 new_at part (s ∷ ss) zero later other within = refl
 new_at part (s ∷ ss) (suc l) later other within = new_at part ss l later other (omega arith)
@@ -53,18 +54,18 @@ both true b h = (refl, h)
 both false b h = absurd (cc)
 
 module _ {S : Type 0} (seen : S → HeldLevel) where
-  tell_stays : (stores : List S) (l : ℕ) (store later : S) → l < length stores → store ≡ slice_index_or stores l store → (seen later).told ≡ (seen store).told
+  pub tell_stays : (stores : List S) (l : ℕ) (store later : S) → l < length stores → store ≡ slice_index_or stores l store → (seen later).told ≡ (seen store).told
       → all_tell (map seen (slice_set stores l later)) ≡ all_tell (map seen stores)
   tell_stays [] l store later within is same = absurd (omega arith)
   tell_stays (s ∷ ss) zero store later within is same = ap (λ t. t && all_tell (map seen ss)) (same ∙ ap (λ x. (seen x).told) is)
   tell_stays (s ∷ ss) (suc l) store later within is same = ap (λ t. (seen s).told && t) (tell_stays ss l store later (omega arith) is same)
 
-  one_tells : (stores : List S) (l : ℕ) (store : S) → l < length stores → store ≡ slice_index_or stores l store → all_tell (map seen stores) ≡ true → (seen store).told ≡ true
+  pub one_tells : (stores : List S) (l : ℕ) (store : S) → l < length stores → store ≡ slice_index_or stores l store → all_tell (map seen stores) ≡ true → (seen store).told ≡ true
   one_tells [] l store within is told = absurd (omega arith)
   one_tells (s ∷ ss) zero store within is told = ap (λ x. (seen x).told) is ∙ (both ((seen s).told) (all_tell (map seen ss)) told).0
   one_tells (s ∷ ss) (suc l) store within is told = one_tells ss l store (omega arith) is (both ((seen s).told) (all_tell (map seen ss)) told).1
 
-  maps : {A : Type 0} (part : HeldLevel → A) (stores : List S) → map part (map seen stores) ≡ map (λ s. part (seen s)) stores
+  pub maps : {A : Type 0} (part : HeldLevel → A) (stores : List S) → map part (map seen stores) ≡ map (λ s. part (seen s)) stores
   maps part [] = refl
   maps part (s ∷ ss) = ap (λ xs. part (seen s) ∷ xs) (maps part ss)
 
@@ -81,6 +82,7 @@ module _ {S : Type 0} (seen : S → HeldLevel) where
         rooms = maps (λ x. x.room) new ∙ map-set (λ s. (seen s).room) stores l later ∙ ap (λ xs. slice_set xs l (seen later).room) (sym (maps (λ x. x.room) stores));
         room_was = ap (λ xs. slice_index_or xs l no_room) (maps (λ x. x.room) stores) ∙ part_at (λ s. (seen s).room) stores l store no_room within is;
         room_is = ap (λ xs. slice_index_or xs l no_room) (maps (λ x. x.room) new) ∙ new_at (λ s. (seen s).room) stores l later no_room within;
+        title_was = ap (λ xs. slice_index_or xs l no_title) (maps (λ x. x.title) stores) ∙ part_at (λ s. (seen s).title) stores l store no_title within is;
         facts_were = ap (λ xs. slice_index_or xs l no_level) (maps (λ x. x.facts) stores) ∙ part_at (λ s. (seen s).facts) stores l store no_level within is;
         was = ap (λ xs. slice_index_or xs l no_level_held) (maps (λ x. x.level) stores) ∙ part_at (λ s. (seen s).level) stores l store no_level_held within is;
         is = ap (λ xs. slice_index_or xs l no_level_held) (maps (λ x. x.level) new) ∙ new_at (λ s. (seen s).level) stores l later no_level_held within;

@@ -1,9 +1,9 @@
 -- Calls of a disk level, as a level of levels that all tell.
-use Rattle.std.proofs.Common.{◌≡◌, ℕ, Bool, true, List, Result, Ok, Err, IfErr, OnErr, ap}
+use Rattle.std.proofs.Common.{◌≡◌, ℕ, Bool, true, List, Result, Ok, Err, IfErr, OnErr}
 use Rattle.sc_disk.specs.Store.{AddEntry}
 use Rattle.sc_disk_cache.specs.DiskStores.{DiskStore}
 use Rattle.sc_disk_cache.specs.Entries.{ClosesEntry, CommitCause, CommitsEntry, CommitsNothing, FillsBy}
-use Rattle.sc_disk_cache.specs.Moving.{EvictsFor, OpensBy, SameEntries, Stays, Steady}
+use Rattle.sc_disk_cache.specs.Moving.{EvictsFor, OpensBy, SameEntries}
 use Rattle.sc_disk_cache.specs.declared.filling.Filling.{Filling}
 use Rattle.sc_disk_cache.specs.declared.filling.Filling.TheVariants.{Filled, Refused as NotFilled}
 use Rattle.sc_disk_cache.specs.declared.reserving.Reservation.{Reservation}
@@ -13,18 +13,7 @@ use Rattle.sc_model.specs.declared.event.Written.TheVariants.{Done, Refused}
 use Rattle.sc_model.specs.declared.level.Cause.TheVariants.{BadEntry, BadKey, FileTooLarge, Io, ReadOnly, RemoteFault, Reserved}
 use Rattle.sc_model.specs.declared.level.Policy.{Policy}
 use Rattle.sc_store.specs.Asking.{ReservesDisk}
-use Rattle.sc_store.specs.Held.{disk_title, of_disk}
 use Rattle.sc_store.proofs.Alone.{telling}
-
--- a call that changes nothing that is open
-pub steady_title : (old new : DiskStore) → Steady old new → (of_disk new).title ≡ (of_disk old).title
-steady_title old new s = ap (λ f. disk_title f.root) s.facts
-
-pub steady_room : (old new : DiskStore) → Steady old new → (of_disk new).room ≡ (of_disk old).room
-steady_room old new s = λ i. record { reserved = s.reserved i; entries = s.entries i }
-
-pub stays_title : (old new : DiskStore) → Stays old new → (of_disk new).title ≡ (of_disk old).title
-stays_title old new s = ap (λ f. disk_title f.root) s.facts
 
 module _ (t u : Bool) (old new : DiskStore) (tells : t ≡ true → old.told ≡ true) where
   pub reserves_telling : (p : Policy) (k : List ℕ) (size : ℕ) (how : Reservation) → ReservesDisk p k size how old new → ReservesDisk p k size how (telling t old) (telling u new)

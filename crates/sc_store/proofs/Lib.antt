@@ -6,3 +6,5 @@ pub mod Askings
 pub mod Alone
 pub mod Behind
 pub mod Disks
+pub mod Checks
+pub mod Checking

@@ -22,21 +22,47 @@ pub record Names : Type 0 where
   pub name : List ℕ
   pub root : List ℕ
 
--- How a store is told of: what type it has, and where it is.
+-- What a store was made with, besides its modes: the base directories that paths are stripped of, in order, whether it is
+-- to keep entries of the preprocessor, and whether a check of it is left out.
+pub record Given : Type 0 where
+  pub basedirs : List (List ℕ)
+  pub flag : Bool
+  pub unchecked : Bool
+
+abbrev pub nothing_given : Given
+nothing_given = record { basedirs = []; flag = false; unchecked = false }
+
+-- a remote store keeps no entries of the preprocessor
+abbrev pub remote_given : List (List ℕ) → Bool → Given
+remote_given basedirs unchecked = record { basedirs = basedirs; flag = false; unchecked = unchecked }
+
+-- the check of a disk store makes no call
+abbrev pub disk_given : List (List ℕ) → Bool → Given
+disk_given basedirs flag = record { basedirs = basedirs; flag = flag; unchecked = false }
+
+-- How a store is told of: what type it has, where it is, and what it was made with. No call changes that.
 pub record Title : Type 0 where
   pub type_name : List ℕ
   pub location : List ℕ
+  pub given : Given
 
-abbrev pub remote_title : Names → Title
-remote_title names = record { type_name = names.scheme; location = names.scheme ++ codes ", name: " ++ names.name ++ codes ", prefix: " ++ names.root }
+abbrev pub remote_title : Names → Given → Title
+remote_title names given = record { type_name = names.scheme; location = names.scheme ++ codes ", name: " ++ names.name ++ codes ", prefix: " ++ names.root; given = given }
 
 -- a store in memory
 abbrev pub memory_names : Names
 memory_names = record { scheme = codes "memory"; name = codes "m"; root = codes "/" }
 
 -- a disk store
-abbrev pub disk_title : List ℕ → Title
-disk_title root = record { type_name = codes "disk"; location = codes "Local disk: \"" ++ utf8_lossy root ++ codes "\"" }
+abbrev pub disk_title : List ℕ → Given → Title
+disk_title root given = record { type_name = codes "disk"; location = codes "Local disk: \"" ++ utf8_lossy root ++ codes "\""; given = given }
+
+-- beyond the last level
+abbrev pub no_title : Title
+no_title = record { type_name = []; location = []; given = nothing_given }
+
+abbrev pub title_in : List Title → ℕ → Title
+title_in titles l = slice_index_or titles l no_title
 
 -- What is open at a level: the bytes that its open entries have declared, and these by their numbers. A remote level has none.
 pub record Room : Type 0 where
@@ -68,19 +94,31 @@ abbrev pub told_files : Option Files → Files
 told_files None = no_files
 told_files (Some files) = files
 
--- a remote store has no size, no root, and one mode: the configured one
-abbrev pub remote_facts : CacheMode → LevelFacts
-remote_facts mode = record { kind = Remote; wrapped = false; configured = mode; mode = mode; capacity = 0; root = [] }
+-- The mode that a store was made with, and the one that holds.
+pub record Modes : Type 0 where
+  pub configured : CacheMode
+  pub mode : CacheMode
+
+abbrev pub modes_of : CacheMode → CacheMode → Modes
+modes_of configured mode = record { configured = configured; mode = mode }
+
+-- until a check finds another
+abbrev pub as_configured : CacheMode → Modes
+as_configured mode = modes_of mode mode
+
+-- a remote store has neither a size nor a root
+abbrev pub remote_facts : Modes → LevelFacts
+remote_facts modes = record { kind = Remote; wrapped = false; configured = modes.configured; mode = modes.mode; capacity = 0; root = [] }
 
 abbrev pub remote_level : Option Files → ℕ → ℕ → Option Calls → Level
 remote_level held faults losses calls = record { faults = faults; losses = losses; calls = calls; opened = false; main = told_files held; pre = no_files }
 
-abbrev pub held_remote : Names → CacheMode → Option Files → ℕ → ℕ → Option Calls → HeldLevel
-held_remote names mode held faults losses calls = record { title = remote_title names; facts = remote_facts mode; told = is_some held; level = remote_level held faults losses calls; room = no_room }
+abbrev pub held_remote : Names → Given → Modes → Option Files → ℕ → ℕ → Option Calls → HeldLevel
+held_remote names given modes held faults losses calls = record { title = remote_title names given; facts = remote_facts modes; told = is_some held; level = remote_level held faults losses calls; room = no_room }
 
 -- a disk store as a level
-abbrev pub of_disk : DiskStore → HeldLevel
-of_disk s = record { title = disk_title s.facts.root; facts = s.facts; told = s.told; level = s.level; room = record { reserved = s.reserved; entries = s.entries } }
+abbrev pub of_disk : Given → DiskStore → HeldLevel
+of_disk given s = record { title = disk_title s.facts.root given; facts = s.facts; told = s.told; level = s.level; room = record { reserved = s.reserved; entries = s.entries } }
 
 abbrev pub all_tell : List HeldLevel → Bool
 all_tell [] = true
@@ -131,10 +169,18 @@ level_code = code_by (ℕ × (ℕ × (Option Calls × (Bool × (Files × Files))
     (λ p. record { faults = p.0; losses = p.1.0; calls = p.1.1.0; opened = p.1.1.1.0; main = p.1.1.1.1.0; pre = p.1.1.1.1.1 })
     (λ _. refl)
 
+abbrev pub given_code : Coded Given
+given_code = code_by (List (List ℕ) × (Bool × Bool))
+    (coded× (coded_list (coded_list coded_ℕ)) (coded× coded_bool coded_bool))
+    (λ g. (g.basedirs, (g.flag, g.unchecked)))
+    (λ p. record { basedirs = p.0; flag = p.1.0; unchecked = p.1.1 })
+    (λ _. refl)
+
 abbrev pub title_code : Coded Title
-title_code = code_by (List ℕ × List ℕ) (coded× (coded_list coded_ℕ) (coded_list coded_ℕ))
-    (λ t. (t.type_name, t.location))
-    (λ p. record { type_name = p.0; location = p.1 })
+title_code = code_by (List ℕ × (List ℕ × Given))
+    (coded× (coded_list coded_ℕ) (coded× (coded_list coded_ℕ) given_code))
+    (λ t. (t.type_name, (t.location, t.given)))
+    (λ p. record { type_name = p.0; location = p.1.0; given = p.1.1 })
     (λ _. refl)
 
 abbrev pub entry_code : Coded OpenEntry
@@ -163,11 +209,4 @@ held_code = code_by (List Title × (List LevelFacts × (Policy × (Bool × (List
     (coded× (coded_list title_code) (coded× (coded_list facts_type.the_row.coded) (coded× policy_type.the_row.coded (coded× coded_bool (coded× (coded_list level_code) (coded_list room_code))))))
     (λ h. (h.titles, (h.facts, (h.policy, (h.told, (h.levels, h.rooms))))))
     (λ p. record { titles = p.0; facts = p.1.0; policy = p.1.1.0; told = p.1.1.1.0; levels = p.1.1.1.1.0; rooms = p.1.1.1.1.1 })
-    (λ _. refl)
-
-abbrev pub disk_code : Coded DiskStore
-disk_code = code_by (LevelFacts × (Bool × (Level × (ℕ × List (Option OpenEntry)))))
-    (coded× facts_type.the_row.coded (coded× coded_bool (coded× level_code (coded× coded_ℕ (coded_list (coded_option entry_code))))))
-    (λ s. (s.facts, (s.told, (s.level, (s.reserved, s.entries)))))
-    (λ p. record { facts = p.0; told = p.1.0; level = p.1.1.0; reserved = p.1.1.1.0; entries = p.1.1.1.1 })
     (λ _. refl)

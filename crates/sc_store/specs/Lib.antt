@@ -6,3 +6,4 @@ pub mod Remotes
 pub mod Telling
 pub mod Levels
 pub mod Planning
+pub mod Checking

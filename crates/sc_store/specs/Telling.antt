@@ -74,7 +74,7 @@ abbrev pub new_counters : ℕ → List Title → List LevelStats
 new_counters n [] = []
 new_counters n (t ∷ ts) = record no_level_stats { name = level_name n t.type_name; location = t.location } ∷ new_counters (suc n) ts
 
--- What a remote store tells to statistics: where it is. It has no size, no levels and no base directories, and uses no
+-- What a remote store tells to statistics: where it is, and its base directories. It has no size and no levels, and uses no
 -- entries of the preprocessor.
 abbrev pub remote_told : HeldLevel → Facts
-remote_told l = record { location = l.title.location; current_size = None; max_size = None; levels = None; use_preprocessor_cache_mode = false; basedirs = [] }
+remote_told l = record { location = l.title.location; current_size = None; max_size = None; levels = None; use_preprocessor_cache_mode = false; basedirs = l.title.given.basedirs }

@@ -11,11 +11,11 @@ ghost use Rattle.sc_model.specs.declared.event.Mode.TheVariants.{Path};
 ghost use Rattle.sc_model.specs.declared.level.Cause.{Cause};
 ghost use Rattle.sc_model.specs.declared.level.LevelKind.TheVariants.{Disk as IsDisk};
 ghost use Rattle.sc_store.specs.Asking.{ReservesDisk, reads_key};
-ghost use Rattle.sc_store.specs.Held.{disk_title};
+ghost use Rattle.sc_store.specs.Held.{disk_given, disk_of, disk_title, nothing_given, of_disk};
 
 use sc_disk::{Disk, LruDiskCacheAddEntry};
 use sc_disk_cache::{DiskCache, EntryError, Filling, Reservation};
-use sc_entry::{ByteText, CacheMode, NoMemory, Text};
+use sc_entry::{ByteText, CacheMode, Items, NoMemory, Text};
 use sc_model::{Answer, Mode, Policy, Written};
 use std::alloc::Global;
 use std::marker::Model;
@@ -24,22 +24,24 @@ use std::marker::Model;
 #[derive(Drop)]
 pub struct DiskStorage<D: Disk> {
     cache: DiskCache<D>,
+    use_preprocessor_cache_mode: bool,
+    basedirs: Items<ByteText>,
 }
 
 impl<D: Disk> Model for DiskStorage<D> {
-    ghost use Rattle.sc_disk_cache.specs.DiskStores.{DiskStore, held_disk};
-    ghost use Rattle.sc_store.specs.Held.{disk_code};
+    ghost use Rattle.sc_disk_cache.specs.DiskStores.{held_disk};
+    ghost use Rattle.sc_store.specs.Held.{HeldLevel, disk_given, held_level_code, of_disk};
 
-    ghost Value = { DiskStore };
+    ghost Value = { HeldLevel };
 
-    ghost coded = { disk_code };
+    ghost coded = { held_level_code };
 
-    ghost view = { λ s. held_disk s.cache };
+    ghost view = { λ s. of_disk (disk_given s.basedirs s.use_preprocessor_cache_mode) (held_disk s.cache) };
 }
 
 /// Where a disk store is, in words.
 fn location(alloc: Global, path: &ByteText) -> Result<Text, NoMemory>
-    ensures { IfOk result (λ text. text ≡ (disk_title path.now).location) }
+    ensures { IfOk result (λ text. text ≡ (disk_title path.now nothing_given).location) }
 {
     let mut text = String::from_str(alloc, "Local disk: \"")?;
     let path = String::from_utf8_lossy(alloc, path.as_slice())?;
@@ -49,21 +51,53 @@ fn location(alloc: Global, path: &ByteText) -> Result<Text, NoMemory>
 }
 
 impl<D: Disk> DiskStorage<D> {
-    pub fn new(cache: DiskCache<D>) -> DiskStorage<D>
-        ensures { result ≡ held_disk cache }
+    /// A disk store as a level's, with the flag that says whether it is to keep entries of the preprocessor, and these base
+    /// directories.
+    pub fn new(
+        cache: DiskCache<D>,
+        use_preprocessor_cache_mode: bool,
+        basedirs: Items<ByteText>,
+    ) -> DiskStorage<D>
+        ensures { result ≡ of_disk (disk_given basedirs use_preprocessor_cache_mode) (held_disk cache) }
     {
-        DiskStorage { cache }
+        DiskStorage {
+            cache,
+            use_preprocessor_cache_mode,
+            basedirs,
+        }
     }
 
     pub fn cache(&self) -> &DiskCache<D>
-        ensures { held_disk result.now ≡ self.now }
+        ensures { held_disk result.now ≡ disk_of self.now }
     {
         &self.cache
     }
 
+    /// The base directories that it was given, in order.
+    pub fn basedirs(&self) -> &[ByteText]
+        ensures { result.now ≡ self.now.title.given.basedirs }
+    {
+        self.basedirs.as_slice()
+    }
+
+    /// Whether it is to keep entries of the preprocessor.
+    pub fn use_preprocessor_cache_mode(&self) -> bool
+        ensures { result ≡ self.now.title.given.flag }
+    {
+        self.use_preprocessor_cache_mode
+    }
+
+    /// What type of store it is, in a word.
+    pub fn cache_type_name(&self) -> &str
+        ensures { result.now ≡ self.now.title.type_name }
+    {
+        let _title = &self.basedirs;
+        "disk"
+    }
+
     /// Where the store is, in words.
     pub fn location(&self, alloc: Global) -> Result<Text, NoMemory>
-        ensures { IfOk result (λ text. text ≡ (disk_title self.now.facts.root).location) }
+        ensures { IfOk result (λ text. text ≡ self.now.title.location) }
     {
         let text = location(alloc, self.cache.path())?;
         Ok(text)
@@ -92,7 +126,7 @@ impl<D: Disk> DiskStorage<D> {
 
     /// The bytes that open entries have declared.
     pub fn reserved(&self) -> u64
-        ensures { result ≡ self.now.reserved }
+        ensures { result ≡ self.now.room.reserved }
     {
         self.cache.reserved()
     }
@@ -100,7 +134,7 @@ impl<D: Disk> DiskStorage<D> {
     /// What every disk store keeps: its files and reservations take at most its capacity.
     pub fn keeps(&self)
         ensures kind { self.now.facts.kind ≡ IsDisk }
-        ensures within { part_size self.now.level + self.now.reserved ≤ self.now.facts.capacity }
+        ensures within { part_size self.now.level + self.now.room.reserved ≤ self.now.facts.capacity }
     {
         self.cache.keeps();
     }
@@ -110,8 +144,9 @@ impl<D: Disk + Drop> DiskStorage<D> {
     /// Looks a key up, or tells the store's size.
     pub(crate) fn ask(&mut self, key: &Text, mode: Mode, now: u64) -> Result<Answer, NoMemory>
         requires { mode ≢ Path }
-        ensures steady { Steady self.old self.new }
-        ensures asked { IfOk result (λ answer. AsksDisk key.now mode answer self.old self.new) }
+        ensures title { self.new.title ≡ self.old.title }
+        ensures steady { Steady (disk_of self.old) (disk_of self.new) }
+        ensures asked { IfOk result (λ answer. AsksDisk key.now mode answer (disk_of self.old) (disk_of self.new)) }
         ensures cause { IfOk result (λ answer. AskCause mode answer key.now self.old.level self.new.level) }
         ensures bad_key { reads_key mode ≡ true → is_key key.now ≡ false → (result ≡ Ok (Answer.Refused Cause.BadKey)) × (self.new ≡ self.old) }
     {
@@ -126,12 +161,13 @@ impl<D: Disk + Drop> DiskStorage<D> {
         size: u64,
         now: u64,
     ) -> Result<Reservation, NoMemory>
-        ensures stays { Stays self.old self.new }
-        ensures moved { IfOk result (λ how. ReservesDisk policy.now key.now size how self.old self.new) }
-        ensures entry { IfOk result (λ how. OpensBy (entry_path key.now) size how self.old self.new) }
-        ensures kept { OnErr result (SameEntries self.old self.new) }
-        ensures evicts { OnErr result (EvictsFor size self.old self.new) }
-        ensures cause { IfOk result (λ how. ReserveCause (causes policy.now self.old.facts self.old.reserved key.now size) how self.old.level self.new.level) }
+        ensures title { self.new.title ≡ self.old.title }
+        ensures stays { Stays (disk_of self.old) (disk_of self.new) }
+        ensures moved { IfOk result (λ how. ReservesDisk policy.now key.now size how (disk_of self.old) (disk_of self.new)) }
+        ensures entry { IfOk result (λ how. OpensBy (entry_path key.now) size how (disk_of self.old) (disk_of self.new)) }
+        ensures kept { OnErr result (SameEntries (disk_of self.old) (disk_of self.new)) }
+        ensures evicts { OnErr result (EvictsFor size (disk_of self.old) (disk_of self.new)) }
+        ensures cause { IfOk result (λ how. ReserveCause (causes policy.now self.old.facts self.old.room.reserved key.now size) how self.old.level self.new.level) }
         ensures early { (c : Cause) → early policy.now self.old.facts key.now ≡ Some c → (result ≡ Ok (IsNotReserved c)) × (self.new ≡ self.old) }
     {
         self.cache.reserve(policy, key, size, now)
@@ -143,12 +179,13 @@ impl<D: Disk + Drop> DiskStorage<D> {
         entry: LruDiskCacheAddEntry,
         bytes: &[u8],
     ) -> Result<Filling, EntryError>
-        ensures stays { Stays self.old self.new }
-        ensures filled { IfOk result (λ how. IsOpenAt entry self.old × FillsBy entry bytes.now how self.old self.new) }
-        ensures closed { OnErr result (IsOpenAt entry self.old → ClosesEntry entry.number self.old self.new) }
+        ensures title { self.new.title ≡ self.old.title }
+        ensures stays { Stays (disk_of self.old) (disk_of self.new) }
+        ensures filled { IfOk result (λ how. IsOpenAt entry (disk_of self.old) × FillsBy entry bytes.now how (disk_of self.old) (disk_of self.new)) }
+        ensures closed { OnErr result (IsOpenAt entry (disk_of self.old) → ClosesEntry entry.number (disk_of self.old) (disk_of self.new)) }
         ensures kept { OnErr result (same_maps self.old.level self.new.level) }
-        ensures not_open { IfErr result (λ refused. refused ≡ IsNotOpen → (IsOpenAt entry self.old → ⊥) × (self.new ≡ self.old)) }
-        ensures shut { (IsOpenAt entry self.old → ⊥) → result ≡ Err IsNotOpen }
+        ensures not_open { IfErr result (λ refused. refused ≡ IsNotOpen → (IsOpenAt entry (disk_of self.old) → ⊥) × (self.new ≡ self.old)) }
+        ensures shut { (IsOpenAt entry (disk_of self.old) → ⊥) → result ≡ Err IsNotOpen }
     {
         self.cache.fill(entry, bytes)
     }
@@ -159,13 +196,14 @@ impl<D: Disk + Drop> DiskStorage<D> {
         entry: LruDiskCacheAddEntry,
         now: u64,
     ) -> Result<Written, EntryError>
-        ensures stays { Stays self.old self.new }
-        ensures closed { IsOpenAt entry self.old → ClosesEntry entry.number self.old self.new }
-        ensures committed { IfOk result (λ how. IsOpenAt entry self.old × CommitsEntry entry.number how self.old self.new) }
-        ensures cause { IfOk result (λ how. CommitCause entry.number how self.old self.new) }
-        ensures kept { OnErr result (CommitsNothing entry.number self.old self.new) }
-        ensures not_open { IfErr result (λ refused. refused ≡ IsNotOpen → (IsOpenAt entry self.old → ⊥) × (self.new ≡ self.old)) }
-        ensures shut { (IsOpenAt entry self.old → ⊥) → result ≡ Err IsNotOpen }
+        ensures title { self.new.title ≡ self.old.title }
+        ensures stays { Stays (disk_of self.old) (disk_of self.new) }
+        ensures closed { IsOpenAt entry (disk_of self.old) → ClosesEntry entry.number (disk_of self.old) (disk_of self.new) }
+        ensures committed { IfOk result (λ how. IsOpenAt entry (disk_of self.old) × CommitsEntry entry.number how (disk_of self.old) (disk_of self.new)) }
+        ensures cause { IfOk result (λ how. CommitCause entry.number how (disk_of self.old) (disk_of self.new)) }
+        ensures kept { OnErr result (CommitsNothing entry.number (disk_of self.old) (disk_of self.new)) }
+        ensures not_open { IfErr result (λ refused. refused ≡ IsNotOpen → (IsOpenAt entry (disk_of self.old) → ⊥) × (self.new ≡ self.old)) }
+        ensures shut { (IsOpenAt entry (disk_of self.old) → ⊥) → result ≡ Err IsNotOpen }
     {
         self.cache.commit(entry, now)
     }

@@ -32,6 +32,6 @@ impl<R: Remote> StoreFacts for RemoteStorage<R> {
     }
 
     fn basedirs(&self) -> &[ByteText] {
-        &[]
+        RemoteStorage::basedirs(self)
     }
 }

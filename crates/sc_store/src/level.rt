@@ -11,10 +11,12 @@ ghost use Rattle.sc_model.specs.declared.event.Mode.TheVariants.{Path};
 ghost use Rattle.sc_model.specs.declared.level.Cause.{Cause};
 ghost use Rattle.sc_model.specs.declared.level.LevelKind.TheVariants.{Disk as IsDisk, Remote as IsRemote};
 ghost use Rattle.sc_store.specs.Asking.{AsksLevel, CauseBy, PutCause, PutsLevel, ReservesDisk, fixed_answer, reads_key};
+ghost use Rattle.sc_store.specs.Checking.{ChecksLevel, facts_after};
 ghost use Rattle.sc_store.specs.Held.{IsWithin, disk_of};
 ghost use Rattle.sc_store.specs.Levels.{held_level};
 ghost use Rattle.sc_store.specs.Telling.{level_max};
 
+use crate::checked::Checked;
 use crate::disk_storage::DiskStorage;
 use crate::remote::Remote;
 use crate::remote_storage::RemoteStorage;
@@ -38,7 +40,7 @@ impl<R: Remote, D: Disk> Level<R, D> {
     {
         match self {
             Level::Remote(store) => store.cache_type_name(),
-            Level::Disk(_) => "disk",
+            Level::Disk(store) => store.cache_type_name(),
         }
     }
 
@@ -55,6 +57,26 @@ impl<R: Remote, D: Disk> Level<R, D> {
                 let text = store.location(alloc)?;
                 Ok(text)
             }
+        }
+    }
+
+    /// The base directories that its store was given, in order.
+    pub fn basedirs(&self) -> &[ByteText]
+        ensures { result.now ≡ (held_level self.now).title.given.basedirs }
+    {
+        match self {
+            Level::Remote(store) => store.basedirs(),
+            Level::Disk(store) => store.basedirs(),
+        }
+    }
+
+    /// Whether it is to keep entries of the preprocessor: a remote store never is.
+    pub fn use_preprocessor_cache_mode(&self) -> bool
+        ensures { result ≡ (held_level self.now).title.given.flag }
+    {
+        match self {
+            Level::Remote(store) => store.use_preprocessor_cache_mode(),
+            Level::Disk(store) => store.use_preprocessor_cache_mode(),
         }
     }
 
@@ -158,6 +180,30 @@ impl<R: Remote, D: Disk + Drop> Level<R, D> {
                 let answer = store.ask(key, mode, now);
                 store.keeps();
                 answer
+            }
+        }
+    }
+
+    /// Finds out whether its store can be read and written. The mode that was found holds from then on.
+    #[tactic(auto, using(crate::proofs::Devices::later_same))]
+    pub(crate) fn check(&mut self, alloc: Global) -> Result<Checked, NoMemory>
+        ensures title { (held_level self.new).title ≡ (held_level self.old).title }
+        ensures facts { IfOk result (λ answer. (held_level self.new).facts ≡ facts_after (held_level self.old).facts answer) }
+        ensures facts_stay { OnErr result ((held_level self.new).facts ≡ (held_level self.old).facts) }
+        ensures told { (held_level self.new).told ≡ (held_level self.old).told }
+        ensures room { (held_level self.new).room ≡ (held_level self.old).room }
+        ensures later { Later (held_level self.old).level (held_level self.new).level }
+        ensures within { IsWithin (held_level self.new).facts (held_level self.new).level (held_level self.new).room }
+        ensures checked { IfOk result (λ answer. ChecksLevel answer (held_level self.old) (held_level self.new)) }
+    {
+        match self {
+            Level::Remote(store) => {
+                let _remote = store.kind();
+                store.check(alloc)
+            }
+            Level::Disk(store) => {
+                store.keeps();
+                Ok(Checked::Mode(store.mode()))
             }
         }
     }

@@ -12,9 +12,11 @@ ghost use Rattle.sc_model.specs.declared.level.Cause.{Cause};
 ghost use Rattle.sc_model.specs.declared.level.Policy.{Policy as PolicyType};
 ghost use Rattle.sc_model.specs.declared.level.LevelKind.TheVariants.{Disk as IsDisk, Remote as IsRemote};
 ghost use Rattle.sc_store.specs.Asking.{AloneAt, AsksAt, CauseBy, PutCause, PutsAt, ReservesDisk, fixed_answer, reads_key};
-ghost use Rattle.sc_store.specs.Held.{AreWithin, are_unreserved, disk_in, level_in, room_in};
+ghost use Rattle.sc_store.specs.Checking.{ChecksAt, facts_after};
+ghost use Rattle.sc_store.specs.Held.{AreWithin, are_unreserved, disk_in, level_in, room_in, title_in};
 ghost use Rattle.sc_store.specs.Levels.{held_level, held_levels, rooms_of};
 
+use crate::checked::Checked;
 use crate::level::Level;
 use crate::remote::Remote;
 use sc_disk::{Disk, LruDiskCacheAddEntry};
@@ -106,6 +108,7 @@ impl<R: Remote, D: Disk> Levels<R, D> {
     /// A level. Levels that all tell what they hold are levels of which each tells it.
     pub fn get(&self, level: usize) -> &Level<R, D>
         requires { level < length self.now.levels }
+        ensures title { (held_level result.now).title ≡ title_in self.now.titles level }
         ensures facts { (held_level result.now).facts ≡ level_facts self.now.facts level }
         ensures level { (held_level result.now).level ≡ level_in self.now.levels level }
         ensures room { (held_level result.now).room ≡ room_in self.now.rooms level }
@@ -172,6 +175,22 @@ impl<R: Remote, D: Disk + Drop> Levels<R, D> {
         ensures no_read { (level_facts self.old.facts level).kind ≡ IsRemote → reads_key mode ≡ false → (result ≡ Ok (fixed_answer mode)) × (self.new ≡ self.old) }
     {
         self.levels[level].ask(alloc, key, mode, now)
+    }
+
+    /// Finds out whether one level's store can be read and written. The mode that was found is the level's from then on.
+    pub fn check_step(&mut self, alloc: Global, level: usize) -> Result<Checked, NoMemory>
+        requires { level < length self.old.levels }
+        ensures titles { self.new.titles ≡ self.old.titles }
+        ensures facts { IfOk result (λ answer. self.new.facts ≡ slice_set self.old.facts level (facts_after (level_facts self.old.facts level) answer)) }
+        ensures facts_stay { OnErr result (self.new.facts ≡ self.old.facts) }
+        ensures policy { self.new.policy ≡ self.old.policy }
+        ensures told { self.new.told ≡ self.old.told }
+        ensures rooms { self.new.rooms ≡ self.old.rooms }
+        ensures alone { self.new.levels ≡ slice_set self.old.levels level (level_in self.new.levels level) }
+        ensures later { Later (level_in self.old.levels level) (level_in self.new.levels level) }
+        ensures checked { IfOk result (λ answer. ChecksAt level answer self.old self.new) }
+    {
+        self.levels[level].check(alloc)
     }
 
     /// Puts an entry under a key at one remote level, and at no other. The flag says that the bytes come from a local run: a

@@ -1,6 +1,7 @@
 //! Stores of compile results: a store behind a network, and a daemon's levels of stores in order.
 #![tactic(auto)]
 
+mod checked;
 mod disk_storage;
 mod facts;
 mod level;
@@ -12,6 +13,7 @@ mod remote;
 mod remote_storage;
 mod telling;
 
+pub use checked::Checked;
 pub use disk_storage::DiskStorage;
 pub use level::Level;
 pub use levels::Levels;

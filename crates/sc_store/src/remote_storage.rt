@@ -1,4 +1,4 @@
-ghost use Rattle.std.specs.Prelude.{◌≡◌, ℕ, true, false, is_some, Some, Ok, IfOk};
+ghost use Rattle.std.specs.Prelude.{◌≡◌, ℕ, true, false, is_some, Some, Ok, IfOk, OnErr};
 ghost use Rattle.sc_entry.specs.Entries.{objects};
 ghost use Rattle.sc_entry.specs.Keys.{IsStoreKey, is_store_key as is_key};
 ghost use Rattle.sc_model.specs.Plan.{reads_only};
@@ -7,14 +7,16 @@ ghost use Rattle.sc_model.specs.World.{Asks, Later, early_cause as early};
 ghost use Rattle.sc_model.specs.declared.level.Cause.{Cause};
 ghost use Rattle.sc_model.specs.declared.level.LevelKind.TheVariants.{Remote as IsRemote};
 ghost use Rattle.sc_store.specs.Asking as asking;
-ghost use Rattle.sc_store.specs.Held.{held_remote, remote_facts, remote_level};
+ghost use Rattle.sc_store.specs.Checking as checking;
+ghost use Rattle.sc_store.specs.Held.{as_configured, held_remote, remote_facts, remote_given, remote_level};
 ghost use Rattle.sc_store.specs.Telling.{kind_max};
 
+use crate::checked::Checked;
 use crate::remote::{Remote, RemoteRead, RemoteWrite};
 use sc_disk::{is_store_key, normalize_key};
 use sc_disk_cache::mode_answer;
-use sc_entry::{ByteText, CacheMode, NoMemory, Text};
-use sc_model::{Answer, Cause, LevelKind, Mode, Policy, Store, Written};
+use sc_entry::{ByteText, CacheMode, Items, NoMemory, Text};
+use sc_model::{Answer, Cause, LevelKind, Mode, Policy, RemoteFault, Store, Written};
 use std::alloc::Global;
 use std::marker::Model;
 
@@ -22,17 +24,20 @@ use std::marker::Model;
 #[derive(Drop)]
 pub struct RemoteStorage<R: Remote> {
     remote: R,
+    basedirs: Items<ByteText>,
     configured: CacheMode,
+    mode: CacheMode,
+    skip_cache_check: bool,
 }
 
 impl<R: Remote> Model for RemoteStorage<R> {
-    ghost use Rattle.sc_store.specs.Held.{HeldLevel, held_level_code, held_remote};
+    ghost use Rattle.sc_store.specs.Held.{HeldLevel, held_level_code, held_remote, modes_of, remote_given};
 
     ghost Value = { HeldLevel };
 
     ghost coded = { held_level_code };
 
-    ghost view = { λ s. held_remote (R.names s.remote) s.configured (R.held s.remote) (R.fault_count s.remote) (R.loss_count s.remote) (R.calls s.remote) };
+    ghost view = { λ s. held_remote (R.names s.remote) (remote_given s.basedirs s.skip_cache_check) (modes_of s.configured s.mode) (R.held s.remote) (R.fault_count s.remote) (R.loss_count s.remote) (R.calls s.remote) };
 }
 
 /// What a read's answer tells of a key.
@@ -65,6 +70,30 @@ fn written_of(answer: RemoteWrite) -> Written
     }
 }
 
+/// Why the read of a check ends it: one that came too often doesn't.
+fn refusal_of(read: &RemoteRead) -> Option<RemoteFault>
+    ensures { result ≡ checking.refusal_of read.now }
+{
+    match read {
+        RemoteRead::Refused(RemoteFault::RateLimited) => None,
+        RemoteRead::Refused(RemoteFault::AlreadyExists) => Some(RemoteFault::AlreadyExists),
+        RemoteRead::Refused(RemoteFault::Other) => Some(RemoteFault::Other),
+        RemoteRead::Found(_) => None,
+        RemoteRead::NotFound => None,
+    }
+}
+
+/// Whether a store can be written, by the write of its check.
+fn written_mode(how: RemoteWrite) -> CacheMode
+    ensures { result ≡ checking.written_mode how }
+{
+    match how {
+        RemoteWrite::Done => CacheMode::ReadWrite,
+        RemoteWrite::Refused(RemoteFault::AlreadyExists) => CacheMode::ReadWrite,
+        RemoteWrite::Refused(_) => CacheMode::ReadOnly,
+    }
+}
+
 fn is_single(policy: &Policy) -> bool
     ensures { result ≡ single policy.now }
 {
@@ -86,7 +115,7 @@ pub(crate) fn is_read_only(mode: CacheMode) -> bool
 
 /// Why a write is refused before the device is called: the mode of a single store, then the key.
 fn early_cause(policy: &Policy, configured: CacheMode, key: &Text) -> Option<Cause>
-    ensures { result ≡ early policy.now (remote_facts configured) key.now }
+    ensures { result ≡ early policy.now (remote_facts (as_configured configured)) key.now }
 {
     if is_single(policy) && is_read_only(configured) {
         return Some(Cause::ReadOnly(Store::Remote));
@@ -109,14 +138,37 @@ fn fixed_answer(mode: Mode) -> Answer
 }
 
 impl<R: Remote> RemoteStorage<R> {
-    /// A store over a remote, with its configured mode.
-    pub fn new(remote: R, mode: CacheMode) -> RemoteStorage<R>
-        ensures { result ≡ held_remote (R.names remote) mode (R.held remote) (R.fault_count remote) (R.loss_count remote) (R.calls remote) }
+    /// A store over a remote, with these base directories, and its configured mode.
+    pub fn new(remote: R, basedirs: Items<ByteText>, mode: CacheMode) -> RemoteStorage<R>
+        ensures { result ≡ held_remote (R.names remote) (remote_given basedirs false) (as_configured mode) (R.held remote) (R.fault_count remote) (R.loss_count remote) (R.calls remote) }
     {
         RemoteStorage {
             remote,
+            basedirs,
             configured: mode,
+            mode,
+            skip_cache_check: false,
         }
+    }
+
+    /// The same store; a check of it makes no call where this says so.
+    pub fn with_skip_cache_check(self, skip_cache_check: bool) -> RemoteStorage<R>
+        ensures { result ≡ record self { title = record self.title { given = record self.title.given { unchecked = skip_cache_check } } } }
+    {
+        RemoteStorage {
+            remote: self.remote,
+            basedirs: self.basedirs,
+            configured: self.configured,
+            mode: self.mode,
+            skip_cache_check,
+        }
+    }
+
+    /// The base directories that it was given, in order.
+    pub fn basedirs(&self) -> &[ByteText]
+        ensures { result.now ≡ self.now.title.given.basedirs }
+    {
+        self.basedirs.as_slice()
     }
 
     pub fn remote(&self) -> &R
@@ -124,6 +176,14 @@ impl<R: Remote> RemoteStorage<R> {
         ensures level { self.now.level ≡ remote_level (R.held result.now) (R.fault_count result.now) (R.loss_count result.now) (R.calls result.now) }
     {
         &self.remote
+    }
+
+    /// Whether it is to keep entries of the preprocessor: a remote store never is.
+    pub fn use_preprocessor_cache_mode(&self) -> bool
+        ensures { result ≡ self.now.title.given.flag }
+    {
+        let _title = &self.configured;
+        false
     }
 
     /// What type of store it is, in a word.
@@ -179,11 +239,11 @@ impl<R: Remote> RemoteStorage<R> {
         self.configured
     }
 
-    /// The mode that holds: no check has been made of a remote yet, so the configured one.
+    /// The mode that holds: what the last check found, or the configured one.
     pub fn mode(&self) -> CacheMode
         ensures { result ≡ self.now.facts.mode }
     {
-        self.configured
+        self.mode
     }
 
     /// What stands under a store key, as it is.
@@ -252,5 +312,106 @@ impl<R: Remote> RemoteStorage<R> {
         let path = normalize_key(alloc, key)?;
         let answer = self.remote.write(alloc, &path, bytes)?;
         Ok(written_of(answer))
+    }
+
+    /// Reads the file that a check reads.
+    #[tactic(auto, using(crate::proofs::Devices::later_same))]
+    fn read_check(&mut self, alloc: Global) -> Result<RemoteRead, NoMemory>
+        ensures title { self.new.title ≡ self.old.title }
+        ensures facts { self.new.facts ≡ self.old.facts }
+        ensures told { self.new.told ≡ self.old.told }
+        ensures room { self.new.room ≡ self.old.room }
+        ensures later { Later self.old.level self.new.level }
+        ensures read { IfOk result (λ read. checking.ReadsCheck read self.old.told self.old.level self.new.level) }
+    {
+        let path = Text::from_str(alloc, ".sccache_check")?;
+        let read = self.remote.read(alloc, &path)?;
+        Ok(read)
+    }
+
+    /// Writes it.
+    #[tactic(auto, using(crate::proofs::Devices::later_same))]
+    fn write_check(&mut self, alloc: Global) -> Result<RemoteWrite, NoMemory>
+        ensures title { self.new.title ≡ self.old.title }
+        ensures facts { self.new.facts ≡ self.old.facts }
+        ensures told { self.new.told ≡ self.old.told }
+        ensures room { self.new.room ≡ self.old.room }
+        ensures later { Later self.old.level self.new.level }
+        ensures wrote { IfOk result (λ how. checking.WritesCheck how self.old.told self.old.level self.new.level) }
+    {
+        let path = Text::from_str(alloc, ".sccache_check")?;
+        let greeting = ByteText::from_slice(alloc, b"Hello, World!")?;
+        let how = self.remote.write(alloc, &path, &greeting)?;
+        Ok(how)
+    }
+
+    /// What a check finds where its read passed.
+    #[tactic(auto, using(crate::proofs::Devices::later_same))]
+    fn greet(&mut self, alloc: Global) -> Result<Checked, NoMemory>
+        ensures title { self.new.title ≡ self.old.title }
+        ensures facts { self.new.facts ≡ self.old.facts }
+        ensures told { self.new.told ≡ self.old.told }
+        ensures room { self.new.room ≡ self.old.room }
+        ensures later { Later self.old.level self.new.level }
+        ensures found { IfOk result (λ answer. checking.Greets self.old.facts.configured answer self.old.told self.old.level self.new.level) }
+    {
+        if is_read_only(self.configured) {
+            return Ok(Checked::Mode(CacheMode::ReadOnly));
+        }
+        let how = self.write_check(alloc)?;
+        Ok(Checked::Mode(written_mode(how)))
+    }
+
+    /// What a check finds, by why its read ends it.
+    #[tactic(auto, using(crate::proofs::Devices::later_same))]
+    fn conclude(&mut self, alloc: Global, refusal: Option<RemoteFault>) -> Result<Checked, NoMemory>
+        ensures title { self.new.title ≡ self.old.title }
+        ensures facts { self.new.facts ≡ self.old.facts }
+        ensures told { self.new.told ≡ self.old.told }
+        ensures room { self.new.room ≡ self.old.room }
+        ensures later { Later self.old.level self.new.level }
+        ensures found { IfOk result (λ answer. checking.Finds refusal self.old.facts.configured answer self.old.told self.old.level self.new.level) }
+    {
+        match refusal {
+            Some(fault) => Ok(Checked::Refused(Cause::RemoteFault(fault))),
+            None => self.greet(alloc),
+        }
+    }
+
+    /// What a check finds that isn't left out.
+    #[tactic(auto, using(crate::proofs::Checks::later_then))]
+    fn probe(&mut self, alloc: Global) -> Result<Checked, NoMemory>
+        ensures title { self.new.title ≡ self.old.title }
+        ensures facts { self.new.facts ≡ self.old.facts }
+        ensures told { self.new.told ≡ self.old.told }
+        ensures room { self.new.room ≡ self.old.room }
+        ensures later { Later self.old.level self.new.level }
+        ensures found { IfOk result (λ answer. checking.Probes self.old.facts.configured answer self.old.told self.old.level self.new.level) }
+    {
+        let read = self.read_check(alloc)?;
+        let refusal = refusal_of(&read);
+        self.conclude(alloc, refusal)
+    }
+
+    /// Finds out whether the store can be read, and whether it can be written. The mode that was found holds from then on.
+    #[tactic(auto, using(crate::proofs::Devices::later_same))]
+    pub(crate) fn check(&mut self, alloc: Global) -> Result<Checked, NoMemory>
+        ensures title { self.new.title ≡ self.old.title }
+        ensures facts { IfOk result (λ answer. self.new.facts ≡ checking.facts_after self.old.facts answer) }
+        ensures facts_stay { OnErr result (self.new.facts ≡ self.old.facts) }
+        ensures told { self.new.told ≡ self.old.told }
+        ensures room { self.new.room ≡ self.old.room }
+        ensures later { Later self.old.level self.new.level }
+        ensures checked { IfOk result (λ answer. checking.ChecksLevel answer self.old self.new) }
+    {
+        if self.skip_cache_check {
+            self.mode = self.configured;
+            return Ok(Checked::Mode(self.configured));
+        }
+        let found = self.probe(alloc)?;
+        if let Checked::Mode(mode) = found {
+            self.mode = mode;
+        }
+        Ok(found)
     }
 }

@@ -1,5 +1,5 @@
 use crate::{
-    DiskStorage, Level, Levels, MemRemote, Remote, RemoteRead, RemoteStorage, RemoteWrite,
+    Checked, DiskStorage, Level, Levels, MemRemote, Remote, RemoteRead, RemoteStorage, RemoteWrite,
 };
 use sc_disk::MemDisk;
 use sc_disk_cache::{DiskCache, Filling, Reservation};
@@ -133,9 +133,10 @@ fn put(
 fn small_levels(alloc: Global, fails: u64) -> Result<Levels<MemRemote, MemDisk>, Fail> {
     let mut levels = Vec::new(alloc);
     let empty = MemRemote::new(alloc, Items::new(alloc), Items::new(alloc))?;
-    levels.push(Level::Remote(RemoteStorage::new(empty, CacheMode::ReadWrite)))?;
+    levels.push(Level::Remote(RemoteStorage::new(empty, Items::new(alloc), CacheMode::ReadWrite)))?;
     levels.push(Level::Remote(RemoteStorage::new(
         small_remote(alloc, fails)?,
+        Items::new(alloc),
         CacheMode::ReadOnly,
     )))?;
     Ok(Levels::new(levels, Policy::Levels(Items::new(alloc))))
@@ -177,10 +178,90 @@ fn ample_put_step(rt: HostRuntime) -> Result<(), Fail> {
     Ok(())
 }
 
+fn told_checked(checked: Checked) -> &'static str {
+    match checked {
+        Checked::Mode(CacheMode::ReadWrite) => "read-write",
+        Checked::Mode(CacheMode::ReadOnly) => "read-only",
+        Checked::Refused(_) => "refused",
+    }
+}
+
+/// The check of a store over this remote: what it finds, the mode that holds then, and the paths that its remote has.
+fn check(
+    rt: &impl Abort,
+    alloc: Global,
+    fails: u64,
+    configured: CacheMode,
+    skips: bool,
+) -> Result<(&'static str, &'static str, usize), Fail> {
+    let store = RemoteStorage::new(small_remote(alloc, fails)?, Items::new(alloc), configured);
+    let store = store.with_skip_cache_check(skips);
+    let levels: Vec<Level<MemRemote, MemDisk>> = vec![in alloc; Level::Remote(store)]?;
+    let mut levels = Levels::new(levels, Policy::Single);
+    assert!(rt; levels.len() > 0);
+    let found = told_checked(levels.check_step(alloc, 0)?);
+    assert!(rt; levels.len() > 0);
+    let mode = told_checked(Checked::Mode(levels.mode(0)));
+    match levels.get(0) {
+        Level::Remote(store) => Ok((found, mode, store.remote().len())),
+        Level::Disk(_) => Ok((found, mode, 0)),
+    }
+}
+
+#[test]
+fn check_reads_and_writes(rt: HostRuntime) -> Result<(), Fail> {
+    let alloc = rt.alloc();
+    let rows = [
+        (
+            0,
+            CacheMode::ReadWrite,
+            false,
+            ("read-write", "read-write", 3),
+        ),
+        (1, CacheMode::ReadWrite, false, ("refused", "read-write", 2)),
+        (
+            2,
+            CacheMode::ReadWrite,
+            false,
+            ("read-only", "read-only", 2),
+        ),
+        (0, CacheMode::ReadOnly, false, ("read-only", "read-only", 2)),
+        (
+            1,
+            CacheMode::ReadWrite,
+            true,
+            ("read-write", "read-write", 2),
+        ),
+    ];
+    for (fails, configured, skips, expected) in rows {
+        let found = check(&rt, alloc, fails, configured, skips)?;
+        assert_eq!(rt; found.0, expected.0, "call {fails} fails");
+        assert_eq!(rt; found.1, expected.1, "call {fails} fails");
+        assert_eq!(rt; found.2, expected.2, "call {fails} fails");
+    }
+    Ok(())
+}
+
+#[test]
+fn levels_are_given_base_directories(rt: HostRuntime) -> Result<(), Fail> {
+    let alloc = rt.alloc();
+    let mut basedirs = Items::new(alloc);
+    basedirs.push(bytes(alloc, b"/home")?)?;
+    let store = RemoteStorage::new(small_remote(alloc, 0)?, basedirs, CacheMode::ReadWrite);
+    let level: Level<MemRemote, MemDisk> = Level::Remote(store);
+    assert_eq!(rt; level.basedirs().len(), 1);
+    assert!(rt; !level.use_preprocessor_cache_mode());
+    Ok(())
+}
+
 #[test]
 fn single_read_only(rt: HostRuntime) -> Result<(), Fail> {
     let alloc = rt.alloc();
-    let store = RemoteStorage::new(small_remote(alloc, 0)?, CacheMode::ReadOnly);
+    let store = RemoteStorage::new(
+        small_remote(alloc, 0)?,
+        Items::new(alloc),
+        CacheMode::ReadOnly,
+    );
     assert_eq!(rt; store.remote().faults(), 0);
     let levels = vec![in alloc; Level::Remote(store)]?;
     let mut single = Levels::new(levels, Policy::Single);
@@ -225,7 +306,7 @@ fn disk_level(alloc: Global) -> Result<Levels<MemRemote, MemDisk>, Fail> {
         100,
         CacheMode::ReadWrite,
     );
-    let store = DiskStorage::new(cache);
+    let store = DiskStorage::new(cache, true, Items::new(alloc));
     let levels = vec![in alloc; Level::Disk(store)]?;
     Ok(Levels::new(levels, Policy::Single))
 }

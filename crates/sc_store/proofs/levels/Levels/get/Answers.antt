@@ -13,6 +13,7 @@ returns g c =
     let here : store ≡ slice_index_or stores l store = search rules in
     let m = held_at held_level old policy stores l store c.self.view_is c.requires here in
     record {
+      title = sym m.title_was;
       facts = sym m.facts_were;
       level = sym m.was;
       room = sym m.room_was;
