@@ -1,0 +1,3 @@
+pub mod Basedirs
+pub mod Checks
+pub mod Stores

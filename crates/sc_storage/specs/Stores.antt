@@ -1,0 +1,26 @@
+-- Levels as one store: what the levels hold, what they count, and their base directories.
+use Rattle.std.specs.Prelude.{ℕ, Bool, false, List, [], ◌∷◌, refl}
+use Rattle.std.specs.Coded.{Coded, code_by, coded×, coded_ℕ, coded_list}
+use Rattle.sc_stats.specs.declared.counters.LevelStats.{LevelStats}
+use Rattle.sc_stats.specs.contracts.counters.LevelStats as stats_type
+use Rattle.sc_store.specs.Held.{Held, Title, held_code}
+
+pub record Multilevel : Type 0 where
+  pub held : Held
+  pub counters : List LevelStats
+  pub basedirs : List (List ℕ)
+
+abbrev pub multilevel_of : Held → List LevelStats → List (List ℕ) → Multilevel
+multilevel_of held counters basedirs = record { held = held; counters = counters; basedirs = basedirs }
+
+abbrev pub multilevel_code : Coded Multilevel
+multilevel_code = code_by (Held × (List LevelStats × List (List ℕ)))
+    (coded× held_code (coded× (coded_list stats_type.the_row.coded) (coded_list (coded_list coded_ℕ))))
+    (λ m. (m.held, (m.counters, m.basedirs)))
+    (λ p. record { held = p.0; counters = p.1.0; basedirs = p.1.1 })
+    (λ _. refl)
+
+-- the flag of the first level
+abbrev pub first_flag : List Title → Bool
+first_flag [] = false
+first_flag (t ∷ ts) = t.given.flag
