@@ -78,7 +78,7 @@ const CASES: [Case; 6] = [
 ];
 
 /// Whole scripts, and their reports.
-const DRIVES: [Case; 9] = [
+const DRIVES: [Case; 12] = [
     // A failed compile is not stored, and one without a run is fatal.
     (
         b"script 1\nconns 1\nlevel disk 100 rw\ntool /cc 1 gcc\nrun key1 1 - bad\nask 0 compile /cc / -- --key key1 --out obj=/o -- a.c\nask 0 compile /cc / -- --key key2 --out obj=/o -- a.c\nread 0 1000\nserve 0 40\n",
@@ -121,6 +121,21 @@ const DRIVES: [Case; 9] = [
     (
         b"script 1\nconns 1\npolicy ignore\nlevel disk 5 rw\nlevel disk 9 rw\nlevel remote rw\nhold 0 abd BBBB\nhold 2 abc AAA\nask 0 get-raw abc\nread 0 1000\nserve 0 5\nback 1\nback 0\nback 0\nback 0\nback 0\n",
         b"conn 0 open\nraw AAA\nlevel 0 3 1 hits 0 misses 1 writes 0 failures 0 from 0 to 1\nlevel 1 3 0 hits 0 misses 1 writes 0 failures 0 from 0 to 0\nlevel 2 3 1 hits 1 misses 0 writes 0 failures 0 from 2 to 0\nbackground 1\ntokens 1\nruns 0\nend\n",
+    ),
+    // A compile that is neither to be looked up nor to be stored.
+    (
+        b"script 1\nconns 1\nlevel disk 100 rw\ntool /cc 1 gcc\nrun key1 0 hi - obj=AB\nask 0 compile /cc / SCCACHE_NO_CACHE= SCCACHE_RECACHE= -- --key key1 --out obj=/o -- a.c\nread 0 1000\nserve 0 7\n",
+        b"conn 0 open\nstarted\nfinished 0 - hi - auto\nlevel 0 0 0\nbackground 0\ntokens 1\nruns 1\ncompile_requests 1\nrequests_executed 1\ncompilations 1\nend\n",
+    ),
+    // Inputs that end.
+    (
+        b"script 1\nconns 3\nlevel disk 100 rw\nbytes 0 000000\nread 0 1000\nread 0 1000\nread 1 1\n",
+        b"conn 0 end-in-frame\nconn 1 ended\nconn 2 open\nlevel 0 0 0\nbackground 0\ntokens 1\nruns 0\nend\n",
+    ),
+    // One token: the second compile waits at its fifth step until the first has run.
+    (
+        b"script 1\nconns 2\ntokens 1\nlevel disk 100 rw\ntool /cc 1 gcc\nrun key1 0 hi - obj=AB\nrun key1 0 ho - obj=AB\nask 0 compile /cc / -- --key key1 --out obj=/o -- a.c\nask 1 compile /cc / -- --key key1 --out obj=/o -- a.c\nread 0 1000\nread 1 1000\nserve 0 5\nserve 1 5\nserve 0 7\nserve 1 8\n",
+        b"conn 0 open\nstarted\nfinished 0 - hi - auto\nconn 1 open\nstarted\nfinished 0 - ho - auto\nlevel 0 41 1\nbackground 0\ntokens 1\nruns 2\ncompile_requests 2\nrequests_executed 2\ncache_misses 2\ncache_writes 2\ncompilations 2\nend\n",
     ),
 ];
 
