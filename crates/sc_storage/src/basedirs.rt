@@ -1,11 +1,10 @@
 //! The base directories of several stores.
 ghost use Rattle.std.specs.Prelude.{◌≡◌, IfOk};
 ghost use Rattle.sc_storage.specs.Basedirs.{basedirs_of, collect, is_among};
-ghost use Rattle.sc_store.specs.Telling.{titles_of};
 
 use sc_disk::Disk;
 use sc_entry::{ByteText, NoMemory};
-use sc_store::{Level, Remote};
+use sc_store::{Levels, Remote};
 use std::alloc::Global;
 
 /// Whether a directory is one of these.
@@ -39,15 +38,16 @@ fn add(seen: &mut Vec<ByteText>, basedirs: &[ByteText]) -> Result<(), NoMemory>
 /// The base directories of all levels, in the order in which they first appear.
 pub(crate) fn collect_basedirs<R: Remote, D: Disk>(
     alloc: Global,
-    levels: &[Level<R, D>],
+    levels: &Levels<R, D>,
 ) -> Result<Vec<ByteText>, NoMemory>
-    ensures { IfOk result (λ basedirs. basedirs.items ≡ basedirs_of (titles_of levels.now)) }
+    ensures { IfOk result (λ basedirs. basedirs.items ≡ basedirs_of levels.now.titles) }
 {
     let mut seen = Vec::new(alloc);
-    let mut left = levels;
-    while let [level, rest @ ..] = left {
-        add(&mut seen, level.basedirs())?;
-        left = rest;
+    let count = levels.len();
+    let mut level = 0;
+    while level < count {
+        add(&mut seen, levels.get(level).basedirs())?;
+        level += 1;
     }
     Ok(seen)
 }

@@ -1,5 +1,5 @@
 //! The check of levels.
-ghost use Rattle.std.specs.Prelude.{◌≡◌, ◌<◌, IfOk, OnErr, length};
+ghost use Rattle.std.specs.Prelude.{◌≡◌, ◌<◌, IfOk, length};
 ghost use Rattle.sc_storage.specs.Checks as checks;
 
 use sc_disk::Disk;

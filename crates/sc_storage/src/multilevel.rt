@@ -1,19 +1,36 @@
 //! Levels as one store.
-ghost use Rattle.std.specs.Prelude.{◌≡◌, IfOk};
+ghost use Rattle.std.specs.Prelude.{◌≡◌, false, true, IfErr, IfOk, Option, length};
 ghost use Rattle.sc_model.specs.declared.level.Policy.TheVariants.{Levels as ByLevel};
 ghost use Rattle.sc_storage.specs.Basedirs.{basedirs_of};
+ghost use Rattle.sc_entry.specs.Entries.{entry as spelling};
+ghost use Rattle.sc_model.specs.Follows.{some_size};
+ghost use Rattle.sc_model.specs.Script.{is_single};
+ghost use Rattle.sc_model.specs.declared.event.Mode.TheVariants.{Raw, Whole};
 ghost use Rattle.sc_storage.specs.Checks.{ChecksAll, Stays};
-ghost use Rattle.sc_storage.specs.Stores.{first_flag};
+ghost use Rattle.sc_storage.specs.Lookups as lookups;
+ghost use Rattle.sc_storage.specs.Lookups.{IsCache, IsSpelled, LooksUp};
+ghost use Rattle.sc_storage.specs.declared.lookup.Hit.{Hit as Found};
+ghost use Rattle.sc_storage.specs.Moving.{Keeps};
+ghost use Rattle.sc_storage.specs.Puts.{Puts};
+ghost use Rattle.sc_storage.specs.Sizes.{size_sum};
+ghost use Rattle.sc_storage.specs.Stores.{IsChain, IsNew, counted_of, first_flag};
 ghost use Rattle.sc_store.specs.Levels.{held_levels};
-ghost use Rattle.sc_store.specs.Telling.{new_counters, store_location, store_max, store_mode, store_type, titles_of};
+ghost use Rattle.sc_store.specs.Telling.{new_counters, store_location, store_max, store_mode, store_type};
+ghost use Rattle.sc_store_config.specs.Configs.{IsCause, disk_as, remote_as, store_of};
+ghost use Rattle.sc_store_config.specs.Policies.{setting_policies};
+ghost use Rattle.sc_store_config.specs.declared.write_error_policy.WriteErrorPolicy.TheVariants as settings;
 
 use crate::basedirs::collect_basedirs;
-use crate::checking;
+use crate::lookup::{Hit, look_up};
+use crate::{checking, putting, sizes};
 use sc_disk::Disk;
-use sc_entry::{ByteText, CacheMode, Items, NoMemory, Text};
-use sc_model::{LevelPolicy, Policy};
+use sc_entry::{
+    ByteText, Cache, CacheMode, CacheRead, CacheWrite, Items, NoMemory, ReadEntryError, Text,
+};
+use sc_model::{LevelPolicy, Mode, Policy, Put};
 use sc_stats::LevelStats;
 use sc_store::{Checked, Level, Levels, Remote};
+use sc_store_config::{ConfigError, StoreConfig, WriteErrorPolicy, storage_from_config};
 use std::alloc::Global;
 use std::marker::Model;
 
@@ -34,27 +51,80 @@ impl<R: Remote, D: Disk> Model for MultiLevelStorage<R, D> {
     ghost coded = { multilevel_code };
 
     ghost view = { λ s. multilevel_of s.levels s.counters.items s.basedirs.items };
+
+    ghost use Rattle.std.specs.Prelude.{◌≡◌, false};
+    ghost use Rattle.sc_model.specs.Script.{is_single};
+
+    /// No level stands alone.
+    ghost invariant = { λ s. is_single s.levels.policy ≡ false };
+}
+
+/// Levels as one store, of which nothing is counted yet.
+fn of_levels<R: Remote + Drop, D: Disk + Drop>(
+    alloc: Global,
+    levels: Levels<R, D>,
+) -> Result<MultiLevelStorage<R, D>, NoMemory>
+    requires { is_single levels.policy ≡ false }
+    ensures held { IfOk result (λ store. store.held ≡ levels) }
+    ensures counters { IfOk result (λ store. store.counters ≡ new_counters 0 levels.titles) }
+    ensures basedirs { IfOk result (λ store. store.basedirs ≡ basedirs_of levels.titles) }
+{
+    let basedirs = collect_basedirs(alloc, &levels)?;
+    let counters = levels.new_counters(alloc)?;
+    Ok(MultiLevelStorage {
+        levels,
+        counters,
+        basedirs,
+    })
 }
 
 impl<R: Remote + Drop, D: Disk + Drop> MultiLevelStorage<R, D> {
+    /// Levels of which the first has to be written, and all others are written in the background.
+    pub fn new(alloc: Global, levels: Vec<Level<R, D>>) -> Result<MultiLevelStorage<R, D>, NoMemory>
+        ensures { IfOk result (λ store. IsNew (held_levels levels.items (ByLevel (setting_policies settings.L0 (length levels.items)))) store) }
+    {
+        MultiLevelStorage::with_write_error_policy(alloc, levels, WriteErrorPolicy::new())
+    }
+
+    /// Levels whose policies this setting says.
+    pub fn with_write_error_policy(
+        alloc: Global,
+        levels: Vec<Level<R, D>>,
+        policy: WriteErrorPolicy,
+    ) -> Result<MultiLevelStorage<R, D>, NoMemory>
+        ensures { IfOk result (λ store. IsNew (held_levels levels.items (ByLevel (setting_policies policy (length levels.items)))) store) }
+    {
+        let policies = policy.policies(alloc, levels.len())?;
+        MultiLevelStorage::with_level_policies(alloc, levels, policies)
+    }
+
     /// Levels with a write policy each: a missing one is `Background`, a surplus one isn't used. Nothing is counted yet.
     pub fn with_level_policies(
         alloc: Global,
         levels: Vec<Level<R, D>>,
         policies: Items<LevelPolicy>,
     ) -> Result<MultiLevelStorage<R, D>, NoMemory>
-        ensures held { IfOk result (λ store. store.held ≡ held_levels levels.items (ByLevel policies)) }
-        ensures counters { IfOk result (λ store. store.counters ≡ new_counters 0 store.held.titles) }
-        ensures basedirs { IfOk result (λ store. store.basedirs ≡ basedirs_of (titles_of levels.items)) }
+        ensures { IfOk result (λ store. IsNew (held_levels levels.items (ByLevel policies)) store) }
     {
-        let basedirs = collect_basedirs(alloc, &levels)?;
-        let levels = Levels::new(levels, Policy::Levels(policies));
-        let counters = levels.new_counters(alloc)?;
-        Ok(MultiLevelStorage {
-            levels,
-            counters,
-            basedirs,
-        })
+        let store = of_levels(alloc, Levels::new(levels, Policy::Levels(policies)))?;
+        Ok(store)
+    }
+
+    /// The levels that a configuration's chain names, in its order. Without a chain there is nothing. A name of the chain
+    /// without a configuration is an error: the first such name.
+    pub fn from_config(
+        alloc: Global,
+        config: StoreConfig<R, D>,
+    ) -> Result<Option<MultiLevelStorage<R, D>>, ConfigError>
+        ensures made { IfOk result (λ found. IsChain config.chain (store_of (remote_as R.names R.held R.fault_count R.loss_count R.calls config.basedirs config.skip_cache_check) (disk_as D.state config.basedirs) config) found) }
+        ensures fault { IfErr result (λ error. IsCause error (store_of (remote_as R.names R.held R.fault_count R.loss_count R.calls config.basedirs config.skip_cache_check) (disk_as D.state config.basedirs) config)) }
+    {
+        if config.chain.is_empty() {
+            return Ok(None);
+        }
+        let levels = storage_from_config(alloc, config)?;
+        let store = of_levels(alloc, levels)?;
+        Ok(Some(store))
     }
 }
 
@@ -112,6 +182,15 @@ impl<R: Remote, D: Disk> MultiLevelStorage<R, D> {
         self.levels.max_size()
     }
 
+    /// The bytes that all levels take, as far as that is known: of a disk level that is opened those of its files and open
+    /// entries. None where that is nothing.
+    pub fn current_size(&self) -> Option<u64>
+        ensures { self.now.held.told ≡ true → result ≡ some_size (size_sum self.now.held) }
+    {
+        let _counters = self.counters.len();
+        sizes::current_size(&self.levels)
+    }
+
     /// The mode that holds: read-only where there are levels and each is.
     pub fn mode(&self) -> CacheMode
         ensures { result ≡ store_mode self.now.held.facts }
@@ -120,7 +199,109 @@ impl<R: Remote, D: Disk> MultiLevelStorage<R, D> {
     }
 }
 
+/// A hit's bytes.
+fn bytes_of(found: Option<Hit>) -> Option<ByteText>
+    ensures { result ≡ lookups.bytes_of found }
+{
+    let Some(hit) = found else {
+        return None;
+    };
+    Some(hit.bytes)
+}
+
+/// A hit as the entry that its bytes spell.
+fn cache_of(alloc: Global, found: Option<Hit>) -> Result<Cache, NoMemory>
+    requires { IsSpelled found }
+    ensures { IfOk result (λ cache. IsCache found cache) }
+{
+    let Some(hit) = found else {
+        return Ok(Cache::Miss);
+    };
+    match CacheRead::from(alloc, hit.bytes) {
+        Ok(entry) => Ok(Cache::Hit(entry)),
+        Err(ReadEntryError::NoMemory) => Err(NoMemory),
+        Err(ReadEntryError::BadEntry) => unreachable!(),
+    }
+}
+
 impl<R: Remote, D: Disk + Drop> MultiLevelStorage<R, D> {
+    /// Looks an entry up at this moment, level by level: the first hit is the answer, and is put at the levels before it
+    /// that take writes, whatever comes of that. A level that refuses is passed over as one that has no such entry. Each
+    /// level's answer and each put is counted there.
+    pub fn get(&mut self, alloc: Global, key: &Text, now: u64) -> Result<Cache, NoMemory>
+        ensures keeps { Keeps self.old.held self.new.held }
+        ensures basedirs { self.new.basedirs ≡ self.old.basedirs }
+        ensures found { IfOk result (λ cache. (found : Option Found) × LooksUp key.now Whole found (counted_of self.old) (counted_of self.new) × IsCache found cache) }
+    {
+        let _basedirs = self.basedirs.len();
+        let found = look_up(
+            alloc,
+            &mut self.levels,
+            &mut self.counters,
+            key,
+            Mode::Whole,
+            now,
+        )?;
+        cache_of(alloc, found)
+    }
+
+    /// Looks up the bytes that stand under a key, as they are, in the same way.
+    pub fn get_raw(
+        &mut self,
+        alloc: Global,
+        key: &Text,
+        now: u64,
+    ) -> Result<Option<ByteText>, NoMemory>
+        ensures keeps { Keeps self.old.held self.new.held }
+        ensures basedirs { self.new.basedirs ≡ self.old.basedirs }
+        ensures found { IfOk result (λ bytes. (found : Option Found) × LooksUp key.now Raw found (counted_of self.old) (counted_of self.new) × (bytes ≡ lookups.bytes_of found)) }
+    {
+        let _basedirs = self.basedirs.len();
+        let found = look_up(
+            alloc,
+            &mut self.levels,
+            &mut self.counters,
+            key,
+            Mode::Raw,
+            now,
+        )?;
+        Ok(bytes_of(found))
+    }
+
+    /// Puts an entry under a key at this moment: first at the levels that have to be written, in order, whose first refusal is
+    /// the answer, then at those that are written in the background, whatever comes of that. Where level 0 has to be written
+    /// and refuses, no other level is written. Each put is counted at its level.
+    pub fn put(
+        &mut self,
+        alloc: Global,
+        key: &Text,
+        entry: CacheWrite,
+        now: u64,
+    ) -> Result<Put, NoMemory>
+        ensures keeps { Keeps self.old.held self.new.held }
+        ensures basedirs { self.new.basedirs ≡ self.old.basedirs }
+        ensures wrote { IfOk result (λ answer. Puts key.now (spelling entry) answer (counted_of self.old) (counted_of self.new)) }
+    {
+        let bytes = ByteText::from_vec(entry.finish());
+        self.put_raw(alloc, key, bytes, now)
+    }
+
+    /// Puts bytes under a key as they are, in the same way.
+    pub fn put_raw(
+        &mut self,
+        alloc: Global,
+        key: &Text,
+        bytes: ByteText,
+        now: u64,
+    ) -> Result<Put, NoMemory>
+        ensures keeps { Keeps self.old.held self.new.held }
+        ensures basedirs { self.new.basedirs ≡ self.old.basedirs }
+        ensures wrote { IfOk result (λ answer. Puts key.now bytes answer (counted_of self.old) (counted_of self.new)) }
+    {
+        let _basedirs = self.basedirs.len();
+        putting::put(alloc, &mut self.levels, &mut self.counters, key, bytes, now)
+    }
+
     /// Finds out whether the levels can be read and written: they are checked in order, those that are off left out. The first
     /// refusal of a level that has to be written is the answer, and no later level is checked. Else they can be written where
     /// there are none, where one can, or where one refused that need not be written. Each level's mode is what was found.

@@ -1,6 +1,6 @@
 use crate::MultiLevelStorage;
 use sc_disk::MemDisk;
-use sc_entry::{ByteText, CacheMode, Items, Text};
+use sc_entry::{ByteText, CacheMode, Items};
 use sc_model::LevelPolicy;
 use sc_store::{Checked, Level, MemRemote, RemoteStorage};
 use std::alloc::Global;

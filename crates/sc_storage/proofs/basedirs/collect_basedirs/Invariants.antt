@@ -1,10 +1,13 @@
-use Rattle.std.proofs.Common.{◌≡◌, length}
+use Rattle.std.proofs.Common.{◌≡◌, ◌≤◌, ◌-◌, drop, length}
 use Rattle.sc_storage.specs.Basedirs.{basedirs_of, collect_all}
-use Rattle.sc_store.specs.Telling.{titles_of}
 use Rattle.sc_storage.proofs.basedirs.collect_basedirs.Given as goal
 
-abbrev pub invariant-loop-left : goal.invariant-loop-left
-invariant-loop-left g l = collect_all l.seen.items (titles_of l.left) ≡ basedirs_of (titles_of l.fn.levels)
+abbrev pub invariant-loop-level : goal.invariant-loop-level
+invariant-loop-level g l = record {
+  count : l.count ≡ length l.fn.levels.titles;
+  within : l.level ≤ l.count;
+  collected : collect_all l.seen.items (drop l.level l.fn.levels.titles) ≡ basedirs_of l.fn.levels.titles;
+}
 
-abbrev pub decreases-loop-left : goal.decreases-loop-left
-decreases-loop-left g l = length l.left
+abbrev pub decreases-loop-level : goal.decreases-loop-level
+decreases-loop-level g l = l.count - l.level

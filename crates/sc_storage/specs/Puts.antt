@@ -1,0 +1,114 @@
+-- Puts over levels, by the puts at each.
+use Rattle.std.specs.Prelude.{◌≡◌, ◌⊎◌, ◌+◌, ℕ, zero, suc, Bool, true, false, IsTrue, List, [], ◌∷◌, length, Some, None, slice_set}
+use Rattle.sc_disk_cache.specs.DiskStores.{DiskStore}
+use Rattle.sc_disk_cache.specs.Moving.{SameEntries}
+use Rattle.sc_entry.specs.Causes.{Rose}
+use Rattle.sc_entry.specs.Keys.{make_key_path}
+use Rattle.sc_model.specs.Machine.{counted_at}
+use Rattle.sc_model.specs.Plan.{handed_by, level_facts, note, plan, put_answer}
+use Rattle.sc_model.specs.Rows.{by_backfill, written_level_row}
+use Rattle.sc_model.specs.World.{Causes, Evicts_unless, IsRefused, Later, Level, causes, early_cause, put_file}
+use Rattle.sc_model.specs.declared.event.Written.{Written}
+use Rattle.sc_model.specs.declared.event.Written.TheVariants.{Done, Refused}
+use Rattle.sc_model.specs.declared.level.Cause.{Cause}
+use Rattle.sc_model.specs.declared.level.Cause.TheVariants.{FileTooLarge, Io, Reserved as NoRoom}
+use Rattle.sc_model.specs.declared.level.Handed.{Handed}
+use Rattle.sc_model.specs.declared.level.LevelKind.{LevelKind}
+use Rattle.sc_model.specs.declared.level.LevelKind.TheVariants.{Disk, Remote}
+use Rattle.sc_model.specs.declared.level.Policy.{Policy}
+use Rattle.sc_model.specs.declared.level.Put.{Put}
+use Rattle.sc_model.specs.declared.phase.Refusal.{Refusal}
+use Rattle.sc_model.specs.declared.phase.Refusal.TheVariants.{At, NoneYet}
+use Rattle.sc_storage.specs.Moving.{Counted}
+use Rattle.sc_store.specs.Asking.{AloneAt, PutCause, PutsAt}
+use Rattle.sc_store.specs.Held.{Held, disk_in, level_in}
+
+-- A put at a remote level. One that is refused for its mode or key calls nothing.
+pub record RemotePutAt (l : ℕ) (key bytes : List ℕ) (how : Written) (old new : Held) : Type 0 where
+  pub titles : new.titles ≡ old.titles
+  pub facts : new.facts ≡ old.facts
+  pub policy : new.policy ≡ old.policy
+  pub told : new.told ≡ old.told
+  pub rooms : new.rooms ≡ old.rooms
+  pub alone : new.levels ≡ slice_set old.levels l (level_in new.levels l)
+  pub later : Later (level_in old.levels l) (level_in new.levels l)
+  pub wrote : PutsAt l key bytes how old new
+  pub cause : PutCause (early_cause old.policy (level_facts old.facts l) key) how (level_in old.levels l) (level_in new.levels l)
+  pub early : (c : Cause) → early_cause old.policy (level_facts old.facts l) key ≡ Some c → new ≡ old
+
+-- A put at a disk level that tells what it holds: files are evicted until the entry fits, and it stands under its key. A
+-- refusal by the device may come behind evictions.
+abbrev pub PutsEntry : ℕ → Causes → ℕ → List ℕ → List ℕ → Written → Level → Level → Type 0
+PutsEntry capacity expected r key bytes Done v w =
+    (expected.all ≡ None)
+    × ((u : Level) × Evicts_unless expected.all capacity (r + length bytes) v u × (w.main ≡ put_file u.main (make_key_path key) bytes) × (w.pre ≡ u.pre))
+    × IsTrue (w.opened)
+PutsEntry capacity expected r key bytes (Refused Io) v w = (expected.early ≡ None) × Rose v.faults w.faults × Evicts_unless expected.all capacity (r + length bytes) v w
+PutsEntry capacity expected r key bytes (Refused c) v w = IsRefused Disk expected c v w
+
+-- A device that doesn't tell what it holds may say that the file is larger than what was put.
+abbrev pub MayOutgrow : Bool → Cause → Type 0
+MayOutgrow told FileTooLarge = told ≡ false
+MayOutgrow told NoRoom = told ≡ false
+MayOutgrow told c = ⊥
+
+-- Why a put at a disk level ended so, whether or not it tells what it holds.
+abbrev pub EntryCause : Bool → Causes → Written → Level → Level → Type 0
+EntryCause told expected Done v w = expected.all ≡ None
+EntryCause told expected (Refused Io) v w = (expected.early ≡ None) × Rose v.faults w.faults
+EntryCause told expected (Refused c) v w = (expected.all ≡ Some c) ⊎ ((expected.all ≡ None) × MayOutgrow told c)
+
+-- A put at a disk store. What was open before is open after it, and nothing else.
+pub record PutsDisk (policy : Policy) (key bytes : List ℕ) (how : Written) (old new : DiskStore) : Type 0 where
+  pub later : Later old.level new.level
+  pub entries : SameEntries old new
+  pub wrote : old.told ≡ true → PutsEntry old.facts.capacity (causes policy old.facts old.reserved key (length bytes)) old.reserved key bytes how old.level new.level
+  pub cause : EntryCause old.told (causes policy old.facts old.reserved key (length bytes)) how old.level new.level
+
+abbrev pub DiskPutAt : ℕ → List ℕ → List ℕ → Written → Held → Held → Type 0
+DiskPutAt l key bytes how old new = AloneAt l old new × PutsDisk old.policy key bytes how (disk_in old l) (disk_in new l)
+
+-- A put at one level, and at no other.
+abbrev pub PutAt : LevelKind → ℕ → List ℕ → List ℕ → Written → Held → Held → Type 0
+PutAt Remote l key bytes how old new = RemotePutAt l key bytes how old new
+PutAt Disk l key bytes how old new = DiskPutAt l key bytes how old new
+
+-- What it came to was counted there.
+pub record WritesAt (backfill : Bool) (l : ℕ) (key bytes : List ℕ) (how : Written) (old new : Counted) : Type 0 where
+  pub wrote : PutAt (level_facts old.held.facts l).kind l key bytes how old.held new.held
+  pub counters : new.counters ≡ counted_at (Some l) (written_level_row (by_backfill backfill 0) 0 how) old.counters
+
+-- the first refusal, after a put at one more level
+abbrev pub refusal_after : Written → ℕ → Refusal → Refusal
+refusal_after Done l refusal = refusal
+refusal_after (Refused c) l refusal = note refusal l c
+
+-- a refusal of level 0 ends the puts
+abbrev pub ends : Refusal → Bool
+ends NoneYet = false
+ends (At zero c) = true
+ends (At (suc l) c) = false
+
+abbrev pub GoesOn : Bool → Refusal → Refusal → Counted → Counted → Type 0 → Type 0
+GoesOn true refusal last between new rest = (last ≡ refusal) × (new ≡ between)
+GoesOn false refusal last between new rest = rest
+
+-- The entry is put at each of these levels in order; the first refusal is kept.
+abbrev pub WritesEach : List ℕ → List ℕ → List ℕ → Refusal → Refusal → Counted → Counted → Type 0
+WritesEach [] key bytes refusal last old new = (last ≡ refusal) × (new ≡ old)
+WritesEach (l ∷ ls) key bytes refusal last old new =
+    (how : Written) × (between : Counted) × WritesAt false l key bytes how old between
+    × GoesOn (ends (refusal_after how l refusal)) (refusal_after how l refusal) last between new (WritesEach ls key bytes (refusal_after how l refusal) last between new)
+
+-- Writes that were handed on are made in order, whatever they come to.
+abbrev pub WritesHanded : Bool → List Handed → Counted → Counted → Type 0
+WritesHanded backfill [] old new = new ≡ old
+WritesHanded backfill (h ∷ hs) old new =
+    (how : Written) × (between : Counted) × WritesAt backfill h.level h.key h.bytes how old between × WritesHanded backfill hs between new
+
+-- A put over levels: those that have to be written, which make the answer, then those whose writes are handed on.
+abbrev pub Puts : List ℕ → List ℕ → Put → Counted → Counted → Type 0
+Puts key bytes answer old new =
+    (refusal : Refusal) × (between : Counted) × WritesEach (plan old.held.policy old.held.facts) key bytes NoneYet refusal old between
+    × (answer ≡ put_answer old.held.policy old.held.facts refusal)
+    × WritesHanded false (handed_by old.held.policy old.held.facts (record { key = key; bytes = bytes; run = false }) refusal) between new
