@@ -10,8 +10,8 @@ use Rattle.sc_model.specs.declared.level.Policy.{Policy}
 use Rattle.sc_entry.specs.declared.cache_mode.CacheMode.{CacheMode}
 use Rattle.sc_entry.specs.declared.cache_mode.CacheMode.TheVariants.{ReadOnly, ReadWrite}
 use Rattle.sc_model.specs.declared.level.RemoteFault.{RemoteFault}
-use Rattle.sc_store.specs.Checking.{Checks, ChecksAt, ChecksLevel, ChecksRemote, Finds, Greets, Probes, ReadsCheck, WritesCheck, facts_after, refusal_of}
-use Rattle.sc_store.specs.Held.{AreWithin, Held, HeldLevel, IsWithin, Room, Title, all_tell, held_of, level_in, no_room, no_title, room_in, title_in}
+use Rattle.sc_store.specs.Checking.{Checks, ChecksAt, ChecksLevel, ChecksRemote, Finds, Greets, ReadsCheck, facts_after, refusal_of}
+use Rattle.sc_store.specs.Held.{AreWithin, Held, HeldLevel, IsWithin, Room, Title, held_of, level_in, no_room, no_title, room_in, title_in}
 use Rattle.sc_store.specs.declared.checked.Checked.{Checked}
 use Rattle.sc_store.proofs.Alone.{maps, new_at, one_tells, other_set, part_at, stays, tell_stays, within_stores}
 use Rattle.std.proofs.Common.{Option, None, Some}

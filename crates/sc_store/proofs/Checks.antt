@@ -1,5 +1,5 @@
 -- A check, which may be two calls of a device.
-use Rattle.std.proofs.Common.{◌≡◌, ℕ, zero, suc, ◌<◌, ◌≤◌, Bool, true, false, IsTrue, Option, None, Some, Result, IfOk, refl, arith, subst, sym, ap, ◌∙◌}
+use Rattle.std.proofs.Common.{◌≡◌, ℕ, zero, suc, ◌<◌, ◌≤◌, Bool, true, false, Option, None, Some, Result, IfOk, refl, arith, subst, sym, ◌∙◌}
 use Rattle.sc_entry.specs.Causes.{Rose}
 use Rattle.sc_entry.specs.declared.memory.NoMemory.{NoMemory}
 use Rattle.sc_model.specs.Devices.{Calls, Makes, MakesOn, is_listed}

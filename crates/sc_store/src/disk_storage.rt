@@ -142,7 +142,7 @@ impl<D: Disk> DiskStorage<D> {
 
 impl<D: Disk + Drop> DiskStorage<D> {
     /// Looks a key up, or tells the store's size.
-    pub(crate) fn ask(&mut self, key: &Text, mode: Mode, now: u64) -> Result<Answer, NoMemory>
+    pub fn ask(&mut self, key: &Text, mode: Mode, now: u64) -> Result<Answer, NoMemory>
         requires { mode ≢ Path }
         ensures title { self.new.title ≡ self.old.title }
         ensures steady { Steady (disk_of self.old) (disk_of self.new) }
@@ -154,7 +154,7 @@ impl<D: Disk + Drop> DiskStorage<D> {
     }
 
     /// Opens an entry for a key, of this size.
-    pub(crate) fn reserve(
+    pub fn reserve(
         &mut self,
         policy: &Policy,
         key: &Text,
@@ -174,11 +174,7 @@ impl<D: Disk + Drop> DiskStorage<D> {
     }
 
     /// Adds bytes behind those that an open entry was filled with. A refusal closes the entry, and so does want of memory.
-    pub(crate) fn fill(
-        &mut self,
-        entry: LruDiskCacheAddEntry,
-        bytes: &[u8],
-    ) -> Result<Filling, EntryError>
+    pub fn fill(&mut self, entry: LruDiskCacheAddEntry, bytes: &[u8]) -> Result<Filling, EntryError>
         ensures title { self.new.title ≡ self.old.title }
         ensures stays { Stays (disk_of self.old) (disk_of self.new) }
         ensures filled { IfOk result (λ how. IsOpenAt entry (disk_of self.old) × FillsBy entry bytes.now how (disk_of self.old) (disk_of self.new)) }
@@ -191,11 +187,7 @@ impl<D: Disk + Drop> DiskStorage<D> {
     }
 
     /// Puts an open entry's file in its key's place, and closes the entry, also by a refusal.
-    pub(crate) fn commit(
-        &mut self,
-        entry: LruDiskCacheAddEntry,
-        now: u64,
-    ) -> Result<Written, EntryError>
+    pub fn commit(&mut self, entry: LruDiskCacheAddEntry, now: u64) -> Result<Written, EntryError>
         ensures title { self.new.title ≡ self.old.title }
         ensures stays { Stays (disk_of self.old) (disk_of self.new) }
         ensures closed { IsOpenAt entry (disk_of self.old) → ClosesEntry entry.number (disk_of self.old) (disk_of self.new) }

@@ -151,7 +151,7 @@ impl<R: Remote, D: Disk> Level<R, D> {
 
 impl<R: Remote, D: Disk + Drop> Level<R, D> {
     /// Looks a key up, at this moment.
-    pub(crate) fn ask(
+    pub fn ask(
         &mut self,
         alloc: Global,
         key: &Text,
@@ -186,7 +186,7 @@ impl<R: Remote, D: Disk + Drop> Level<R, D> {
 
     /// Finds out whether its store can be read and written. The mode that was found holds from then on.
     #[tactic(auto, using(crate::proofs::Devices::later_same))]
-    pub(crate) fn check(&mut self, alloc: Global) -> Result<Checked, NoMemory>
+    pub fn check(&mut self, alloc: Global) -> Result<Checked, NoMemory>
         ensures title { (held_level self.new).title ≡ (held_level self.old).title }
         ensures facts { IfOk result (λ answer. (held_level self.new).facts ≡ facts_after (held_level self.old).facts answer) }
         ensures facts_stay { OnErr result ((held_level self.new).facts ≡ (held_level self.old).facts) }
@@ -209,7 +209,7 @@ impl<R: Remote, D: Disk + Drop> Level<R, D> {
     }
 
     /// Puts an entry under a key of a remote level.
-    pub(crate) fn put_step(
+    pub fn put_step(
         &mut self,
         alloc: Global,
         policy: &Policy,
@@ -237,7 +237,7 @@ impl<R: Remote, D: Disk + Drop> Level<R, D> {
     }
 
     /// Opens an entry for a key of a disk level, of this size.
-    pub(crate) fn reserve(
+    pub fn reserve(
         &mut self,
         policy: &Policy,
         key: &Text,
@@ -271,11 +271,7 @@ impl<R: Remote, D: Disk + Drop> Level<R, D> {
     }
 
     /// Adds bytes behind those that an open entry of a disk level was filled with. A refusal closes the entry.
-    pub(crate) fn fill(
-        &mut self,
-        entry: LruDiskCacheAddEntry,
-        bytes: &[u8],
-    ) -> Result<Filling, EntryError>
+    pub fn fill(&mut self, entry: LruDiskCacheAddEntry, bytes: &[u8]) -> Result<Filling, EntryError>
         requires { (held_level self.old).facts.kind ≡ IsDisk }
         ensures title { (held_level self.new).title ≡ (held_level self.old).title }
         ensures facts { (held_level self.new).facts ≡ (held_level self.old).facts }
@@ -302,11 +298,7 @@ impl<R: Remote, D: Disk + Drop> Level<R, D> {
     }
 
     /// Puts an open entry's file of a disk level in its key's place, and closes the entry, also by a refusal.
-    pub(crate) fn commit(
-        &mut self,
-        entry: LruDiskCacheAddEntry,
-        now: u64,
-    ) -> Result<Written, EntryError>
+    pub fn commit(&mut self, entry: LruDiskCacheAddEntry, now: u64) -> Result<Written, EntryError>
         requires { (held_level self.old).facts.kind ≡ IsDisk }
         ensures title { (held_level self.new).title ≡ (held_level self.old).title }
         ensures facts { (held_level self.new).facts ≡ (held_level self.old).facts }

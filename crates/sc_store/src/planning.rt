@@ -1,8 +1,7 @@
 //! Which levels a write goes to.
-ghost use Rattle.std.specs.Prelude.{◌≡◌, ◌&&◌, [], not, IfOk, length, take};
+ghost use Rattle.std.specs.Prelude.{◌≡◌, ◌&&◌, [], not, IfOk, take};
 ghost use Rattle.sc_model.specs.Plan as plans;
 ghost use Rattle.sc_model.specs.Script.{is_single as single};
-ghost use Rattle.sc_model.specs.declared.level.LevelPolicy.{LevelPolicy as PolicyType};
 ghost use Rattle.sc_store.specs.Levels.{held_level};
 ghost use Rattle.sc_store.specs.Planning.{facts_of, test_of};
 

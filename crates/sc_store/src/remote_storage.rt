@@ -265,7 +265,7 @@ impl<R: Remote> RemoteStorage<R> {
 
     /// Looks a key up. A bad key is found before the remote is called.
     #[tactic(auto, using(crate::proofs::Devices::later_same))]
-    pub(crate) fn ask(&mut self, alloc: Global, key: &Text, mode: Mode) -> Result<Answer, NoMemory>
+    pub fn ask(&mut self, alloc: Global, key: &Text, mode: Mode) -> Result<Answer, NoMemory>
         ensures title { self.new.title ≡ self.old.title }
         ensures facts { self.new.facts ≡ self.old.facts }
         ensures told { self.new.told ≡ self.old.told }
@@ -290,7 +290,7 @@ impl<R: Remote> RemoteStorage<R> {
 
     /// Puts an entry under a key. The mode of a single store and then the key are looked at before the remote is called.
     #[tactic(auto, using(crate::proofs::Devices::later_same))]
-    pub(crate) fn put_step(
+    pub fn put_step(
         &mut self,
         alloc: Global,
         policy: &Policy,
@@ -395,7 +395,7 @@ impl<R: Remote> RemoteStorage<R> {
 
     /// Finds out whether the store can be read, and whether it can be written. The mode that was found holds from then on.
     #[tactic(auto, using(crate::proofs::Devices::later_same))]
-    pub(crate) fn check(&mut self, alloc: Global) -> Result<Checked, NoMemory>
+    pub fn check(&mut self, alloc: Global) -> Result<Checked, NoMemory>
         ensures title { self.new.title ≡ self.old.title }
         ensures facts { IfOk result (λ answer. self.new.facts ≡ checking.facts_after self.old.facts answer) }
         ensures facts_stay { OnErr result (self.new.facts ≡ self.old.facts) }

@@ -1,8 +1,6 @@
 //! What a daemon's store tells of itself.
-ghost use Rattle.std.specs.Prelude.{◌≡◌, ◌++◌, codes, decimal, string_bytes, IfOk};
+ghost use Rattle.std.specs.Prelude.{◌≡◌, ◌++◌, codes, decimal, IfOk};
 ghost use Rattle.sc_model.specs.Follows as sizes;
-ghost use Rattle.sc_model.specs.Plan.{reads_only};
-ghost use Rattle.sc_model.specs.Script.{is_single as single};
 ghost use Rattle.sc_stats.specs.Sums.{no_level_stats};
 ghost use Rattle.sc_store.specs.Levels.{held_level};
 ghost use Rattle.sc_store.specs.Planning.{facts_of};

@@ -1,4 +1,4 @@
-use Rattle.std.proofs.Common.{rules, ap, sym, ◌∙◌}
+use Rattle.std.proofs.Common.{ap, sym, ◌∙◌}
 use Rattle.sc_store.specs.Held.{HeldLevel}
 use Rattle.sc_store.specs.declared.checked.Checked.TheVariants.{Mode}
 use Rattle.sc_store.proofs.Checks.{checks_probed}

@@ -1,4 +1,3 @@
-use Rattle.std.proofs.Common.{rules}
 use Rattle.sc_store.proofs.Checks.{probes}
 use Rattle.sc_store.proofs.remote_storage.RemoteStorage.probe.Goals as goal
 
