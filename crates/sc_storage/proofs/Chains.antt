@@ -1,5 +1,5 @@
 -- Lookups and puts over levels, level by level.
-use Rattle.std.proofs.Common.{◌≡◌, ℕ, suc, ◌-◌, ◌<◌, Bool, List, Option, Some, None, arith, refl, subst, sym, ◌∙◌}
+use Rattle.std.proofs.Common.{◌≡◌, ℕ, suc, ◌-◌, ◌<◌, Bool, List, Option, Some, None, refl, subst, sym, ◌∙◌}
 use Rattle.sc_entry.specs.Entries.{objects}
 use Rattle.sc_entry.specs.declared.object.Object.{Object}
 use Rattle.sc_model.specs.World.{Spells}
@@ -13,6 +13,7 @@ use Rattle.sc_model.specs.World.{Level}
 use Rattle.sc_storage.specs.Lookups.{FindsFrom, FoundOr, IsSpelled, LooksAt, hit_in}
 use Rattle.sc_storage.specs.Moving.{Counted, Keeps}
 use Rattle.sc_storage.specs.declared.lookup.Hit.{Hit}
+use Rattle.sc_storage.proofs.Turns.{one_less}
 use Rattle.sc_store.specs.Asking.{CauseBy}
 use Rattle.sc_store.specs.Held.{Held}
 
@@ -27,9 +28,6 @@ keeps_then a b c s t = record {
   entries = λ l number. t.entries l number ∙ s.entries l number;
 }
 
-one_less : (count l : ℕ) → l < count → count - l ≡ suc (count - suc l)
-one_less count l h = omega (arith, h)
-
 -- a level's lookup before those that are left
 pub turn : (count l next : ℕ) (key : List ℕ) (mode : Mode) (answer : Answer) (hit found : Option Hit) (old between new : Counted) → l < count → next ≡ suc l → hit ≡ hit_in l answer → LooksAt l key mode answer old between
     → FoundOr hit found between new (FindsFrom (count - next) next key mode found between new) → FindsFrom (count - l) l key mode found old new
@@ -43,7 +41,7 @@ spelled : (o : Option (List Object)) → Spells o → (held : List Object) × (o
 spelled (Some held) h = (held, refl)
 spelled None h = absurd h
 
-spelled_at : (kind : LevelKind) (bytes key : List ℕ) (mark : Bool) (v w : Level) → CauseBy kind Whole (AnswersHit bytes mark) key v w → (held : List Object) × (objects bytes ≡ Some held)
+pub spelled_at : (kind : LevelKind) (bytes key : List ℕ) (mark : Bool) (v w : Level) → CauseBy kind Whole (AnswersHit bytes mark) key v w → (held : List Object) × (objects bytes ≡ Some held)
 spelled_at Disk bytes key mark v w cause = spelled (objects bytes) cause.1
 spelled_at Remote bytes key mark v w cause = spelled (objects bytes) cause.1
 

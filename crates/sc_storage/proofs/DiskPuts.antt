@@ -73,15 +73,20 @@ pub record Opened (policy : Policy) (key : List ℕ) (size : ℕ) (e : AddEntry)
   pub opens : Opens (entry_path key) size e s t
   pub free : (causes policy s.facts s.reserved key size).all ≡ None
 
+pub opened_by : (policy : Policy) (key : List ℕ) (size : ℕ) (how : Reservation) (e : AddEntry) (s t : DiskStore) → how ≡ Open e → Later s.level t.level → t.told ≡ s.told → ReservesDisk policy key size how s t → OpensBy (entry_path key) size how s t
+    → ReserveCause (causes policy s.facts s.reserved key size) how s.level t.level → Opened policy key size e s t
+opened_by policy key size how e s t is later told moved opens cause = record {
+  later = later;
+  told = told;
+  reserves = λ tells. subst (λ (x : Reservation). Reserves s.facts.capacity (causes policy s.facts s.reserved key size) s.reserved size (reserved_of x) s.level t.level) is (moved tells);
+  opens = subst (λ (x : Reservation). OpensBy (entry_path key) size x s t) is opens;
+  free = subst (λ (x : Reservation). ReserveCause (causes policy s.facts s.reserved key size) x s.level t.level) is cause;
+}
+
+-- one level of several
 pub was_opened : (l : ℕ) (a b : Held) (key : List ℕ) (size : ℕ) (how : Reservation) (e : AddEntry) → how ≡ Open e → AloneAt l a b → Later (level_in a.levels l) (level_in b.levels l) → ReservesDisk a.policy key size how (disk_in a l) (disk_in b l)
     → OpensBy (entry_path key) size how (disk_in a l) (disk_in b l) → ReserveCause (causes a.policy (level_facts a.facts l) (room_in a.rooms l).reserved key size) how (level_in a.levels l) (level_in b.levels l) → Opened a.policy key size e (disk_in a l) (disk_in b l)
-was_opened l a b key size how e is alone later moved opens cause = record {
-  later = later;
-  told = alone.told;
-  reserves = λ told. subst (λ (x : Reservation). Reserves (disk_in a l).facts.capacity (causes a.policy (disk_in a l).facts (disk_in a l).reserved key size) (disk_in a l).reserved size (reserved_of x) (disk_in a l).level (disk_in b l).level) is (moved told);
-  opens = subst (λ (x : Reservation). OpensBy (entry_path key) size x (disk_in a l) (disk_in b l)) is opens;
-  free = subst (λ (x : Reservation). ReserveCause (causes a.policy (level_facts a.facts l) (room_in a.rooms l).reserved key size) x (level_in a.levels l) (level_in b.levels l)) is cause;
-}
+was_opened l a b key size how e is alone later moved opens cause = opened_by a.policy key size how e (disk_in a l) (disk_in b l) is later alone.told moved opens cause
 
 -- what it is once it was filled
 abbrev pub filled : List ℕ → ℕ → List ℕ → OpenEntry

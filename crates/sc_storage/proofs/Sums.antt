@@ -1,9 +1,10 @@
 -- What levels take, level by level.
-use Rattle.std.proofs.Common.{◌≡◌, ℕ, suc, ◌-◌, ◌<◌, ap, arith, subst, sym, ◌∙◌}
+use Rattle.std.proofs.Common.{◌≡◌, ℕ, suc, ◌-◌, ◌<◌, ap, subst, sym, ◌∙◌}
 use Rattle.sc_model.specs.Plan.{level_facts}
 use Rattle.sc_model.specs.World.{Level, level_size}
 use Rattle.sc_model.specs.declared.level.LevelFacts.{LevelFacts}
 use Rattle.sc_stats.specs.Sums.{sat}
+use Rattle.sc_storage.proofs.Turns.{one_less}
 use Rattle.sc_storage.specs.Sizes.{size_in, sizes_onto}
 use Rattle.sc_store.specs.Held.{Held, HeldLevel, Room, level_in, room_in}
 use Rattle.sc_store.specs.Telling.{known}
@@ -12,9 +13,6 @@ pub size_at : (h : Held) (l x : ℕ) (seen : HeldLevel) → seen.facts ≡ level
 size_at h l x seen facts level room is =
     is ∙ ap (λ (f : LevelFacts). known (level_size f.kind seen.level seen.room.reserved)) facts ∙ ap (λ (v : Level). known (level_size (level_facts h.facts l).kind v seen.room.reserved)) level
     ∙ ap (λ (r : Room). known (level_size (level_facts h.facts l).kind (level_in h.levels l) r.reserved)) room
-
-one_less : (count l : ℕ) → l < count → count - l ≡ suc (count - suc l)
-one_less count l h = omega (arith, h)
 
 pub next_sum : (h : Held) (count l next sum x new s : ℕ) → l < count → next ≡ suc l → new ≡ sat sum x → x ≡ known (size_in h l) → sizes_onto (count - l) l sum h ≡ s → sizes_onto (count - next) next new h ≡ s
 next_sum h count l next sum x new s less after is size all =

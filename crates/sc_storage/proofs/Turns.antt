@@ -6,7 +6,7 @@ use Rattle.sc_storage.specs.declared.checking.Step.{Step}
 use Rattle.sc_store.specs.Held.{Held}
 use Rattle.sc_store.specs.declared.checked.Checked.{Checked}
 
-one_less : (count l : ℕ) → l < count → count - l ≡ suc (count - suc l)
+pub one_less : (count l : ℕ) → l < count → count - l ≡ suc (count - suc l)
 one_less count l h = omega (arith, h)
 
 -- a turn before those that are left

@@ -2,6 +2,8 @@ pub mod Basedirs
 pub mod Checks
 pub mod Lookups
 pub mod Moving
+pub mod Preprocessor
 pub mod Puts
 pub mod Sizes
+pub mod Storages
 pub mod Stores

@@ -16,7 +16,7 @@ use Rattle.sc_model.specs.declared.level.Handed.{Handed}
 use Rattle.sc_storage.specs.Moving.{Counted}
 use Rattle.sc_storage.specs.Puts.{WritesHanded}
 use Rattle.sc_storage.specs.declared.lookup.Hit.{Hit}
-use Rattle.sc_store.specs.Asking.{AsksAt, CauseBy}
+use Rattle.sc_store.specs.Asking.{AsksAt, CauseBy, reads_key}
 use Rattle.sc_store.specs.Held.{Held, level_in}
 
 -- One level was asked, and no other.
@@ -30,7 +30,7 @@ pub record AskedAt (l : ℕ) (key : List ℕ) (mode : Mode) (answer : Answer) (o
   pub later : Later (level_in old.levels l) (level_in new.levels l)
   pub asked : AsksAt l key mode answer old new
   pub cause : CauseBy (level_facts old.facts l).kind mode answer key (level_in old.levels l) (level_in new.levels l)
-  pub bad_key : is_store_key key ≡ false → new ≡ old
+  pub bad_key : reads_key mode ≡ true → is_store_key key ≡ false → new ≡ old
 
 -- What it answered was counted there. All of a call is at one moment, so that nothing takes time.
 pub record LooksAt (l : ℕ) (key : List ℕ) (mode : Mode) (answer : Answer) (old new : Counted) : Type 0 where
@@ -65,10 +65,18 @@ abbrev pub LooksUp : List ℕ → Mode → Option Hit → Counted → Counted �
 LooksUp key mode found old new =
     (between : Counted) × Finds key mode found old between × WritesHanded true (handed_for between.held key mode found) between new
 
+-- bytes that spell an entry
+abbrev pub AreSpelled : List ℕ → Type 0
+AreSpelled bytes = (held : List Object) × (objects bytes ≡ Some held)
+
+-- as the entry that they spell
+abbrev pub IsEntry : List ℕ → Cache → Type 0
+IsEntry bytes cache = (held : List Object) × (objects bytes ≡ Some held) × (cache ≡ HitIs held)
+
 -- a hit's bytes spell an entry
 abbrev pub IsSpelled : Option Hit → Type 0
 IsSpelled None = Unit {0}
-IsSpelled (Some hit) = (held : List Object) × (objects hit.bytes ≡ Some held)
+IsSpelled (Some hit) = AreSpelled hit.bytes
 
 -- its bytes
 abbrev pub bytes_of : Option Hit → Option (List ℕ)
@@ -78,4 +86,4 @@ bytes_of (Some hit) = Some hit.bytes
 -- a hit as the entry that its bytes spell
 abbrev pub IsCache : Option Hit → Cache → Type 0
 IsCache None cache = cache ≡ MissIs
-IsCache (Some hit) cache = (held : List Object) × (objects hit.bytes ≡ Some held) × (cache ≡ HitIs held)
+IsCache (Some hit) cache = IsEntry hit.bytes cache

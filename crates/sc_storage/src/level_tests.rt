@@ -2,7 +2,7 @@
 use crate::MultiLevelStorage;
 use sc_disk::MemDisk;
 use sc_entry::{ByteText, Cache, CacheMode, CacheWrite, Calls, Items, Text};
-use sc_model::{LevelPolicy, Put};
+use sc_model::{Answer, LevelPolicy, Mode, Put};
 use sc_stats::LevelStats;
 use sc_store::{DiskCache, DiskStorage, Level, MemRemote, RemoteStorage};
 use sc_store_config::{DiskConfig, StoreConfig, WriteErrorPolicy};
@@ -10,9 +10,9 @@ use std::alloc::Global;
 use std::collections::BTreeMap;
 use std::test::Fail;
 
-type Storage = MultiLevelStorage<MemRemote, MemDisk>;
+pub(crate) type Storage = MultiLevelStorage<MemRemote, MemDisk>;
 
-type OneLevel = Level<MemRemote, MemDisk>;
+pub(crate) type OneLevel = Level<MemRemote, MemDisk>;
 
 const RW: CacheMode = CacheMode::ReadWrite;
 
@@ -21,7 +21,7 @@ const REQUIRED: LevelPolicy = LevelPolicy::Required;
 const BACKGROUND: LevelPolicy = LevelPolicy::Background;
 
 /// A remote level that holds these bytes under `abc`, if there are any.
-fn remote(alloc: Global, held: &[u8]) -> Result<OneLevel, Fail> {
+pub(crate) fn remote(alloc: Global, held: &[u8]) -> Result<OneLevel, Fail> {
     let mut files = Items::new(alloc);
     if !held.is_empty() {
         let path = Text::from_str(alloc, "a/b/c/abc")?;
@@ -32,7 +32,7 @@ fn remote(alloc: Global, held: &[u8]) -> Result<OneLevel, Fail> {
 }
 
 /// An empty disk in memory, which refuses the call of this number.
-fn disk(alloc: Global, root: &[u8], fails: u64) -> Result<MemDisk, Fail> {
+pub(crate) fn disk(alloc: Global, root: &[u8], fails: u64) -> Result<MemDisk, Fail> {
     let failing = Items::from_vec(vec![in alloc; fails]?);
     let calls = Calls::failing_at(alloc, failing)?;
     Ok(MemDisk::new(
@@ -44,7 +44,7 @@ fn disk(alloc: Global, root: &[u8], fails: u64) -> Result<MemDisk, Fail> {
 }
 
 /// A disk level of 100 bytes, whose main disk refuses the call of this number.
-fn disk_level(alloc: Global, fails: u64, mode: CacheMode) -> Result<OneLevel, Fail> {
+pub(crate) fn disk_level(alloc: Global, fails: u64, mode: CacheMode) -> Result<OneLevel, Fail> {
     let main = disk(alloc, b"/0", fails)?;
     let pre = disk(alloc, b"/0p", 0)?;
     let cache = DiskCache::new(alloc, main, pre, 100, mode);
@@ -52,7 +52,7 @@ fn disk_level(alloc: Global, fails: u64, mode: CacheMode) -> Result<OneLevel, Fa
 }
 
 /// These levels, with these policies.
-fn storage(
+pub(crate) fn storage(
     alloc: Global,
     levels: Vec<OneLevel>,
     policies: &[LevelPolicy],
@@ -112,6 +112,48 @@ fn hit_is_put_at_the_levels_before_it(rt: HostRuntime) -> Result<(), Fail> {
     assert_eq!(rt; counted(alloc, store.stats(), 0)?.as_str(), "1 1 1 0 0 1");
     assert_eq!(rt; counted(alloc, store.stats(), 1)?.as_str(), "0 1 1 0 0 1");
     assert_eq!(rt; counted(alloc, store.stats(), 2)?.as_str(), "1 0 0 0 2 0");
+    Ok(())
+}
+
+/// Asks a level for the bytes under `abc`, and says whether it has them.
+fn looks_up(alloc: Global, store: &mut Storage, level: usize) -> Result<bool, Fail> {
+    if level >= store.levels().len() {
+        return Err(Fail::new("no such level"));
+    }
+    let key = Text::from_str(alloc, "abc")?;
+    match store.lookup_step(alloc, level, &key, Mode::Raw, 1)? {
+        Answer::Hit(_, _) => Ok(true),
+        _ => Ok(false),
+    }
+}
+
+/// Puts bytes under `abc` at a level, as a put or as a hit's.
+fn write(alloc: Global, store: &mut Storage, level: usize, backfill: bool) -> Result<(), Fail> {
+    if level >= store.levels().len() {
+        return Err(Fail::new("no such level"));
+    }
+    let key = Text::from_str(alloc, "abc")?;
+    let bytes = ByteText::from_slice(alloc, b"AAA")?;
+    if backfill {
+        store.backfill_step(alloc, level as u64, &key, &bytes, 1)?;
+    } else {
+        store.put_step(alloc, level as u64, &key, &bytes, 1)?;
+    }
+    Ok(())
+}
+
+#[test]
+fn single_steps_touch_one_level(rt: HostRuntime) -> Result<(), Fail> {
+    let alloc = rt.alloc();
+    let mut levels = vec![in alloc; remote(alloc, b"")?]?;
+    levels.push(remote(alloc, b"AAA")?)?;
+    let mut store = Storage::new(alloc, levels)?;
+    assert!(rt; !looks_up(alloc, &mut store, 0)?);
+    assert!(rt; looks_up(alloc, &mut store, 1)?);
+    write(alloc, &mut store, 0, true)?;
+    write(alloc, &mut store, 1, false)?;
+    assert_eq!(rt; counted(alloc, store.stats(), 0)?.as_str(), "0 1 0 0 0 1");
+    assert_eq!(rt; counted(alloc, store.stats(), 1)?.as_str(), "1 0 1 0 1 0");
     Ok(())
 }
 

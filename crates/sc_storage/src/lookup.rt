@@ -10,7 +10,7 @@ ghost use Rattle.sc_store.specs.Asking.{reads_key};
 use crate::counting::count_asked;
 use crate::putting::write_handed;
 use sc_disk::Disk;
-use sc_entry::{ByteText, Items, NoMemory, Text};
+use sc_entry::{ByteText, Cache, CacheRead, Items, NoMemory, ReadEntryError, Text};
 use sc_model::{Answer, Handed, Mode};
 use sc_stats::LevelStats;
 use sc_store::{Levels, Remote};
@@ -25,7 +25,7 @@ pub(crate) struct Hit {
 }
 
 /// Looks a key up at one level, and at no other, and counts there what it answers.
-fn ask_level<R: Remote, D: Disk + Drop>(
+pub(crate) fn ask_level<R: Remote, D: Disk + Drop>(
     alloc: Global,
     levels: &mut Levels<R, D>,
     counters: &mut [LevelStats],
@@ -81,6 +81,18 @@ fn find<R: Remote, D: Disk + Drop>(
         level += 1;
     }
     Ok(None)
+}
+
+/// Bytes as the entry that they spell.
+pub(crate) fn entry_of(alloc: Global, bytes: ByteText) -> Result<Cache, NoMemory>
+    requires { lookups.AreSpelled bytes }
+    ensures { IfOk result (λ cache. lookups.IsEntry bytes cache) }
+{
+    match CacheRead::from(alloc, bytes) {
+        Ok(entry) => Ok(Cache::Hit(entry)),
+        Err(ReadEntryError::NoMemory) => Err(NoMemory),
+        Err(ReadEntryError::BadEntry) => unreachable!(),
+    }
 }
 
 /// The writes that a hit hands on.

@@ -1,5 +1,5 @@
 //! Levels as one store.
-ghost use Rattle.std.specs.Prelude.{◌≡◌, false, true, IfErr, IfOk, Option, length};
+ghost use Rattle.std.specs.Prelude.{◌≡◌, ◌<◌, false, true, IfErr, IfOk, Option, length};
 ghost use Rattle.sc_model.specs.declared.level.Policy.TheVariants.{Levels as ByLevel};
 ghost use Rattle.sc_storage.specs.Basedirs.{basedirs_of};
 ghost use Rattle.sc_entry.specs.Entries.{entry as spelling};
@@ -8,12 +8,14 @@ ghost use Rattle.sc_model.specs.Script.{is_single};
 ghost use Rattle.sc_model.specs.declared.event.Mode.TheVariants.{Raw, Whole};
 ghost use Rattle.sc_storage.specs.Checks.{ChecksAll, Stays};
 ghost use Rattle.sc_storage.specs.Lookups as lookups;
-ghost use Rattle.sc_storage.specs.Lookups.{IsCache, IsSpelled, LooksUp};
+ghost use Rattle.sc_storage.specs.Lookups.{IsCache, IsSpelled, LooksAt, LooksUp};
 ghost use Rattle.sc_storage.specs.declared.lookup.Hit.{Hit as Found};
 ghost use Rattle.sc_storage.specs.Moving.{Keeps};
-ghost use Rattle.sc_storage.specs.Puts.{Puts};
+ghost use Rattle.sc_storage.specs.Preprocessor.{AsksEach};
+ghost use Rattle.sc_storage.specs.Puts.{Puts, WritesAt};
 ghost use Rattle.sc_storage.specs.Sizes.{size_sum};
 ghost use Rattle.sc_storage.specs.Stores.{IsChain, IsNew, counted_of, first_flag};
+ghost use Rattle.sc_store.specs.Asking.{reads_key};
 ghost use Rattle.sc_store.specs.Levels.{held_levels};
 ghost use Rattle.sc_store.specs.Telling.{new_counters, store_location, store_max, store_mode, store_type};
 ghost use Rattle.sc_store_config.specs.Configs.{IsCause, disk_as, remote_as, store_of};
@@ -21,13 +23,11 @@ ghost use Rattle.sc_store_config.specs.Policies.{setting_policies};
 ghost use Rattle.sc_store_config.specs.declared.write_error_policy.WriteErrorPolicy.TheVariants as settings;
 
 use crate::basedirs::collect_basedirs;
-use crate::lookup::{Hit, look_up};
-use crate::{checking, putting, sizes};
+use crate::lookup::{Hit, ask_level, entry_of, look_up};
+use crate::{checking, preprocessor, putting, sizes};
 use sc_disk::Disk;
-use sc_entry::{
-    ByteText, Cache, CacheMode, CacheRead, CacheWrite, Items, NoMemory, ReadEntryError, Text,
-};
-use sc_model::{LevelPolicy, Mode, Policy, Put};
+use sc_entry::{ByteText, Cache, CacheMode, CacheWrite, Items, NoMemory, Text};
+use sc_model::{Answer, LevelPolicy, Mode, Policy, Put, Written};
 use sc_stats::LevelStats;
 use sc_store::{Checked, Level, Levels, Remote};
 use sc_store_config::{ConfigError, StoreConfig, WriteErrorPolicy, storage_from_config};
@@ -217,11 +217,7 @@ fn cache_of(alloc: Global, found: Option<Hit>) -> Result<Cache, NoMemory>
     let Some(hit) = found else {
         return Ok(Cache::Miss);
     };
-    match CacheRead::from(alloc, hit.bytes) {
-        Ok(entry) => Ok(Cache::Hit(entry)),
-        Err(ReadEntryError::NoMemory) => Err(NoMemory),
-        Err(ReadEntryError::BadEntry) => unreachable!(),
-    }
+    entry_of(alloc, hit.bytes)
 }
 
 impl<R: Remote, D: Disk + Drop> MultiLevelStorage<R, D> {
@@ -266,6 +262,112 @@ impl<R: Remote, D: Disk + Drop> MultiLevelStorage<R, D> {
             now,
         )?;
         Ok(bytes_of(found))
+    }
+
+    /// Looks a key up at one level, and at no other: a single action of a lookup. Its answer is counted there.
+    pub fn lookup_step(
+        &mut self,
+        alloc: Global,
+        level: usize,
+        key: &Text,
+        mode: Mode,
+        now: u64,
+    ) -> Result<Answer, NoMemory>
+        requires level { level < length self.old.held.levels }
+        requires mode { reads_key mode ≡ true }
+        ensures keeps { Keeps self.old.held self.new.held }
+        ensures basedirs { self.new.basedirs ≡ self.old.basedirs }
+        ensures looked { IfOk result (λ answer. LooksAt level key.now mode answer (counted_of self.old) (counted_of self.new)) }
+    {
+        let _basedirs = self.basedirs.len();
+        ask_level(
+            alloc,
+            &mut self.levels,
+            &mut self.counters,
+            level,
+            key,
+            mode,
+            now,
+        )
+    }
+
+    /// Puts bytes at one level, and at no other: a single action of a put. What it came to is counted there.
+    pub fn put_step(
+        &mut self,
+        alloc: Global,
+        level: u64,
+        key: &Text,
+        bytes: &ByteText,
+        now: u64,
+    ) -> Result<Written, NoMemory>
+        requires { level < length self.old.held.levels }
+        ensures keeps { Keeps self.old.held self.new.held }
+        ensures basedirs { self.new.basedirs ≡ self.old.basedirs }
+        ensures wrote { IfOk result (λ how. WritesAt false level key.now bytes.now how (counted_of self.old) (counted_of self.new)) }
+    {
+        self.write_step(alloc, false, level, key, bytes, now)
+    }
+
+    /// Puts a hit's bytes at one level, and at no other: a single action of a lookup. What it came to is counted there.
+    pub fn backfill_step(
+        &mut self,
+        alloc: Global,
+        level: u64,
+        key: &Text,
+        bytes: &ByteText,
+        now: u64,
+    ) -> Result<Written, NoMemory>
+        requires { level < length self.old.held.levels }
+        ensures keeps { Keeps self.old.held self.new.held }
+        ensures basedirs { self.new.basedirs ≡ self.old.basedirs }
+        ensures wrote { IfOk result (λ how. WritesAt true level key.now bytes.now how (counted_of self.old) (counted_of self.new)) }
+    {
+        self.write_step(alloc, true, level, key, bytes, now)
+    }
+
+    fn write_step(
+        &mut self,
+        alloc: Global,
+        backfill: bool,
+        level: u64,
+        key: &Text,
+        bytes: &ByteText,
+        now: u64,
+    ) -> Result<Written, NoMemory>
+        requires { level < length self.old.held.levels }
+        ensures keeps { Keeps self.old.held self.new.held }
+        ensures basedirs { self.new.basedirs ≡ self.old.basedirs }
+        ensures wrote { IfOk result (λ how. WritesAt backfill level key.now bytes.now how (counted_of self.old) (counted_of self.new)) }
+    {
+        let _basedirs = self.basedirs.len();
+        putting::write_level(
+            alloc,
+            &mut self.levels,
+            &mut self.counters,
+            backfill,
+            level,
+            key,
+            bytes,
+            false,
+            now,
+        )
+    }
+
+    /// Asks the levels in order for an entry of the preprocessor, until one finds it or refuses. Nothing is counted.
+    pub(crate) fn ask_preprocessor(
+        &mut self,
+        alloc: Global,
+        key: &Text,
+        now: u64,
+    ) -> Result<Answer, NoMemory>
+        ensures keeps { Keeps self.old.held self.new.held }
+        ensures counters { self.new.counters ≡ self.old.counters }
+        ensures basedirs { self.new.basedirs ≡ self.old.basedirs }
+        ensures asked { IfOk result (λ answer. AsksEach key.now answer self.old.held self.new.held) }
+    {
+        let _counters = self.counters.len();
+        let _basedirs = self.basedirs.len();
+        preprocessor::ask_each(alloc, &mut self.levels, key, now)
     }
 
     /// Puts an entry under a key at this moment: first at the levels that have to be written, in order, whose first refusal is

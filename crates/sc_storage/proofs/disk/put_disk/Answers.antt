@@ -1,0 +1,71 @@
+use Rattle.std.proofs.Common.{subst, ◌∙◌}
+use Rattle.sc_disk_cache.specs.Entries.{FillsBy}
+use Rattle.sc_disk_cache.specs.declared.filling.Filling.{Filling}
+use Rattle.sc_disk_cache.specs.declared.filling.Filling.TheVariants.{Filled, Refused}
+use Rattle.sc_model.specs.declared.level.Policy.TheVariants.{Single}
+use Rattle.sc_storage.proofs.DiskPuts.{Opened, closed_again, if_both, opened_by, refused_fill, still_open, was_put}
+use Rattle.sc_store.specs.Held.{disk_of}
+use Rattle.sc_storage.proofs.disk.put_disk.Goals as goal
+
+pub returns-in-Refused-2-clause-wrote : goal.returns-in-Refused-2-clause-wrote
+returns-in-Refused-2-clause-wrote g c =
+    let key = c.args.key.now in
+    let bytes = c.args.bytes.now in
+    let old = disk_of c.args.store.now in
+    let mid = disk_of c.reserve.new.self in
+    let new = disk_of c.fill.new.store in
+    let r = c.in_ok-entry.ensures in
+    let o : Opened Single key c.len.result c.in-Open.entry old mid = opened_by Single key c.len.result c.in_ok-entry.field-0 c.in-Open.entry old mid c.in-Open.is r.stays.later r.stays.told r.moved r.entry r.cause in
+    let f = c.in_ok-entry-2.ensures in
+    let fills : FillsBy c.in-Open.entry bytes (Refused c.in-Refused-2.cause) mid new = subst (λ (x : Filling). FillsBy c.in-Open.entry bytes x mid new) c.in-Refused-2.is f.filled in
+    refused_fill Single key c.len.result c.in-Open.entry bytes c.in-Refused-2.cause old mid new c.len.ensures o f.stays.later fills
+
+pub commit-requires : goal.commit-requires
+commit-requires g c =
+    let key = c.args.key.now in
+    let bytes = c.args.bytes.now in
+    let old = disk_of c.args.store.now in
+    let mid = disk_of c.reserve.new.self in
+    let new = disk_of c.fill.new.store in
+    let r = c.in_ok-entry.ensures in
+    let o : Opened Single key c.len.result c.in-Open.entry old mid = opened_by Single key c.len.result c.in_ok-entry.field-0 c.in-Open.entry old mid c.in-Open.is r.stays.later r.stays.told r.moved r.entry r.cause in
+    let f = c.in_ok-entry-2.ensures in
+    let fills : FillsBy c.in-Open.entry bytes (Filled c.in-Filled.entry) mid new = subst (λ (x : Filling). FillsBy c.in-Open.entry bytes x mid new) c.in-Filled.is f.filled in
+    still_open Single key c.len.result c.in-Open.entry c.in-Filled.entry bytes old mid new o fills
+
+pub returns-clause-keeps : goal.returns-clause-keeps
+returns-clause-keeps g c =
+    let key = c.args.key.now in
+    let bytes = c.args.bytes.now in
+    let old = disk_of c.args.store.now in
+    let mid = disk_of c.reserve.new.self in
+    let next = disk_of c.fill.new.store in
+    let new = disk_of c.commit.new.store in
+    let r = c.in_ok-entry.ensures in
+    let o : Opened Single key c.len.result c.in-Open.entry old mid = opened_by Single key c.len.result c.in_ok-entry.field-0 c.in-Open.entry old mid c.in-Open.is r.stays.later r.stays.told r.moved r.entry r.cause in
+    let f = c.in_ok-entry-2.ensures in
+    let fills : FillsBy c.in-Open.entry bytes (Filled c.in-Filled.entry) mid next = subst (λ (x : Filling). FillsBy c.in-Open.entry bytes x mid next) c.in-Filled.is f.filled in
+    let e = c.commit.ensures in
+    let same = closed_again Single key c.len.result c.in-Open.entry c.in-Filled.entry bytes old mid next new o fills e.closed in
+    record {
+      title = e.title ∙ f.title ∙ r.title;
+      facts = e.stays.facts ∙ f.stays.facts ∙ r.stays.facts;
+      told = e.stays.told ∙ f.stays.told ∙ r.stays.told;
+      reserved = same.reserved;
+      entries = same.entries;
+    }
+
+pub returns-clause-wrote : goal.returns-clause-wrote
+returns-clause-wrote g c =
+    let key = c.args.key.now in
+    let bytes = c.args.bytes.now in
+    let old = disk_of c.args.store.now in
+    let mid = disk_of c.reserve.new.self in
+    let next = disk_of c.fill.new.store in
+    let new = disk_of c.commit.new.store in
+    let r = c.in_ok-entry.ensures in
+    let o : Opened Single key c.len.result c.in-Open.entry old mid = opened_by Single key c.len.result c.in_ok-entry.field-0 c.in-Open.entry old mid c.in-Open.is r.stays.later r.stays.told r.moved r.entry r.cause in
+    let f = c.in_ok-entry-2.ensures in
+    let fills : FillsBy c.in-Open.entry bytes (Filled c.in-Filled.entry) mid next = subst (λ (x : Filling). FillsBy c.in-Open.entry bytes x mid next) c.in-Filled.is f.filled in
+    let e = c.commit.ensures in
+    if_both c.commit.result (λ how commits cause. was_put Single key c.len.result c.in-Open.entry c.in-Filled.entry bytes how old mid next new c.len.ensures o f.stays.later f.stays.told fills e.stays.later e.closed commits cause) e.committed e.cause

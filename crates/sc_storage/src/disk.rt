@@ -1,0 +1,194 @@
+//! A disk store, asked as any store.
+ghost use Rattle.std.specs.Prelude.{◌≡◌, ◌≢◌, IfOk, OnErr};
+ghost use Rattle.sc_disk_cache.specs.Entries.{ClosesEntry, CommitCause, CommitsEntry, FillsBy, IsOpenAt};
+ghost use Rattle.sc_disk_cache.specs.Moving.{Stays};
+ghost use Rattle.sc_model.specs.declared.event.Mode.TheVariants.{Path};
+ghost use Rattle.sc_model.specs.declared.level.LevelKind.TheVariants.{Disk as IsDisk};
+ghost use Rattle.sc_model.specs.declared.level.Policy.TheVariants.{Single as Alone};
+ghost use Rattle.sc_storage.specs.Puts.{PutsDisk};
+ghost use Rattle.sc_storage.specs.Storages.{KeepsAlone, LooksAlone, State};
+ghost use Rattle.sc_store.specs.Held.{disk_of};
+
+use crate::alone::{both_in, bytes_in, cache_in, ended};
+use crate::storage::Storage;
+use crate::storage_error::StorageError;
+use sc_disk::{Disk, LruDiskCacheAddEntry};
+use sc_entry::{ByteText, Cache, CacheMode, CacheWrite, Items, NoMemory, Text};
+use sc_model::{Answer, Mode, Policy, Written};
+use sc_stats::LevelStats;
+use sc_store::{DiskStorage, EntryError, Filling, Reservation};
+use std::alloc::Global;
+
+/// Looks a key up at a disk store.
+fn look_disk<D: Disk + Drop>(
+    store: &mut DiskStorage<D>,
+    key: &Text,
+    mode: Mode,
+    now: u64,
+) -> Result<Answer, NoMemory>
+    requires { mode ≢ Path }
+    ensures keeps { KeepsAlone store.old store.new }
+    ensures looked { IfOk result (λ answer. LooksAlone key.now mode answer store.old store.new) }
+{
+    store.keeps();
+    store.ask(key, mode, now)
+}
+
+/// Fills an entry that is open.
+fn fill<D: Disk + Drop>(
+    store: &mut DiskStorage<D>,
+    entry: LruDiskCacheAddEntry,
+    bytes: &ByteText,
+) -> Result<Filling, NoMemory>
+    requires { IsOpenAt entry (disk_of store.old) }
+    ensures title { store.new.title ≡ store.old.title }
+    ensures stays { Stays (disk_of store.old) (disk_of store.new) }
+    ensures filled { IfOk result (λ how. FillsBy entry bytes.now how (disk_of store.old) (disk_of store.new)) }
+    ensures closed { OnErr result (ClosesEntry entry.number (disk_of store.old) (disk_of store.new)) }
+{
+    match store.fill(entry, bytes.as_slice()) {
+        Ok(how) => Ok(how),
+        Err(EntryError::NoMemory) => Err(NoMemory),
+        Err(EntryError::NotOpen) => unreachable!(),
+    }
+}
+
+/// Commits an entry that is open.
+fn commit<D: Disk + Drop>(
+    store: &mut DiskStorage<D>,
+    entry: LruDiskCacheAddEntry,
+    now: u64,
+) -> Result<Written, NoMemory>
+    requires { IsOpenAt entry (disk_of store.old) }
+    ensures title { store.new.title ≡ store.old.title }
+    ensures stays { Stays (disk_of store.old) (disk_of store.new) }
+    ensures closed { ClosesEntry entry.number (disk_of store.old) (disk_of store.new) }
+    ensures committed { IfOk result (λ how. CommitsEntry entry.number how (disk_of store.old) (disk_of store.new)) }
+    ensures cause { IfOk result (λ how. CommitCause entry.number how (disk_of store.old) (disk_of store.new)) }
+{
+    match store.commit(entry, now) {
+        Ok(how) => Ok(how),
+        Err(EntryError::NoMemory) => Err(NoMemory),
+        Err(EntryError::NotOpen) => unreachable!(),
+    }
+}
+
+/// Puts bytes under a key. What it opens it closes, whatever it comes to.
+fn put_disk<D: Disk + Drop>(
+    store: &mut DiskStorage<D>,
+    key: &Text,
+    bytes: &ByteText,
+    now: u64,
+) -> Result<Written, NoMemory>
+    ensures keeps { KeepsAlone store.old store.new }
+    ensures wrote { IfOk result (λ how. PutsDisk Alone key.now bytes.now how (disk_of store.old) (disk_of store.new)) }
+    ensures kind { store.old.facts.kind ≡ IsDisk }
+{
+    store.keeps();
+    let entry = match store.reserve(&Policy::Single, key, bytes.len() as u64, now)? {
+        Reservation::Open(entry) => entry,
+        Reservation::Refused(cause) => return Ok(Written::Refused(cause)),
+    };
+    let filled = match fill(store, entry, bytes)? {
+        Filling::Filled(entry) => entry,
+        Filling::Refused(cause) => return Ok(Written::Refused(cause)),
+    };
+    commit(store, filled, now)
+}
+
+impl<D: Disk + Drop> Storage for DiskStorage<D> {
+    ghost state = { λ s. State.Alone s };
+
+    fn get(&mut self, alloc: Global, key: &Text, now: u64) -> Result<Cache, StorageError> {
+        let answer = look_disk(self, key, Mode::Whole, now)?;
+        cache_in(alloc, answer)
+    }
+
+    fn get_with_raw(
+        &mut self,
+        alloc: Global,
+        key: &Text,
+        now: u64,
+    ) -> Result<(Cache, Option<ByteText>), StorageError> {
+        let answer = look_disk(self, key, Mode::Whole, now)?;
+        both_in(alloc, answer)
+    }
+
+    fn get_raw(
+        &mut self,
+        _alloc: Global,
+        key: &Text,
+        now: u64,
+    ) -> Result<Option<ByteText>, StorageError> {
+        let answer = look_disk(self, key, Mode::Raw, now)?;
+        bytes_in(answer)
+    }
+
+    fn get_preprocessor_cache_entry(
+        &mut self,
+        _alloc: Global,
+        key: &Text,
+        now: u64,
+    ) -> Result<Option<ByteText>, StorageError> {
+        let answer = look_disk(self, key, Mode::Pre, now)?;
+        bytes_in(answer)
+    }
+
+    fn put(
+        &mut self,
+        alloc: Global,
+        key: &Text,
+        entry: CacheWrite,
+        now: u64,
+    ) -> Result<(), StorageError> {
+        let bytes = ByteText::from_vec(entry.finish());
+        Storage::put_raw(self, alloc, key, bytes, now)
+    }
+
+    fn put_raw(
+        &mut self,
+        _alloc: Global,
+        key: &Text,
+        bytes: ByteText,
+        now: u64,
+    ) -> Result<(), StorageError> {
+        let how = put_disk(self, key, &bytes, now)?;
+        ended(how)
+    }
+
+    fn check(&mut self, _alloc: Global) -> Result<CacheMode, StorageError> {
+        self.keeps();
+        Ok(self.mode())
+    }
+
+    fn location(&self, alloc: Global) -> Result<Text, NoMemory> {
+        let text = DiskStorage::location(self, alloc)?;
+        Ok(text)
+    }
+
+    fn cache_type_name(&self) -> &str {
+        DiskStorage::cache_type_name(self)
+    }
+
+    fn current_size(&self) -> Option<u64> {
+        self.keeps();
+        self.cache().current_size()
+    }
+
+    fn max_size(&self) -> Option<u64> {
+        self.keeps();
+        Some(DiskStorage::max_size(self))
+    }
+
+    fn multilevel_stats(&self, _alloc: Global) -> Result<Option<Items<LevelStats>>, NoMemory> {
+        Ok(None)
+    }
+
+    fn use_preprocessor_cache_mode(&self) -> bool {
+        DiskStorage::use_preprocessor_cache_mode(self)
+    }
+
+    fn basedirs(&self) -> &[ByteText] {
+        DiskStorage::basedirs(self)
+    }
+}

@@ -1,0 +1,123 @@
+//! A store of either kind that stands alone, asked as any store.
+ghost use Rattle.sc_storage.specs.Storages.{State};
+ghost use Rattle.sc_store.specs.Levels.{held_level};
+
+use crate::storage::Storage;
+use crate::storage_error::StorageError;
+use sc_disk::Disk;
+use sc_entry::{ByteText, Cache, CacheMode, CacheWrite, Items, NoMemory, Text};
+use sc_stats::LevelStats;
+use sc_store::{Level, Remote};
+use std::alloc::Global;
+
+impl<R: Remote, D: Disk + Drop> Storage for Level<R, D> {
+    ghost state = { λ l. State.Alone (held_level l) };
+
+    fn get(&mut self, alloc: Global, key: &Text, now: u64) -> Result<Cache, StorageError> {
+        match self {
+            Level::Remote(store) => store.get(alloc, key, now),
+            Level::Disk(store) => store.get(alloc, key, now),
+        }
+    }
+
+    fn get_with_raw(
+        &mut self,
+        alloc: Global,
+        key: &Text,
+        now: u64,
+    ) -> Result<(Cache, Option<ByteText>), StorageError> {
+        match self {
+            Level::Remote(store) => store.get_with_raw(alloc, key, now),
+            Level::Disk(store) => store.get_with_raw(alloc, key, now),
+        }
+    }
+
+    fn get_raw(
+        &mut self,
+        alloc: Global,
+        key: &Text,
+        now: u64,
+    ) -> Result<Option<ByteText>, StorageError> {
+        match self {
+            Level::Remote(store) => store.get_raw(alloc, key, now),
+            Level::Disk(store) => store.get_raw(alloc, key, now),
+        }
+    }
+
+    fn get_preprocessor_cache_entry(
+        &mut self,
+        alloc: Global,
+        key: &Text,
+        now: u64,
+    ) -> Result<Option<ByteText>, StorageError> {
+        match self {
+            Level::Remote(store) => store.get_preprocessor_cache_entry(alloc, key, now),
+            Level::Disk(store) => store.get_preprocessor_cache_entry(alloc, key, now),
+        }
+    }
+
+    fn put(
+        &mut self,
+        alloc: Global,
+        key: &Text,
+        entry: CacheWrite,
+        now: u64,
+    ) -> Result<(), StorageError> {
+        match self {
+            Level::Remote(store) => store.put(alloc, key, entry, now),
+            Level::Disk(store) => store.put(alloc, key, entry, now),
+        }
+    }
+
+    fn put_raw(
+        &mut self,
+        alloc: Global,
+        key: &Text,
+        bytes: ByteText,
+        now: u64,
+    ) -> Result<(), StorageError> {
+        match self {
+            Level::Remote(store) => store.put_raw(alloc, key, bytes, now),
+            Level::Disk(store) => store.put_raw(alloc, key, bytes, now),
+        }
+    }
+
+    fn check(&mut self, alloc: Global) -> Result<CacheMode, StorageError> {
+        match self {
+            Level::Remote(store) => Storage::check(store, alloc),
+            Level::Disk(store) => Storage::check(store, alloc),
+        }
+    }
+
+    fn location(&self, alloc: Global) -> Result<Text, NoMemory> {
+        let text = Level::location(self, alloc)?;
+        Ok(text)
+    }
+
+    fn cache_type_name(&self) -> &str {
+        Level::cache_type_name(self)
+    }
+
+    fn current_size(&self) -> Option<u64> {
+        match self {
+            Level::Remote(store) => store.current_size(),
+            Level::Disk(store) => store.current_size(),
+        }
+    }
+
+    fn max_size(&self) -> Option<u64> {
+        Level::max_size(self)
+    }
+
+    fn multilevel_stats(&self, _alloc: Global) -> Result<Option<Items<LevelStats>>, NoMemory> {
+        Ok(None)
+    }
+
+    fn use_preprocessor_cache_mode(&self) -> bool {
+        Level::use_preprocessor_cache_mode(self)
+    }
+
+    fn basedirs(&self) -> &[ByteText] {
+        Level::basedirs(self)
+    }
+}

@@ -1,0 +1,101 @@
+//! A store that is only read.
+ghost use Rattle.sc_storage.specs.Storages.{State};
+
+use crate::storage::Storage;
+use crate::storage_error::StorageError;
+use sc_entry::{ByteText, Cache, CacheMode, CacheWrite, Items, NoMemory, Text};
+use sc_model::{Cause, Store};
+use sc_stats::LevelStats;
+use std::alloc::Global;
+
+/// A store that is only read: it refuses each put, and hides what its levels count. Over levels a lookup may still put a
+/// hit's bytes at the levels before it.
+#[derive(Drop)]
+pub struct ReadOnlyStorage<S: Storage>(pub S);
+
+impl<S: Storage + Drop> Storage for ReadOnlyStorage<S> {
+    ghost state = { λ s. State.Wrapped (S.state s.0) };
+
+    fn get(&mut self, alloc: Global, key: &Text, now: u64) -> Result<Cache, StorageError> {
+        self.0.get(alloc, key, now)
+    }
+
+    fn get_with_raw(
+        &mut self,
+        alloc: Global,
+        key: &Text,
+        now: u64,
+    ) -> Result<(Cache, Option<ByteText>), StorageError> {
+        self.0.get_with_raw(alloc, key, now)
+    }
+
+    fn get_raw(
+        &mut self,
+        alloc: Global,
+        key: &Text,
+        now: u64,
+    ) -> Result<Option<ByteText>, StorageError> {
+        self.0.get_raw(alloc, key, now)
+    }
+
+    fn get_preprocessor_cache_entry(
+        &mut self,
+        alloc: Global,
+        key: &Text,
+        now: u64,
+    ) -> Result<Option<ByteText>, StorageError> {
+        self.0.get_preprocessor_cache_entry(alloc, key, now)
+    }
+
+    fn put(
+        &mut self,
+        _alloc: Global,
+        _key: &Text,
+        _entry: CacheWrite,
+        _now: u64,
+    ) -> Result<(), StorageError> {
+        Err(StorageError::Refused(Cause::ReadOnly(Store::Wrapper)))
+    }
+
+    fn put_raw(
+        &mut self,
+        _alloc: Global,
+        _key: &Text,
+        _bytes: ByteText,
+        _now: u64,
+    ) -> Result<(), StorageError> {
+        Err(StorageError::Unsupported)
+    }
+
+    fn check(&mut self, _alloc: Global) -> Result<CacheMode, StorageError> {
+        Ok(CacheMode::ReadOnly)
+    }
+
+    fn location(&self, alloc: Global) -> Result<Text, NoMemory> {
+        self.0.location(alloc)
+    }
+
+    fn cache_type_name(&self) -> &str {
+        self.0.cache_type_name()
+    }
+
+    fn current_size(&self) -> Option<u64> {
+        self.0.current_size()
+    }
+
+    fn max_size(&self) -> Option<u64> {
+        self.0.max_size()
+    }
+
+    fn multilevel_stats(&self, _alloc: Global) -> Result<Option<Items<LevelStats>>, NoMemory> {
+        Ok(None)
+    }
+
+    fn use_preprocessor_cache_mode(&self) -> bool {
+        self.0.use_preprocessor_cache_mode()
+    }
+
+    fn basedirs(&self) -> &[ByteText] {
+        self.0.basedirs()
+    }
+}
