@@ -1,3 +1,5 @@
+ghost use Rattle.std.specs.Prelude.{◌≡◌};
+
 use crate::file_key::FileKey;
 use sc_entry::Text;
 use std::marker::Model;
@@ -23,4 +25,20 @@ impl Model for LruDiskCacheAddEntry {
     ghost view = { λ e. add_entry e.number e.key e.divided };
 
     ghost invariant = { λ e. (e.path ≡ temporary e.divided e.key e.number) × (e.number < 2 ^ 64) };
+}
+
+impl LruDiskCacheAddEntry {
+    /// Its number among the open entries of its store.
+    pub fn number(&self) -> usize
+        ensures { result ≡ self.now.number }
+    {
+        self.number
+    }
+
+    /// The key that its file gets when it is committed.
+    pub fn key(&self) -> &FileKey
+        ensures { result.now ≡ self.now.key }
+    {
+        &self.key
+    }
 }

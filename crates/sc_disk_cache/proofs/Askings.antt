@@ -1,5 +1,5 @@
 -- Lookups at a disk store, as the daemon's definitions have them.
-use Rattle.std.proofs.Common.{◌≡◌, inl, inr, ℕ, ◌≤◌, Bool, true, false, IfOk, List, Option, Some, None, Result, Ok, Err, refl, sym, ◌∙◌, subst, arith}
+use Rattle.std.proofs.Common.{◌≡◌, inl, inr, ℕ, ◌≤◌, Bool, true, false, IfOk, List, ◌∷◌, ◌++◌, Option, Some, None, Result, Ok, Err, refl, sym, ap, ◌∙◌, subst, arith}
 use Rattle.sc_entry.specs.Causes.{Rose}
 use Rattle.sc_entry.specs.Entries.{objects}
 use Rattle.sc_entry.specs.Keys.{IsStoreKey, is_store_key, make_key_path, normalize_key}
@@ -7,7 +7,7 @@ use Rattle.sc_entry.specs.declared.cache_mode.CacheMode.{CacheMode}
 use Rattle.sc_entry.specs.declared.memory.NoMemory.{NoMemory}
 use Rattle.sc_entry.specs.declared.object.Object.{Object}
 use Rattle.sc_model.specs.Devices.{Calls, MakesOn}
-use Rattle.sc_model.specs.World.{Answers_pre, Answers_whole, Answers_raw, Asks, Keeps_all, Later, Level, Opens_by, Spells, find_file, is_later}
+use Rattle.sc_model.specs.World.{Answers, Answers_path, Answers_pre, Answers_whole, Answers_raw, Asks, Keeps_all, Later, Level, Opens_by, Spells, find_file, is_later}
 use Rattle.sc_model.specs.declared.event.Answer.{Answer}
 use Rattle.sc_model.specs.declared.event.Answer.TheVariants.{Found as FoundAt, Hit, Miss, Refused, Size as SizeIs}
 use Rattle.sc_model.specs.declared.event.Mode.{Mode}
@@ -15,13 +15,16 @@ use Rattle.sc_model.specs.declared.event.Mode.TheVariants.{Path, Pre as PreMode,
 use Rattle.sc_model.specs.declared.level.Cause.TheVariants.{BadEntry, BadKey, FileTooLarge, Io, ReadOnly as ForReading, RemoteFault as RemoteRefused, Reserved as NoRoom}
 use Rattle.sc_model.specs.declared.level.LevelFacts.{LevelFacts}
 use Rattle.sc_model.specs.declared.level.LevelKind.{LevelKind}
-use Rattle.sc_model.specs.declared.level.LevelKind.TheVariants.{Disk}
+use Rattle.sc_model.specs.declared.level.LevelKind.TheVariants.{Disk, Remote}
+use Rattle.sc_pair.specs.Parts.{in_part}
 use Rattle.sc_pair.specs.Twos.{TwoState}
 use Rattle.sc_pair.specs.declared.pair_cache.PairCache.{PairCache}
 use Rattle.sc_pair.specs.declared.part.Part.{Part}
 use Rattle.sc_pair.specs.declared.part.Part.TheVariants.{Main, Pre}
 use Rattle.sc_disk_cache.specs.DiskStores.{DiskStore, store_of}
-use Rattle.sc_disk_cache.specs.Moving.{AskCause, AsksDisk, OpensFor, ReadsAt, Steady, hit_or_miss, reads_key}
+use Rattle.sc_disk_cache.specs.Marked.{TellsMark, with_mark}
+use Rattle.sc_disk_cache.specs.Marks.{Marks, is_marked}
+use Rattle.sc_disk_cache.specs.Moving.{AskCause, AsksDisk, HasFile, OpensFor, ReadsAt, Steady, hit_or_miss, reads_key}
 use Rattle.sc_disk_cache.specs.Wholes.{hit_of, if_spells, mode_answer, whole_answer}
 
 -- what every disk store is
@@ -84,6 +87,9 @@ module _ (f : LevelFacts) (r : ℕ) (k : List ℕ) (a : Answer) (v w : Level) (k
 
   asks-raw : Answers_raw Disk k a v w → Opens_by Disk Raw a v w → Asks objects f r k Raw a v w
   asks-raw h o = record { later = later; keeps = keeps; answers = subst (λ (d : LevelKind). Answers_raw d k a v w) (sym kind) h; opens = subst (λ (d : LevelKind). Opens_by d Raw a v w) (sym kind) o }
+
+  asks-path : Answers_path f k a v w → Opens_by Disk Path a v w → Asks objects f r k Path a v w
+  asks-path h o = record { later = later; keeps = keeps; answers = h; opens = subst (λ (d : LevelKind). Opens_by d Path a v w) (sym kind) o }
 
   asks-pre : Answers_pre Disk k a v w → Opens_by Disk PreMode a v w → Asks objects f r k PreMode a v w
   asks-pre h o = record { later = later; keeps = keeps; answers = subst (λ (d : LevelKind). Answers_pre d k a v w) (sym kind) h; opens = subst (λ (d : LevelKind). Opens_by d PreMode a v w) (sym kind) o }
@@ -162,12 +168,12 @@ entry_asked Path k raw old new reads kind good s h o told = cc
 entry_asked PreMode k raw old new reads kind good s h o told = cc
 entry_asked Sizes k raw old new reads kind good s h o told = cc
 
-hit_cause : (k b : List ℕ) (m : Bool) (v w : Level) (o : Option (List Object)) → objects b ≡ o → IsStoreKey k → m ≡ false → AskCause Whole (hit_of (if_spells o b) m) k v w
-hit_cause k b m v w None e good h = good
-hit_cause k b m v w (Some os) e good h = (good, subst Spells (sym e) tt, h)
+hit_cause : (k b : List ℕ) (m : Bool) (v w : Level) (o : Option (List Object)) → objects b ≡ o → IsStoreKey k → AskCause Whole (hit_of (if_spells o b) m) k v w
+hit_cause k b m v w None e good = good
+hit_cause k b m v w (Some os) e good = (good, subst Spells (sym e) tt)
 
 entry_cause : (mode : Mode) (k : List ℕ) (raw : Answer) (told : Bool) (v w : Level) → reads_key mode ≡ true → IsStoreKey k → ReadsAt Main (make_key_path k) raw told v w → AskCause mode (mode_answer mode raw) k v w
-entry_cause Whole k (Hit b m) told v w reads good h = hit_cause k b m v w (objects b) refl good h.0
+entry_cause Whole k (Hit b m) told v w reads good h = hit_cause k b m v w (objects b) refl good
 entry_cause Whole k Miss told v w reads good h = good
 entry_cause Whole k (Refused Io) told v w reads good h = (good, h)
 entry_cause Whole k (Refused BadEntry) told v w reads good h = absurd h
@@ -178,7 +184,7 @@ entry_cause Whole k (Refused (ForReading s)) told v w reads good h = absurd h
 entry_cause Whole k (Refused (RemoteRefused d)) told v w reads good h = absurd h
 entry_cause Whole k (FoundAt p) told v w reads good h = absurd h
 entry_cause Whole k (SizeIs n c) told v w reads good h = absurd h
-entry_cause Raw k (Hit b m) told v w reads good h = (good, h.0)
+entry_cause Raw k (Hit b m) told v w reads good h = good
 entry_cause Raw k Miss told v w reads good h = good
 entry_cause Raw k (Refused Io) told v w reads good h = (good, h)
 entry_cause Raw k (Refused BadEntry) told v w reads good h = absurd h
@@ -262,3 +268,75 @@ cause-pre k Miss told v w good h = tt
 cause-pre k (Refused c) told v w good h = tt
 cause-pre k (FoundAt p) told v w good h = absurd h
 cause-pre k (SizeIs n c) told v w good h = absurd h
+
+-- where an entry's file stands
+pub asked-path : (k root p : List ℕ) (old new : DiskStore) → old.facts.kind ≡ Disk → IsStoreKey k → Steady old new → HasFile (make_key_path k) true old.told new.level → new.level.opened ≡ true → root ≡ new.facts.root → p ≡ root ++ 47 ∷ make_key_path k → AsksDisk k Path (FoundAt p) old new
+asked-path k root p old new kind good s h o at is told =
+    let there = h told in
+    asks-path old.facts old.reserved k (FoundAt p) old.level new.level kind s.later s.main s.pre (good, (there.0, there.1), is ∙ ap (λ (r : List ℕ). r ++ 47 ∷ make_key_path k) (at ∙ ap (λ (f : LevelFacts). f.root) s.facts)) o
+
+pub asked-path_none : (k : List ℕ) (old new : DiskStore) → old.facts.kind ≡ Disk → IsStoreKey k → Steady old new → HasFile (make_key_path k) false old.told new.level → new.level.opened ≡ true → AsksDisk k Path Miss old new
+asked-path_none k old new kind good s h o told = asks-path old.facts old.reserved k Miss old.level new.level kind s.later s.main s.pre (inr (good, inl (o, h))) tt
+
+pub asked-path_bad : (k : List ℕ) (s : DiskStore) → s.facts.kind ≡ Disk → s.level.calls ≡ None → is_store_key k ≡ false → AsksDisk k Path Miss s s
+asked-path_bad k s kind none bad told = asks-path s.facts s.reserved k Miss s.level s.level kind (later_self s.level none) refl refl (inl (not_both (is_store_key k) bad, refl)) tt
+
+pub asked-path_refused : (k : List ℕ) (old new : DiskStore) → old.facts.kind ≡ Disk → IsStoreKey k → Steady old new → Rose old.level.faults new.level.faults → AsksDisk k Path Miss old new
+asked-path_refused k old new kind good s rose told = asks-path old.facts old.reserved k Miss old.level new.level kind s.later s.main s.pre (inr (good, inr rose)) tt
+
+-- a hit that tells its mark
+opens_marked : (d : LevelKind) (mode : Mode) (bytes : List ℕ) (m b : Bool) (v w : Level) → reads_key mode ≡ true → Opens_by d mode (Hit bytes m) v w → Opens_by d mode (Hit bytes b) v w
+opens_marked Remote mode bytes m b v w reads h = h
+opens_marked Disk Whole bytes m b v w reads h = h
+opens_marked Disk Raw bytes m b v w reads h = h
+opens_marked Disk Path bytes m b v w reads h = cc
+opens_marked Disk PreMode bytes m b v w reads h = cc
+opens_marked Disk Sizes bytes m b v w reads h = cc
+
+answers_marked : (f : LevelFacts) (r : ℕ) (k bytes : List ℕ) (mode : Mode) (m b : Bool) (v w : Level) → reads_key mode ≡ true → Answers objects f r k mode (Hit bytes m) v w → Answers objects f r k mode (Hit bytes b) v w
+answers_marked f r k bytes Whole m b v w reads h = h
+answers_marked f r k bytes Raw m b v w reads h = h
+answers_marked f r k bytes Path m b v w reads h = cc
+answers_marked f r k bytes PreMode m b v w reads h = cc
+answers_marked f r k bytes Sizes m b v w reads h = cc
+
+pub asked-marked : (b : Bool) (mode : Mode) (k : List ℕ) (a : Answer) (old new : DiskStore) → reads_key mode ≡ true → AsksDisk k mode a old new → AsksDisk k mode (with_mark b a) old new
+asked-marked b mode k (Hit bytes m) old new reads h = λ told.
+    let x = h told in
+    record { later = x.later; keeps = x.keeps; answers = answers_marked old.facts old.reserved k bytes mode m b old.level new.level reads x.answers; opens = opens_marked old.facts.kind mode bytes m b old.level new.level reads x.opens }
+asked-marked b mode k Miss old new reads h = h
+asked-marked b mode k (Refused c) old new reads h = h
+asked-marked b mode k (FoundAt p) old new reads h = h
+asked-marked b mode k (SizeIs n c) old new reads h = h
+
+hit_marked : (b : Bool) (mode : Mode) (k bytes : List ℕ) (m : Bool) (v w : Level) → reads_key mode ≡ true → AskCause mode (Hit bytes m) k v w → AskCause mode (Hit bytes b) k v w
+hit_marked b Whole k bytes m v w reads h = h
+hit_marked b Raw k bytes m v w reads h = h
+hit_marked b Path k bytes m v w reads h = cc
+hit_marked b PreMode k bytes m v w reads h = cc
+hit_marked b Sizes k bytes m v w reads h = cc
+
+pub cause-marked : (b : Bool) (mode : Mode) (k : List ℕ) (a : Answer) (v w : Level) → reads_key mode ≡ true → AskCause mode a k v w → AskCause mode (with_mark b a) k v w
+cause-marked b mode k (Hit bytes m) v w reads h = hit_marked b mode k bytes m v w reads h
+cause-marked b mode k Miss v w reads h = h
+cause-marked b mode k (Refused c) v w reads h = h
+cause-marked b mode k (FoundAt p) v w reads h = h
+cause-marked b mode k (SizeIs n c) v w reads h = h
+
+pub tells-marked : (marks : Marks) (key path : List ℕ) (a : Answer) → path ≡ make_key_path key → TellsMark marks key (with_mark (is_marked marks (in_part Main path)) a)
+tells-marked marks key path (Hit bytes m) at = ap (λ p. is_marked marks (in_part Main p)) at
+tells-marked marks key path Miss at = tt
+tells-marked marks key path (Refused c) at = tt
+tells-marked marks key path (FoundAt p) at = tt
+tells-marked marks key path (SizeIs n c) at = tt
+
+-- by an answer that was told so
+module _ (mode : Mode) (k path : List ℕ) (b : Bool) (a : Answer) (r : Result Answer NoMemory) (reads : reads_key mode ≡ true) (is : IfOk r (λ told. told ≡ with_mark b a)) where
+  pub asked-told : (old new : DiskStore) → AsksDisk k mode a old new → IfOk r (λ told. AsksDisk k mode told old new)
+  asked-told old new h = if_ok r is (λ told e. subst (λ (x : Answer). AsksDisk k mode x old new) (sym e) (asked-marked b mode k a old new reads h))
+
+  pub cause-told : (v w : Level) → AskCause mode a k v w → IfOk r (λ told. AskCause mode told k v w)
+  cause-told v w h = if_ok r is (λ told e. subst (λ (x : Answer). AskCause mode x k v w) (sym e) (cause-marked b mode k a v w reads h))
+
+  pub mark-told : (marks : Marks) → b ≡ is_marked marks (in_part Main path) → path ≡ make_key_path k → IfOk r (λ told. TellsMark marks k told)
+  mark-told marks mark at = if_ok r is (λ told e. subst (TellsMark marks k) (sym (e ∙ ap (λ c. with_mark c a) mark)) (tells-marked marks k path a at))

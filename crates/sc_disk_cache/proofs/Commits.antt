@@ -37,7 +37,7 @@ use Rattle.sc_disk_cache.proofs.Rooms.{entry-of}
 use Rattle.sc_disk_cache.proofs.Steadying.{files-did}
 
 -- At every path what was shown is shown, but at the key's.
-shown_at : (f g : DiskFiles) (es : Index) (t k b : List ℕ) (r now : ℕ) (q : List ℕ) → g ≡ replay f (Moved t k ∷ Touched t now ∷ []) → IsDistinct bytes_eq (keys_of es) → AreKeys es → is_temporary_path t ≡ true → is_temporary_path k ≡ false → bytes_at f t ≡ Some b
+pub shown_at : (f g : DiskFiles) (es : Index) (t k b : List ℕ) (r now : ℕ) (q : List ℕ) → g ≡ replay f (Moved t k ∷ Touched t now ∷ []) → IsDistinct bytes_eq (keys_of es) → AreKeys es → is_temporary_path t ≡ true → is_temporary_path k ≡ false → bytes_at f t ≡ Some b
     → (s : Bool) → is_temporary_path q ≡ s → shown (filed k r es) g q ≡ cond (bytes_eq q k) (Some b) (shown es f q)
 shown_at f g es t k b r now q e d keys temporary_t plain_k is true hidden =
     let off = apart-back q k hidden plain_k in
@@ -45,22 +45,22 @@ shown_at f g es t k b r now q e d keys temporary_t plain_k is true hidden =
     ∙ sym (ap (λ s. cond s (Some b) (shown es f q)) off ∙ ap (λ o. cond (is_some o) (bytes_at f q) None) (keys q hidden))
 shown_at f g es t k b r now q e d keys temporary_t plain_k is false plain = shown-committed f g es t k b r now q e d keys temporary_t plain_k is plain
 
-main_put : (f g : DiskFiles) (es : Index) (t p b : List ℕ) (r now : ℕ) → g ≡ replay f (Moved t (in_part Main p) ∷ Touched t now ∷ []) → IsDistinct bytes_eq (keys_of es) → AreKeys es → is_temporary_path t ≡ true → is_temporary_path (in_part Main p) ≡ false
+pub main_put : (f g : DiskFiles) (es : Index) (t p b : List ℕ) (r now : ℕ) → g ≡ replay f (Moved t (in_part Main p) ∷ Touched t now ∷ []) → IsDistinct bytes_eq (keys_of es) → AreKeys es → is_temporary_path t ≡ true → is_temporary_path (in_part Main p) ≡ false
     → bytes_at f t ≡ Some b → files_of Main (filed (in_part Main p) r es) g ≡ put_file (files_of Main es f) p b
 main_put f g es t p b r now e d keys hidden plain is = same_map_files (files_of Main (filed (in_part Main p) r es) g) (put_file (files_of Main es f) p b) (λ q.
     find-files Main (filed (in_part Main p) r es) g q ∙ shown_at f g es t (in_part Main p) b r now (in_part Main q) e d keys hidden plain is (is_temporary_path (in_part Main q)) refl
     ∙ sym (find-put (files_of Main es f) p b q ∙ ap (cond (bytes_eq q p) (Some b)) (find-files Main es f q)))
 
-pre_stays : (f g : DiskFiles) (es : Index) (t p b : List ℕ) (r now : ℕ) → g ≡ replay f (Moved t (in_part Main p) ∷ Touched t now ∷ []) → IsDistinct bytes_eq (keys_of es) → AreKeys es → is_temporary_path t ≡ true → is_temporary_path (in_part Main p) ≡ false
+pub pre_stays : (f g : DiskFiles) (es : Index) (t p b : List ℕ) (r now : ℕ) → g ≡ replay f (Moved t (in_part Main p) ∷ Touched t now ∷ []) → IsDistinct bytes_eq (keys_of es) → AreKeys es → is_temporary_path t ≡ true → is_temporary_path (in_part Main p) ≡ false
     → bytes_at f t ≡ Some b → files_of Pre (filed (in_part Main p) r es) g ≡ files_of Pre es f
 pre_stays f g es t p b r now e d keys hidden plain is = same_map_files (files_of Pre (filed (in_part Main p) r es) g) (files_of Pre es f) (λ q.
     find-files Pre (filed (in_part Main p) r es) g q ∙ shown_at f g es t (in_part Main p) b r now (in_part Pre q) e d keys hidden plain is (is_temporary_path (in_part Pre q)) refl ∙ sym (find-files Pre es f q))
 
 -- what an open entry keeps
-plain-key : (s : Store) (e : AddEntry) → IsSound s → IsOpen s e → is_temporary_path e.key ≡ false
+pub plain-key : (s : Store) (e : AddEntry) → IsSound s → IsOpen s e → is_temporary_path e.key ≡ false
 plain-key s e sound o = ap is_temporary_path (sym o.2) ∙ sound.opened e.number o.0 o.1
 
-declared-is : (s : Store) (e : AddEntry) (o : IsOpen s e) → declared_at s e.number ≡ o.0.size
+pub declared-is : (s : Store) (e : AddEntry) (o : IsOpen s e) → declared_at s e.number ≡ o.0.size
 declared-is s e o = ap (λ x. option_map_or (λ (y : Pending). y.size) x 0) o.1
 
 measured : (x : Option DiskFile) (r : ℕ) (b : List ℕ) → option_map (λ (file : DiskFile). length file.bytes) x ≡ Some r → option_map (λ (file : DiskFile). file.bytes) x ≡ Some b → r ≡ length b
@@ -73,14 +73,14 @@ measured (Some x) r b h k = let size : length x.bytes ≡ r = same_number (lengt
     same_bytes : (a c : List ℕ) → Some a ≡ Some c → a ≡ c
     same_bytes a c e = cc
 
-measured_told : (s : Store) (o : Option DiskRecord) (r : DiskRecord) (t b : List ℕ) (n : ℕ) → o ≡ Some r → IfTold o (λ x. option_map (λ (file : DiskFile). length file.bytes) (disk_file_at (files_now x) t) ≡ Some n) → bytes_at (files_now r) t ≡ Some b → n ≡ length b
+pub measured_told : (s : Store) (o : Option DiskRecord) (r : DiskRecord) (t b : List ℕ) (n : ℕ) → o ≡ Some r → IfTold o (λ x. option_map (λ (file : DiskFile). length file.bytes) (disk_file_at (files_now x) t) ≡ Some n) → bytes_at (files_now r) t ≡ Some b → n ≡ length b
 measured_told s o r t b n told h is = measured (disk_file_at (files_now r) t) n b (subst (λ (x : Option DiskRecord). IfTold x (λ y. option_map (λ (file : DiskFile). length file.bytes) (disk_file_at (files_now y) t) ≡ Some n)) told h) is
 
 -- what an entry was filled with, where the disk tells
-filled : (s : Store) (r : DiskRecord) (e : AddEntry) (o : IsOpen s e) → s.disk.told ≡ Some r → IsSound s → (b : List ℕ) × (bytes_at (files_now r) (temporary_of e) ≡ Some b)
+pub filled : (s : Store) (r : DiskRecord) (e : AddEntry) (o : IsOpen s e) → s.disk.told ≡ Some r → IsSound s → (b : List ℕ) × (bytes_at (files_now r) (temporary_of e) ≡ Some b)
 filled s r e o told sound = temporary-stands s r e o (subst (λ (x : Option DiskRecord). IfTold x (λ y. HasFiles s.disk.divided s.index s.pending.slots (files_now y))) told sound.files)
 
-entry-bytes : (s : Store) (r : DiskRecord) (e : AddEntry) (o : IsOpen s e) (b : List ℕ) (x : OpenEntry) → s.disk.told ≡ Some r → bytes_at (files_now r) (temporary_of e) ≡ Some b → entry_at (entries_of s) e.number ≡ Some x → (x.path ≡ e.key) × (x.size ≡ o.0.size) × (x.bytes ≡ b)
+pub entry-bytes : (s : Store) (r : DiskRecord) (e : AddEntry) (o : IsOpen s e) (b : List ℕ) (x : OpenEntry) → s.disk.told ≡ Some r → bytes_at (files_now r) (temporary_of e) ≡ Some b → entry_at (entries_of s) e.number ≡ Some x → (x.path ≡ e.key) × (x.size ≡ o.0.size) × (x.bytes ≡ b)
 entry-bytes s r e o b x told is h =
     let was = same_entry (record { path = e.key; size = o.0.size; bytes = bytes_or (bytes_at (told_files s.disk.told) (temporary_of e)) }) x (sym (entry-is s e o) ∙ h) in
     (ap (λ (y : OpenEntry). y.path) (sym was), ap (λ (y : OpenEntry). y.size) (sym was), ap (λ (y : OpenEntry). y.bytes) (sym was) ∙ ap (λ u. bytes_or (bytes_at (told_files u) (temporary_of e))) told ∙ ap bytes_or is)
@@ -125,17 +125,17 @@ commit-closes mode capacity old new e size now n o sound few c closed =
     (λ m p apart h. ((apart-from old e m p few o apart h, apart-back (temporary old.disk.divided p.key m) e.key (temporary_is old.disk.divided p.key m) (plain-key old e sound o)), (tt, tt)))
 
 -- A refused commit.
-once : (removes touches : Bool) (t : List ℕ) (now : ℕ) → List Change
+pub once : (removes touches : Bool) (t : List ℕ) (now : ℕ) → List Change
 once removes touches t now = removed_by removes t ++ touched_by touches t now
 
-once_only : (removes touches : Bool) (t : List ℕ) (now : ℕ) → AtOnly t (once removes touches t now)
+pub once_only : (removes touches : Bool) (t : List ℕ) (now : ℕ) → AtOnly t (once removes touches t now)
 unfolding once
 once_only true true t now = (refl, (refl, tt))
 once_only true false t now = (refl, tt)
 once_only false true t now = (refl, tt)
 once_only false false t now = tt
 
-once_then : (removes touches : Bool) (t : List ℕ) (now : ℕ) (xs : List Change) → removed_by removes t ++ (touched_by touches t now ++ xs) ≡ once removes touches t now ++ xs
+pub once_then : (removes touches : Bool) (t : List ℕ) (now : ℕ) (xs : List Change) → removed_by removes t ++ (touched_by touches t now ++ xs) ≡ once removes touches t now ++ xs
 unfolding once
 once_then true true t now xs = refl
 once_then true false t now xs = refl
@@ -196,7 +196,7 @@ never-too-large old new r e x m o told sound closed h small is_size =
     let measure : m ≡ length b.0 = measured_told old old.disk.told r t b.0 m told is_size b.1 in
     omega (arith, measure, long, small, own_size, size, sum, fits)
 
-has_record : (o : Option DiskRecord) → is_some o ≡ true → (r : DiskRecord) × (o ≡ Some r)
+pub has_record : (o : Option DiskRecord) → is_some o ≡ true → (r : DiskRecord) × (o ≡ Some r)
 has_record None h = cc
 has_record (Some r) h = (r, refl)
 
@@ -208,7 +208,7 @@ module _ (mode : CacheMode) (capacity : ℕ) (old new : Store) (e : AddEntry) (n
   commits-done size n c told x path h small is = let r = has_record old.disk.told told in commit-puts old new r.0 e path x size now n o r.1 sound d h small is c
 
   -- what was measured is what the entry was filled with, where the disk tells
-  measured-bytes : (m : ℕ) → IsSize (temporary_of e) m old.disk → IsMeasured e.number m (opened_store mode capacity old)
+  pub measured-bytes : (m : ℕ) → IsSize (temporary_of e) m old.disk → IsMeasured e.number m (opened_store mode capacity old)
   measured-bytes m is_size told x h =
       let r = has_record old.disk.told told in
       let b = filled old r.0 e o r.1 sound in

@@ -5,12 +5,16 @@ pub mod Commits
 pub mod Counting
 pub mod Evicting
 pub mod Finding
+pub mod Growing
 pub mod HeldSizes
+pub mod KeyPaths
 pub mod Lending
 pub mod Looking
+pub mod Marking
 pub mod Openings
 pub mod Ordering
 pub mod Preparing
+pub mod Preprocessing
 pub mod Reservings
 pub mod Rooms
 pub mod Sizes

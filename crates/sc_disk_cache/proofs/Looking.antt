@@ -1,28 +1,32 @@
 -- What a read at an opened store answers.
-use Rattle.std.proofs.Common.{◌≡◌, inl, inr, ℕ, Bool, true, false, cond, is_some, bytes_eq, option_map, List, [], ◌∷◌, Option, Some, None, refl, ap, ◌∙◌, subst}
+use Rattle.std.proofs.Common.{◌≡◌, inl, inr, ℕ, Bool, true, false, ◌&&◌, cond, is_some, bytes_eq, option_map, List, [], ◌∷◌, Option, Some, None, refl, ap, ◌∙◌, subst, sym}
 use Rattle.std.specs.List.{IsDistinct}
 use Rattle.std.specs.Map.{keys_of, lookup}
 use Rattle.sc_entry.specs.Causes.{IfTold}
 use Rattle.sc_entry.specs.declared.cache_mode.CacheMode.{CacheMode}
+use Rattle.sc_entry.specs.declared.cache_mode.CacheMode.TheVariants.{ReadOnly}
+use Rattle.sc_disk.proofs.Doing.{does-none}
 use Rattle.sc_disk.proofs.Pairs.{lookup-touched}
 use Rattle.sc_disk.specs.Calls.{Gets, touched_by, used_unless}
 use Rattle.sc_disk.specs.Refusals.{GetCause}
 use Rattle.sc_entry.specs.Keys.{is_file_key}
-use Rattle.sc_disk.specs.Disks.{DiskRecord, disk_file_at, files_now}
-use Rattle.sc_disk.specs.Store.{Store}
+use Rattle.sc_disk.specs.Disks.{DiskRecord, DiskState, Does, disk_file_at, files_now}
+use Rattle.sc_disk.specs.Sound.{IsSound}
+use Rattle.sc_disk.specs.Store.{AreKeys, HasFiles, Store}
 use Rattle.sc_disk.specs.declared.change.Change.TheVariants.{Touched}
 use Rattle.sc_disk.specs.declared.error.Error.{Error}
 use Rattle.sc_disk.specs.declared.error.Error.TheVariants.{BadKey, FileNotInCache, FileTooLarge, Io, NoMemory, Reserved}
 use Rattle.sc_model.specs.World.{find_file}
 use Rattle.sc_pair.proofs.Shares.{lookup-part}
-use Rattle.sc_pair.specs.Pairs.{RefusesRead, index_of}
+use Rattle.sc_pair.specs.Pairs.{FindsPath, RefusesRead, index_of}
 use Rattle.sc_pair.specs.Parts.{in_part}
 use Rattle.sc_pair.specs.declared.part.Part.{Part}
 use Rattle.sc_pair.specs.declared.part.Part.TheVariants.{Main, Pre}
 use Rattle.sc_disk_cache.specs.DiskStores.{level_of, opened_store, told_files}
-use Rattle.sc_disk_cache.specs.Moving.{Steady, part_files}
+use Rattle.sc_disk_cache.specs.Moving.{HasFile, Steady, part_files}
 use Rattle.sc_disk_cache.specs.Shown.{Index, bytes_at, shown}
 use Rattle.sc_disk_cache.proofs.Finding.{find-files}
+use Rattle.sc_disk_cache.proofs.Openings.{indexed_stands}
 use Rattle.sc_disk_cache.proofs.Steadying.{AllTouched, still_told, uses-steady}
 
 pub gets-steady : (mode : CacheMode) (capacity : ℕ) (k read : List ℕ) (now : ℕ) (old new : Store) → IsDistinct bytes_eq (keys_of old.index) → Gets k read now old new → Steady (opened_store mode capacity old) (opened_store mode capacity new)
@@ -77,3 +81,56 @@ read-miss part path now touches old new refused is reads cause =
 pub unread-capacity : (refused : Error) (k : List ℕ) (now : ℕ) (touches : Bool) (old new : Store) → RefusesRead refused k now touches old new → new.capacity ≡ old.capacity
 unread-capacity refused k now touches old new (inl r) = r.capacity
 unread-capacity refused k now touches old new (inr (e, a)) = a.capacity
+
+-- A path that is told.
+pub path-steady : (mode : CacheMode) (capacity : ℕ) (old new : Store) → ((q : List ℕ) → lookup (bytes_eq q) new.index ≡ lookup (bytes_eq q) old.index) → new.pending ≡ old.pending → new.disk ≡ old.disk → Steady (opened_store mode capacity old) (opened_store mode capacity new)
+path-steady mode capacity old new sizes pending disk = uses-steady mode capacity old new [] sizes pending (subst (λ (d : DiskState). Does [] old.disk d) (sym disk) (does-none old.disk)) tt
+
+has_bytes : (o : Option (List ℕ)) → is_some o ≡ true → (bytes : List ℕ) × (o ≡ Some bytes)
+has_bytes None h = cc
+has_bytes (Some bytes) h = (bytes, refl)
+
+has_size : (o : Option ℕ) → is_some o ≡ true → (n : ℕ) × (o ≡ Some n)
+has_size None h = cc
+has_size (Some n) h = (n, refl)
+
+stands_told : (s : Store) (o : Option DiskRecord) (q : List ℕ) → AreKeys s.index → IfTold o (λ r. HasFiles s.disk.divided s.index s.pending.slots (files_now r)) → is_some o ≡ true → is_some (lookup (bytes_eq q) s.index) ≡ true → is_some (bytes_at (told_files o) q) ≡ true
+stands_told s None q keys files told there = cc
+stands_told s (Some r) q keys files told there = let n = has_size (lookup (bytes_eq q) s.index) there in indexed_stands s.index (files_now r) keys files.agrees q n.0 n.1
+
+pub path-there : (path : List ℕ) (s : Store) → IsSound s → is_some s.disk.told ≡ true → is_some (lookup (bytes_eq (in_part Main path)) s.index) ≡ true → (bytes : List ℕ) × (find_file (level_of true s.index s.disk).main path ≡ Some bytes)
+path-there path s sound told there =
+    let k = in_part Main path in
+    let b = has_bytes (bytes_at (told_files s.disk.told) k) (stands_told s s.disk.told k sound.keys sound.files told there) in
+    (b.0, held-part Main s path ∙ ap (λ t. cond t (bytes_at (told_files s.disk.told) k) None) there ∙ b.1)
+
+none_of_size : (o : Option ℕ) → is_some o ≡ false → o ≡ None
+none_of_size None h = refl
+none_of_size (Some n) h = cc
+
+pub path-absent : (path : List ℕ) (s : Store) → is_some (lookup (bytes_eq (in_part Main path)) s.index) ≡ false → find_file (level_of true s.index s.disk).main path ≡ None
+path-absent path s none = held-part Main s path ∙ ap (λ t. cond t (bytes_at (told_files s.disk.told) (in_part Main path)) None) none
+
+-- what the path of a key says of the index
+only_key : (a b : Bool) → a ≡ true → (a && b) ≡ false → b ≡ false
+only_key true b good none = none
+only_key false b good none = cc
+
+second : (a b : Bool) → (a && b) ≡ true → b ≡ true
+second true b h = h
+second false b h = cc
+
+pub path-tells : (path root : List ℕ) (found : Option (List ℕ)) (old new : Store) → is_file_key path ≡ true → ((q : List ℕ) → lookup (bytes_eq q) new.index ≡ lookup (bytes_eq q) old.index) → FindsPath Main path root found old new
+    → is_some (lookup (bytes_eq (in_part Main path)) new.index) ≡ is_some found
+path-tells path root (Some p) old new good sizes h = ap is_some (sizes (in_part Main path)) ∙ ap is_some (lookup-part Main path old.index) ∙ second (is_file_key path) (is_some (lookup (bytes_eq path) (index_of Main old.index))) h.0
+path-tells path root None old new good sizes h = ap is_some (sizes (in_part Main path)) ∙ ap is_some (lookup-part Main path old.index) ∙ only_key (is_file_key path) (is_some (lookup (bytes_eq path) (index_of Main old.index))) good h.0
+
+-- whether a file stands there, whatever the path
+pub path-has : (path root : List ℕ) (found : Option (List ℕ)) (old new : Store) → IsSound old → is_file_key path ≡ true → ((q : List ℕ) → lookup (bytes_eq q) new.index ≡ lookup (bytes_eq q) old.index) → new.pending ≡ old.pending → new.disk ≡ old.disk
+    → FindsPath Main path root found old new → HasFile path (is_some found) (is_some old.disk.told) (level_of true new.index new.disk)
+path-has path root (Some p) old new sound good sizes pending disk h = λ told.
+    let k = in_part Main path in
+    let there : is_some (lookup (bytes_eq k) old.index) ≡ true = ap is_some (sym (sizes k)) ∙ path-tells path root (Some p) old new good sizes h in
+    let b = path-there path old sound told there in
+    (b.0, ap (λ m. find_file m path) (path-steady ReadOnly 0 old new sizes pending disk).main ∙ b.1)
+path-has path root None old new sound good sizes pending disk h = path-absent path new (path-tells path root None old new good sizes h)

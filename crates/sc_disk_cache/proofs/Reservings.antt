@@ -95,7 +95,7 @@ pub early-cause : (p : Policy) (f : LevelFacts) (r : ℕ) (k : List ℕ) (n : �
 early-cause p f r k n c v h = early_told p f r k n c v (is_early (is_single p && reads_only f.configured) (not (is_store_key k)) f c h) (early-is-all p f r k n c h)
 
 -- the store's disks refuse to open
-unless_same : (o : Option Cause) (capacity more : ℕ) (v w : Level) → w.main ≡ v.main → w.pre ≡ v.pre → Evicts_unless o capacity more v w
+pub unless_same : (o : Option Cause) (capacity more : ℕ) (v w : Level) → w.main ≡ v.main → w.pre ≡ v.pre → Evicts_unless o capacity more v w
 unless_same None capacity more v w m p = ([], (m, p))
 unless_same (Some c) capacity more v w m p = (m, p)
 
@@ -103,7 +103,7 @@ pub unopened-moved : (p : Policy) (f : LevelFacts) (r : ℕ) (k : List ℕ) (n :
 unopened-moved p f r k n v w early rose m q = (early, rose, unless_same (write_cause p f r k n) f.capacity (r + n) v w m q)
 
 -- a reservation at the opened store is one of the store before it was opened
-evicts_from : (capacity more : ℕ) (ps : List (Bool × List ℕ)) (v u w : Level) → u.main ≡ v.main → u.pre ≡ v.pre → Evicts capacity more ps u w → Evicts capacity more ps v w
+pub evicts_from : (capacity more : ℕ) (ps : List (Bool × List ℕ)) (v u w : Level) → u.main ≡ v.main → u.pre ≡ v.pre → Evicts capacity more ps u w → Evicts capacity more ps v w
 evicts_from capacity more [] v u w m q e = (e.0 ∙ m, e.1 ∙ q)
 evicts_from capacity more ((true, path) ∷ ps) v u w m q e = (
   subst (λ (z : ℕ). capacity < z + more) (λ i. size_of (m i) + size_of (q i)) e.0,
@@ -114,11 +114,11 @@ evicts_from capacity more ((false, path) ∷ ps) v u w m q e = (
   evicts_from capacity more ps (drop_part false path v) (drop_part false path u) w m (ap (λ f. drop_file f path) q) e.1,
 )
 
-unless_from : (o o2 : Option Cause) (capacity more : ℕ) (v u w : Level) → o2 ≡ o → u.main ≡ v.main → u.pre ≡ v.pre → Evicts_unless o2 capacity more u w → Evicts_unless o capacity more v w
+pub unless_from : (o o2 : Option Cause) (capacity more : ℕ) (v u w : Level) → o2 ≡ o → u.main ≡ v.main → u.pre ≡ v.pre → Evicts_unless o2 capacity more u w → Evicts_unless o capacity more v w
 unless_from None o2 capacity more v u w e m q h = let x = subst (λ (y : Option Cause). Evicts_unless y capacity more u w) e h in (x.0, evicts_from capacity more x.0 v u w m q x.1)
 unless_from (Some c) o2 capacity more v u w e m q h = let x = subst (λ (y : Option Cause). Evicts_unless y capacity more u w) e h in (x.0 ∙ m, x.1 ∙ q)
 
-IsRoom : Cause → Type 0
+unfoldable pub IsRoom : Cause → Type 0
 IsRoom FileTooLarge = Unit {0}
 IsRoom NoRoom = Unit {0}
 IsRoom c = ⊥
@@ -140,7 +140,7 @@ refused_from p f r k n Io v u w e all m q h = absurd e
 refused_from p f r k n (ForReading s) v u w e all m q h = absurd e
 refused_from p f r k n (RemoteRefused d) v u w e all m q h = absurd e
 
-room_of : (capacity r n : ℕ) (c : Cause) → room_cause Disk capacity r n ≡ Some c → IsRoom c
+pub room_of : (capacity r n : ℕ) (c : Cause) → room_cause Disk capacity r n ≡ Some c → IsRoom c
 room_of capacity r n c h = is_room (nat_lt capacity n) (nat_lt capacity (n + r)) c h
 
 no_fault : (kind : Cause) → ⊥ → ⊥

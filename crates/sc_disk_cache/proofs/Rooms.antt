@@ -136,7 +136,7 @@ pub entry-of : (s : Store) (m : ℕ) → entry_at (entries_of s) m ≡ option_ma
 entry-of s m = entry-at s.disk.divided (told_files s.disk.told) 0 s.pending.slots m m (omega arith)
 
 -- the bytes of a temporary, once files were evicted
-temporary_kept : (xs : List Change) (n : ℕ) (es : Index) (a b : Option DiskRecord) (t : List ℕ) → b ≡ option_map (did_all (xs ++ gone (firsts n es))) a → AreKeys es → is_temporary_path t ≡ true → AllAway t xs → bytes_at (told_files b) t ≡ bytes_at (told_files a) t
+pub temporary_kept : (xs : List Change) (n : ℕ) (es : Index) (a b : Option DiskRecord) (t : List ℕ) → b ≡ option_map (did_all (xs ++ gone (firsts n es))) a → AreKeys es → is_temporary_path t ≡ true → AllAway t xs → bytes_at (told_files b) t ≡ bytes_at (told_files a) t
 temporary_kept xs n es None b t e keys is away = ap (λ o. bytes_at (told_files o) t) e
 temporary_kept xs n es (Some r) b t e keys is away =
     ap (λ o. bytes_at (told_files o) t) e ∙ ap (λ g. bytes_at g t) (files-did r (xs ++ gone (firsts n es)) ∙ replay-append (files_now r) xs (gone (firsts n es)))

@@ -1,6 +1,9 @@
 pub mod DiskStores
 pub mod Entries
+pub mod Marked
+pub mod Marks
 pub mod Moving
+pub mod Preprocessor
 pub mod Reopened
 pub mod Shown
 pub mod Wholes

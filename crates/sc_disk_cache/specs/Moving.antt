@@ -1,6 +1,6 @@
 -- What the calls of a disk store do.
 use Rattle.std.specs.Prelude.{◌≡◌, ◌≢◌, ℕ, ◌+◌, Bool, true, false, List, [], Some, None}
-use Rattle.sc_disk.specs.Store.{AddEntry}
+use Rattle.sc_disk.specs.Store.{AddEntry, IsOpen, Store}
 use Rattle.sc_entry.specs.Causes.{Rose}
 use Rattle.sc_entry.specs.Entries.{objects}
 use Rattle.sc_entry.specs.Keys.{IsStoreKey}
@@ -8,9 +8,9 @@ use Rattle.sc_pair.specs.declared.part.Part.{Part}
 use Rattle.sc_pair.specs.declared.part.Part.TheVariants.{Main, Pre}
 use Rattle.sc_model.specs.World.{Files, Asks, Causes, Evicts, Later, Level, Spells, find_file, room_cause}
 use Rattle.sc_model.specs.declared.event.Answer.{Answer}
-use Rattle.sc_model.specs.declared.event.Answer.TheVariants.{Hit, Miss, Refused, Size as SizeIs}
+use Rattle.sc_model.specs.declared.event.Answer.TheVariants.{Found, Hit, Miss, Refused, Size as SizeIs}
 use Rattle.sc_model.specs.declared.event.Mode.{Mode}
-use Rattle.sc_model.specs.declared.event.Mode.TheVariants.{Pre as PreMode, Raw, Size as Sizes, Whole}
+use Rattle.sc_model.specs.declared.event.Mode.TheVariants.{Path, Pre as PreMode, Raw, Size as Sizes, Whole}
 use Rattle.sc_model.specs.declared.event.Written.{Written}
 use Rattle.sc_model.specs.declared.event.Written.TheVariants.{Done as WriteDone, Refused as WriteRefused}
 use Rattle.sc_model.specs.declared.level.Cause.TheVariants.{BadEntry, BadKey, Io}
@@ -41,6 +41,11 @@ ReadsAt part path Miss told v w = find_file (part_files part w) path ≡ None
 ReadsAt part path (Refused Io) told v w = Rose v.faults w.faults
 ReadsAt part path answer told v w = ⊥
 
+-- whether a file stands at a path of the main part of an opened store
+abbrev pub HasFile : List ℕ → Bool → Bool → Level → Type 0
+HasFile path true told w = told ≡ true → (bytes : List ℕ) × (find_file w.main path ≡ Some bytes)
+HasFile path false told w = find_file w.main path ≡ None
+
 -- an opened store, unless the answer is a refusal
 abbrev pub OpensFor : Answer → Bool → Type 0
 OpensFor (Refused c) opened = Unit {0}
@@ -61,17 +66,19 @@ hit_or_miss answer = answer
 abbrev pub AsksDisk : List ℕ → Mode → Answer → DiskStore → DiskStore → Type 0
 AsksDisk key mode answer old new = old.told ≡ true → Asks objects old.facts old.reserved key mode answer old.level new.level
 
--- Why a lookup was answered so, whether or not the disks tell what they hold. So far a hit has no mark.
+-- Why a lookup was answered so, whether or not the disks tell what they hold. A preprocessor entry has no mark.
 abbrev pub AskCause : Mode → Answer → List ℕ → Level → Level → Type 0
-AskCause Whole (Hit bytes mark) key before now = IsStoreKey key × Spells (objects bytes) × (mark ≡ false)
+AskCause Whole (Hit bytes mark) key before now = IsStoreKey key × Spells (objects bytes)
 AskCause Whole Miss key before now = IsStoreKey key
 AskCause Whole (Refused BadKey) key before now = IsStoreKey key → ⊥
 AskCause Whole (Refused BadEntry) key before now = IsStoreKey key
 AskCause Whole (Refused Io) key before now = IsStoreKey key × Rose before.faults now.faults
-AskCause Raw (Hit bytes mark) key before now = IsStoreKey key × (mark ≡ false)
+AskCause Raw (Hit bytes mark) key before now = IsStoreKey key
 AskCause Raw Miss key before now = IsStoreKey key
 AskCause Raw (Refused BadKey) key before now = IsStoreKey key → ⊥
 AskCause Raw (Refused Io) key before now = IsStoreKey key × Rose before.faults now.faults
+AskCause Path (Found path) key before now = IsStoreKey key
+AskCause Path Miss key before now = Unit {0}
 AskCause PreMode (Hit bytes mark) key before now = IsStoreKey key × (mark ≡ false)
 AskCause PreMode Miss key before now = Unit {0}
 AskCause PreMode (Refused Io) key before now = IsStoreKey key × Rose before.faults now.faults
@@ -111,6 +118,11 @@ pub record Opens (path : List ℕ) (size : ℕ) (e : AddEntry) (old new : DiskSt
 abbrev pub OpensBy : List ℕ → ℕ → Reservation → DiskStore → DiskStore → Type 0
 OpensBy path size (IsOpened e) old new = Opens path size e old new
 OpensBy path size (IsRefused c) old new = SameEntries old new
+
+-- the entry that was opened is open in the store
+abbrev pub HasOpened : Reservation → Store → Type 0
+HasOpened (IsOpened e) s = IsOpen s e
+HasOpened (IsRefused c) s = Unit {0}
 
 -- Why an entry was opened or not, whether or not the disks tell what they hold.
 abbrev pub ReserveCause : Causes → Reservation → Level → Level → Type 0

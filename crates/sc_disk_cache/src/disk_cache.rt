@@ -2,6 +2,7 @@
 ghost use Rattle.std.specs.Prelude.{◌≡◌};
 ghost use Rattle.std.specs.Option.{option_map_or};
 
+use crate::marks::Marks;
 use sc_disk::Disk;
 use sc_entry::CacheMode;
 use sc_pair::LazyPair;
@@ -16,5 +17,6 @@ pub struct DiskCache<D: Disk> {
     pub(crate) alloc: Global,
     pub(crate) pair: LazyPair<D>,
     pub(crate) mode: CacheMode,
+    pub(crate) marks: Marks,
     ghost limit: { option_map_or (λ c. c.store.capacity) pair.opened pair.max_size ≡ pair.max_size },
 }

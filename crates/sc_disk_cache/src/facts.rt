@@ -1,11 +1,14 @@
 //! What does not change of a disk store.
 ghost use Rattle.std.specs.Prelude.{◌≡◌, ◌+◌, ◌≤◌, None, codes};
 ghost use Rattle.sc_disk_cache.specs.DiskStores.{held_disk, indexed_bytes, unopened_store};
+ghost use Rattle.sc_disk_cache.specs.Marked.{marks_of};
+ghost use Rattle.sc_disk_cache.specs.Marks.{no_marks};
 ghost use Rattle.sc_model.specs.World.{part_size};
 ghost use Rattle.sc_model.specs.declared.level.LevelKind.TheVariants.{Disk as IsDisk};
 ghost use Rattle.sc_pair.specs.Twos.{joined_state, joins};
 
 use crate::disk_cache::DiskCache;
+use crate::marks::Marks;
 use sc_disk::Disk;
 use sc_entry::{ByteText, CacheMode};
 use sc_pair::{LazyPair, Part};
@@ -15,12 +18,14 @@ impl<D: Disk> DiskCache<D> {
     /// A store on two disks, of entries and of preprocessor entries, whose files take at most `max_size` bytes together.
     /// It isn't opened yet.
     pub fn new(alloc: Global, main: D, pre: D, max_size: u64, mode: CacheMode) -> DiskCache<D>
-        ensures { held_disk result ≡ unopened_store mode max_size (joined_state (joins (D.state main) (D.state pre))) }
+        ensures held { held_disk result ≡ unopened_store mode max_size (joined_state (joins (D.state main) (D.state pre))) }
+        ensures marks { marks_of result ≡ no_marks }
     {
         DiskCache {
             alloc,
             pair: LazyPair::new(alloc, main, pre, max_size),
             mode,
+            marks: Marks::new(alloc),
         }
     }
 

@@ -6,7 +6,9 @@ mod disk_cache;
 mod facts;
 mod filling;
 mod holding;
+mod marks;
 mod opening;
+mod preprocessor;
 mod reading;
 mod reserving;
 mod whole;
@@ -14,6 +16,7 @@ mod whole;
 pub use disk_cache::DiskCache;
 pub use filling::{EntryError, Filling};
 pub use holding::HeldSize;
+pub use marks::Marks;
 pub use reserving::Reservation;
 pub use whole::mode_answer;
 

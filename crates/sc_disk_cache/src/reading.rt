@@ -1,7 +1,8 @@
 //! Reading an opened store.
 ghost use Rattle.std.specs.Prelude.{◌≡◌, ℕ, true, is_some, IfOk};
 ghost use Rattle.sc_disk_cache.specs.DiskStores.{level_of, opened_store};
-ghost use Rattle.sc_disk_cache.specs.Moving.{ReadsAt, Steady};
+ghost use Rattle.sc_disk_cache.specs.Moving.{HasFile, ReadsAt, Steady};
+ghost use Rattle.sc_entry.specs.Keys.{is_file_key};
 ghost use Rattle.sc_entry.specs.declared.cache_mode.CacheMode.{CacheMode};
 
 use sc_disk::{Disk, Error, FileKey};
@@ -16,6 +17,7 @@ pub(crate) fn read<D: Disk>(
     path: &FileKey,
     now: u64,
 ) -> Result<Answer, NoMemory>
+    requires { is_file_key path.now ≡ true }
     ensures steady { (mode : CacheMode) (capacity : ℕ) → Steady (opened_store mode capacity cache.old.store) (opened_store mode capacity cache.new.store) }
     ensures capacity { cache.new.store.capacity ≡ cache.old.store.capacity }
     ensures answer { IfOk result (λ answer. ReadsAt part path.now answer (is_some cache.old.store.disk.told) (level_of true cache.old.store.index cache.old.store.disk) (level_of true cache.new.store.index cache.new.store.disk)) }
@@ -25,6 +27,19 @@ pub(crate) fn read<D: Disk>(
         Ok(file) => Ok(Answer::Hit(ByteText::from_vec(file.into_inner()), false)),
         Err(Error::FileNotInCache) => Ok(Answer::Miss),
         Err(Error::Io) => Ok(Answer::Refused(Cause::Io)),
-        Err(_) => Err(NoMemory),
+        Err(Error::NoMemory) => Err(NoMemory),
+        Err(Error::BadKey) | Err(Error::FileTooLarge) | Err(Error::Reserved) => unreachable!(),
     }
+}
+
+/// Whether a file stands at a path of the main part. It becomes the most recently used, and keeps its moment.
+pub(crate) fn touch<D: Disk>(cache: &mut PairCache<D>, path: &FileKey) -> Result<bool, NoMemory>
+    requires { is_file_key path.now ≡ true }
+    ensures steady { (mode : CacheMode) (capacity : ℕ) → Steady (opened_store mode capacity cache.old.store) (opened_store mode capacity cache.new.store) }
+    ensures capacity { cache.new.store.capacity ≡ cache.old.store.capacity }
+    ensures there { IfOk result (λ there. HasFile path.now there (is_some cache.old.store.disk.told) (level_of true cache.new.store.index cache.new.store.disk)) }
+{
+    cache.keeps();
+    let found = cache.get_abs_path(Part::Main, path)?;
+    Ok(found.is_some())
 }

@@ -1,8 +1,10 @@
 //! Opening entries in a disk store.
 ghost use Rattle.std.specs.Prelude.{◌≡◌, ℕ, [], true, is_some, Some, Ok, IfOk, OnErr};
 ghost use Rattle.sc_disk_cache.specs.DiskStores.{disk_facts, entry_path, held_disk, level_of, opened_store};
-ghost use Rattle.sc_disk_cache.specs.Moving.{EvictsFor, OpensBy, ReserveCause, SameEntries, Stays, room_causes, written_of};
+ghost use Rattle.sc_disk_cache.specs.Marked.{MarksOpened, marks_of};
+ghost use Rattle.sc_disk_cache.specs.Moving.{EvictsFor, HasOpened, OpensBy, ReserveCause, SameEntries, Stays, room_causes, written_of};
 ghost use Rattle.sc_disk_cache.specs.declared.reserving.Reservation.TheVariants.{Refused as IsRefused};
+ghost use Rattle.sc_entry.specs.Keys.{is_file_key};
 ghost use Rattle.sc_entry.specs.declared.cache_mode.CacheMode.{CacheMode};
 ghost use Rattle.sc_disk.specs.Store.{reserved};
 ghost use Rattle.sc_model.specs.World.{Reserves, causes, early_cause as early};
@@ -26,23 +28,26 @@ pub enum Reservation {
     Refused(Cause),
 }
 
-/// Opens an entry in the main part of an opened store.
-fn prepare<D: Disk>(
+/// Opens an entry in a part of an opened store.
+pub(crate) fn prepare<D: Disk>(
     cache: &mut PairCache<D>,
+    part: Part,
     path: &FileKey,
     size: u64,
     now: u64,
 ) -> Result<Reservation, NoMemory>
+    requires { is_file_key path.now ≡ true }
     ensures stays { (mode : CacheMode) (capacity : ℕ) → Stays (opened_store mode capacity cache.old.store) (opened_store mode capacity cache.new.store) }
     ensures capacity { cache.new.store.capacity ≡ cache.old.store.capacity }
     ensures moved { IfOk result (λ how. is_some cache.old.store.disk.told ≡ true → Reserves cache.old.store.capacity (room_causes cache.old.store.capacity (reserved cache.old.store) size) (reserved cache.old.store) size (written_of how) (level_of true cache.old.store.index cache.old.store.disk) (level_of true cache.new.store.index cache.new.store.disk)) }
-    ensures entry { IfOk result (λ how. (mode : CacheMode) (capacity : ℕ) → OpensBy (in_part Main path.now) size how (opened_store mode capacity cache.old.store) (opened_store mode capacity cache.new.store)) }
+    ensures entry { IfOk result (λ how. (mode : CacheMode) (capacity : ℕ) → OpensBy (in_part part path.now) size how (opened_store mode capacity cache.old.store) (opened_store mode capacity cache.new.store)) }
     ensures kept { OnErr result ((mode : CacheMode) (capacity : ℕ) → SameEntries (opened_store mode capacity cache.old.store) (opened_store mode capacity cache.new.store)) }
     ensures evicts { OnErr result ((mode : CacheMode) → EvictsFor size (opened_store mode cache.old.store.capacity cache.old.store) (opened_store mode cache.old.store.capacity cache.new.store)) }
     ensures cause { IfOk result (λ how. ReserveCause (room_causes cache.old.store.capacity (reserved cache.old.store) size) how (level_of true cache.old.store.index cache.old.store.disk) (level_of true cache.new.store.index cache.new.store.disk)) }
+    ensures open { IfOk result (λ how. HasOpened how cache.new.store) }
 {
     cache.keeps();
-    match cache.prepare_add(Part::Main, path, size, now) {
+    match cache.prepare_add(part, path, size, now) {
         Ok(entry) => {
             cache.keeps();
             Ok(Reservation::Open(entry))
@@ -50,7 +55,8 @@ fn prepare<D: Disk>(
         Err(Error::FileTooLarge) => Ok(Reservation::Refused(Cause::FileTooLarge)),
         Err(Error::Reserved) => Ok(Reservation::Refused(Cause::Reserved)),
         Err(Error::Io) => Ok(Reservation::Refused(Cause::Io)),
-        Err(_) => Err(NoMemory),
+        Err(Error::NoMemory) => Err(NoMemory),
+        Err(Error::BadKey) | Err(Error::FileNotInCache) => unreachable!(),
     }
 }
 
@@ -73,7 +79,7 @@ fn is_read_only(mode: CacheMode) -> bool
 }
 
 /// Why a write is refused before the store is opened: the mode of a single store, then the key.
-fn early_cause(policy: &Policy, configured: CacheMode, key: &Text) -> Option<Cause>
+pub(crate) fn early_cause(policy: &Policy, configured: CacheMode, key: &Text) -> Option<Cause>
     ensures { result ≡ early policy.now (disk_facts configured 0 []) key.now }
 {
     if is_single(policy) && is_read_only(configured) {
@@ -89,8 +95,10 @@ fn early_cause(policy: &Policy, configured: CacheMode, key: &Text) -> Option<Cau
 impl<D: Disk> DiskCache<D> {
     /// Opens an entry in the main part of the opened store.
     fn prepare(&mut self, path: &FileKey, size: u64, now: u64) -> Result<Reservation, NoMemory>
-        requires { is_some self.old.pair.opened ≡ true }
+        requires lent { is_some self.old.pair.opened ≡ true }
+        requires key { is_file_key path.now ≡ true }
         ensures stays { Stays (held_disk self.old) (held_disk self.new) }
+        ensures marks { marks_of self.new ≡ marks_of self.old }
         ensures moved { IfOk result (λ how. (held_disk self.old).told ≡ true → Reserves (held_disk self.old).facts.capacity (room_causes (held_disk self.old).facts.capacity (held_disk self.old).reserved size) (held_disk self.old).reserved size (written_of how) (held_disk self.old).level (held_disk self.new).level) }
         ensures entry { IfOk result (λ how. OpensBy (in_part Main path.now) size how (held_disk self.old) (held_disk self.new)) }
         ensures kept { OnErr result (SameEntries (held_disk self.old) (held_disk self.new)) }
@@ -101,14 +109,14 @@ impl<D: Disk> DiskCache<D> {
         let Some(cache) = self.pair.get() else {
             unreachable!()
         };
-        prepare(cache, path, size, now)
+        prepare(cache, Part::Main, path, size, now)
     }
 }
 
 impl<D: Disk + Drop> DiskCache<D> {
-    /// Opens an entry for a key, of this size: files are evicted until it fits. The mode of a single store and then the key
-    /// are looked at before the store is opened, the size after.
-    pub fn reserve(
+    /// Opens an entry for a key, but for its mark.
+    #[tactic(auto, using(crate::proofs::KeyPaths::entry_key))]
+    fn reserve_entry(
         &mut self,
         policy: &Policy,
         key: &Text,
@@ -116,6 +124,7 @@ impl<D: Disk + Drop> DiskCache<D> {
         now: u64,
     ) -> Result<Reservation, NoMemory>
         ensures stays { Stays (held_disk self.old) (held_disk self.new) }
+        ensures marks { marks_of self.new ≡ marks_of self.old }
         ensures moved { IfOk result (λ how. (held_disk self.old).told ≡ true → Reserves (held_disk self.old).facts.capacity (causes policy.now (held_disk self.old).facts (held_disk self.old).reserved key.now size) (held_disk self.old).reserved size (written_of how) (held_disk self.old).level (held_disk self.new).level) }
         ensures entry { IfOk result (λ how. OpensBy (entry_path key.now) size how (held_disk self.old) (held_disk self.new)) }
         ensures kept { OnErr result (SameEntries (held_disk self.old) (held_disk self.new)) }
@@ -131,5 +140,31 @@ impl<D: Disk + Drop> DiskCache<D> {
             return Ok(Reservation::Refused(Cause::Io));
         }
         self.prepare(&path, size, now)
+    }
+
+    /// Opens an entry for a key, of this size: files are evicted until it fits. The mode of a single store and then the key
+    /// are looked at before the store is opened, the size after.
+    pub fn reserve(
+        &mut self,
+        policy: &Policy,
+        key: &Text,
+        size: u64,
+        now: u64,
+    ) -> Result<Reservation, NoMemory>
+        ensures stays { Stays (held_disk self.old) (held_disk self.new) }
+        ensures marks { IfOk result (λ how. MarksOpened how (marks_of self.old) (marks_of self.new)) }
+        ensures marks_stay { OnErr result (marks_of self.new ≡ marks_of self.old) }
+        ensures moved { IfOk result (λ how. (held_disk self.old).told ≡ true → Reserves (held_disk self.old).facts.capacity (causes policy.now (held_disk self.old).facts (held_disk self.old).reserved key.now size) (held_disk self.old).reserved size (written_of how) (held_disk self.old).level (held_disk self.new).level) }
+        ensures entry { IfOk result (λ how. OpensBy (entry_path key.now) size how (held_disk self.old) (held_disk self.new)) }
+        ensures kept { OnErr result (SameEntries (held_disk self.old) (held_disk self.new)) }
+        ensures evicts { OnErr result (EvictsFor size (held_disk self.old) (held_disk self.new)) }
+        ensures cause { IfOk result (λ how. ReserveCause (causes policy.now (held_disk self.old).facts (held_disk self.old).reserved key.now size) how (held_disk self.old).level (held_disk self.new).level) }
+        ensures early { (c : CauseOf) → early policy.now (held_disk self.old).facts key.now ≡ Some c → (result ≡ Ok (IsRefused c)) × (self.new ≡ self.old) }
+    {
+        let how = self.reserve_entry(policy, key, size, now)?;
+        if let Reservation::Open(entry) = &how {
+            self.marks.forget(entry.number());
+        }
+        Ok(how)
     }
 }

@@ -62,7 +62,7 @@ fn still_open(filled: Result<Filling, EntryError>) -> Result<LruDiskCacheAddEntr
 fn store(alloc: Global, cache: &mut Cache, key: &str, bytes: &[u8]) -> Result<bool, Fail> {
     let reservation = reserve(alloc, cache, key, bytes.len() as u64)?;
     let entry = opened(reservation)?;
-    let entry = still_open(cache.fill(entry, bytes))?;
+    let entry = still_open(cache.fill(entry, bytes, false))?;
     match cache.commit(entry, 2) {
         Ok(written) => Ok(matches!(written, Written::Done)),
         Err(_) => Err(Fail::new("refused")),
@@ -221,7 +221,7 @@ fn is_not_open(filled: Result<Filling, EntryError>) -> bool {
 fn refuses_another(alloc: Global, cache: &mut Cache, other: &mut Cache) -> Result<bool, Fail> {
     let reservation = reserve(alloc, cache, "abc", 1)?;
     let entry = opened(reservation)?;
-    Ok(is_not_open(other.fill(entry, b"0")))
+    Ok(is_not_open(other.fill(entry, b"0", false)))
 }
 
 fn refuses_in_a_second(alloc: Global, cache: &mut Cache) -> Result<bool, Fail> {
@@ -313,4 +313,95 @@ fn holds_the_same(rt: &impl Abort, alloc: Global, cache: &mut Cache) -> Result<(
 fn tells_its_size_unopened(rt: HostRuntime) -> Result<(), Fail> {
     let mut cache = filled_cache(rt.alloc())?;
     holds_the_same(&rt, rt.alloc(), &mut cache)
+}
+
+/// Puts a preprocessor entry; whether it was done.
+fn put_pre(alloc: Global, cache: &mut Cache, key: &str, bytes: &[u8]) -> Result<bool, NoMemory> {
+    let key = Text::from_str(alloc, key)?;
+    let written = cache.put_pre(&Policy::Single, &key, bytes, 4)?;
+    Ok(matches!(written, Written::Done))
+}
+
+fn pre_hit(alloc: Global, cache: &mut Cache, key: &str) -> Result<Option<usize>, NoMemory> {
+    let key = Text::from_str(alloc, key)?;
+    let answer = cache.ask(&key, Mode::Pre, 5)?;
+    Ok(bytes_in(&answer))
+}
+
+fn shares_the_capacity(rt: &impl Abort, alloc: Global, cache: &mut Cache) -> Result<(), Fail> {
+    assert!(rt; store(alloc, cache, "abc", b"AAAA")?);
+    assert!(rt; put_pre(alloc, cache, "abd", b"Pxyz")?);
+    assert_eq!(rt; pre_hit(alloc, cache, "abd")?, Some(4));
+    assert_eq!(rt; raw_hit(alloc, cache, "abc")?, Some(4));
+    assert!(rt; store(alloc, cache, "abe", b"BBBB")?);
+    assert_eq!(rt; pre_hit(alloc, cache, "abd")?, None);
+    assert!(rt; !put_pre(alloc, cache, "abf", b"0123456789x")?);
+    assert_eq!(rt; cache.current_size(), Some(8));
+    Ok(())
+}
+
+/// A preprocessor entry goes for an entry where it is the least recently used, and is refused where it doesn't fit.
+#[test]
+fn keeps_preprocessor_entries(rt: HostRuntime) -> Result<(), Fail> {
+    let mut cache = cache_of(rt.alloc(), 10, &[])?;
+    shares_the_capacity(&rt, rt.alloc(), &mut cache)
+}
+
+/// Whether the file of a key stands at this path.
+fn stands_at(alloc: Global, cache: &mut Cache, key: &str, path: &[u8]) -> Result<bool, NoMemory> {
+    let key = Text::from_str(alloc, key)?;
+    match cache.ask(&key, Mode::Path, 6)? {
+        Answer::Found(found) => Ok(found.as_slice() == path),
+        _ => Ok(false),
+    }
+}
+
+fn tells_paths(rt: &impl Abort, alloc: Global, cache: &mut Cache) -> Result<(), Fail> {
+    assert!(rt; store(alloc, cache, "abc", b"AAA")?);
+    assert!(rt; stands_at(alloc, cache, "abc", b"/0/a/b/abc")?);
+    assert!(rt; !stands_at(alloc, cache, "abd", b"/0/a/b/abd")?);
+    Ok(())
+}
+
+/// The file of a key stands in two folders under the root.
+#[test]
+fn tells_where_a_file_stands(rt: HostRuntime) -> Result<(), Fail> {
+    let mut cache = cache_of(rt.alloc(), 10, &[])?;
+    tells_paths(&rt, rt.alloc(), &mut cache)
+}
+
+/// Stores a byte under a key by these fills, each of which a local run made or didn't.
+fn store_run(alloc: Global, cache: &mut Cache, key: &str, fills: &[bool]) -> Result<(), Fail> {
+    let reservation = reserve(alloc, cache, key, 4)?;
+    let mut entry = opened(reservation)?;
+    for from_run in fills {
+        entry = still_open(cache.fill(entry, b"0", *from_run))?;
+    }
+    match cache.commit(entry, 2) {
+        Ok(_) => Ok(()),
+        Err(_) => Err(Fail::new("refused")),
+    }
+}
+
+fn is_marked(alloc: Global, cache: &mut Cache, key: &str) -> Result<bool, NoMemory> {
+    let key = Text::from_str(alloc, key)?;
+    let answer = cache.ask(&key, Mode::Raw, 3)?;
+    Ok(matches!(answer, Answer::Hit(_, true)))
+}
+
+fn marks(rt: &impl Abort, alloc: Global, cache: &mut Cache) -> Result<(), Fail> {
+    store_run(alloc, cache, "abc", &[true])?;
+    assert!(rt; is_marked(alloc, cache, "abc")?);
+    store_run(alloc, cache, "abd", &[true, true])?;
+    assert!(rt; !is_marked(alloc, cache, "abd")?);
+    store_run(alloc, cache, "abc", &[false])?;
+    assert!(rt; !is_marked(alloc, cache, "abc")?);
+    Ok(())
+}
+
+/// A key is marked by one fill of a local run, neither by two nor once it was put again.
+#[test]
+fn marks_what_a_local_run_made(rt: HostRuntime) -> Result<(), Fail> {
+    let mut cache = cache_of(rt.alloc(), 10, &[])?;
+    marks(&rt, rt.alloc(), &mut cache)
 }

@@ -70,7 +70,7 @@ fn remote_level(alloc: Global, rule: LevelRule) -> Result<Level<MemRemote, MemDi
     ensures { IfOk result (λ level. held_level level ≡ held_as kinds.Remote 0 rule) }
 {
     let remote = device(alloc, rule.holds, rule.fails)?;
-    let store = RemoteStorage::new(remote, Items::new(alloc), rule.mode);
+    let store = RemoteStorage::new(alloc, remote, Items::new(alloc), rule.mode);
     Ok(Level::Remote(store))
 }
 

@@ -41,7 +41,7 @@ MovesTo o n x told w = (told ≡ o.told) × (o.told ≡ true → Moves (setup o.
 
 -- what the levels of a state hold
 abbrev pub held_in : State → Held
-held_in o = record { titles = []; facts = o.config.levels; policy = o.config.policy; told = o.told; levels = o.world.levels; rooms = o.rooms }
+held_in o = record { titles = []; facts = o.config.levels; policy = o.config.policy; told = o.told; levels = o.world.levels; rooms = o.rooms; marks = [] }
 
 asked_of : (o : State) (after : Held) (l : ℕ) (key : List ℕ) (mode : Mode) (a : Answer) (hs : List Handed) (n : Need) → mode ≢ Path → after.told ≡ o.told → AsksAt l key mode a (held_in o) after
     → MovesTo o n (Asked l key mode a hs) after.told (record o.world { levels = after.levels })

@@ -177,8 +177,11 @@ impl<P: Parts> Hold for Owned<P> {
         bytes: &Bytes,
     ) -> Result<Filling, NoMemory> {
         let _count = self.levels.len();
-        let bytes = bytes.bytes.as_slice();
-        let how = match self.levels.fill(level as usize, entry, bytes) {
+        let entry_bytes = bytes.bytes.as_slice();
+        let how = match self
+            .levels
+            .fill(level as usize, entry, entry_bytes, bytes.run)
+        {
             Ok(how) => how,
             Err(EntryError::NoMemory) => return Err(NoMemory),
             Err(EntryError::NotOpen) => unreachable!(),

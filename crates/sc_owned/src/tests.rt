@@ -97,14 +97,15 @@ fn owned(alloc: Global, fails: u64) -> Result<Owned<Memory>, Fail> {
     let mut failing = Items::new(alloc);
     failing.push(fails)?;
     let remote = MemRemote::new(alloc, Items::new(alloc), failing)?;
-    let store = RemoteStorage::new(remote, Items::new(alloc), CacheMode::ReadWrite);
+    let store = RemoteStorage::new(alloc, remote, Items::new(alloc), CacheMode::ReadWrite);
     let levels = Levels::new(vec![in alloc; Level::Remote(store)]?, Policy::Single);
     Ok(Owned::new(levels, shop(alloc)?, tools(alloc)?, 1, 64))
 }
 
 fn told_answer(answer: &Answer) -> &[u8] {
     match answer {
-        Answer::Hit(bytes, false) => bytes.as_slice(),
+        Answer::Hit(bytes, true) => bytes.as_slice(),
+        Answer::Hit(_, false) => b"unmarked",
         Answer::Miss => b"miss",
         Answer::Refused(_) => b"refused",
         _ => b"another",

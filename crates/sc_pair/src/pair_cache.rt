@@ -170,6 +170,13 @@ impl<D: Disk> PairCache<D> {
         self.store.is_open(entry)
     }
 
+    /// Whether a key of both parts, as `part_key` makes them, is indexed. One that is open alone isn't.
+    pub fn contains(&self, both: &FileKey) -> bool
+        ensures { result ≡ is_some (lookup (bytes_eq both.now) self.now.store.index) }
+    {
+        self.store.contains_key(both)
+    }
+
     /// Whether a key of a part is indexed. One that is open alone isn't.
     pub fn contains_key(&self, part: Part, key: &FileKey) -> Result<bool, NoMemory>
         ensures { IfOk result (λ found. found ≡ is_some (lookup (bytes_eq key.now) (index_of part self.now.store.index))) }

@@ -1,5 +1,6 @@
 //! Paths of the files of a store of two folders.
-ghost use Rattle.std.specs.Prelude.{◌≡◌, ◌-◌, ◌==◌, IfOk, OnErr, length, slice_index_or};
+ghost use Rattle.std.specs.Prelude.{◌≡◌, ◌-◌, ◌==◌, ℕ, List, IfOk, OnErr, bytes_eq, length, slice_index_or};
+ghost use Rattle.std.specs.Map.{lookup};
 ghost use Rattle.sc_disk.specs.Paths.{abs_path};
 ghost use Rattle.sc_disk.specs.Store.{IsTidy};
 ghost use Rattle.sc_pair.specs.Pairs.{FindsPath, root_of};
@@ -35,12 +36,14 @@ impl<D: Disk> PairCache<D> {
     pub fn get_abs_path(&mut self, part: Part, key: &FileKey) -> Result<Option<ByteText>, NoMemory>
         ensures path { IfOk result (λ path. FindsPath part key.now (root_of part self.old.store.disk.root self.old.pre_root) path self.old.store self.new.store) }
         ensures err { OnErr result (self.new.store.index ≡ self.old.store.index) }
+        ensures sizes { (q : List ℕ) → lookup (bytes_eq q) self.new.store.index ≡ lookup (bytes_eq q) self.old.store.index }
         ensures pending { self.new.store.pending ≡ self.old.store.pending }
         ensures capacity { self.new.store.capacity ≡ self.old.store.capacity }
         ensures disk { self.new.store.disk ≡ self.old.store.disk }
         ensures tidy { IsTidy self.old.store → IsTidy self.new.store }
         ensures pre_root { self.new.pre_root ≡ self.old.pre_root }
     {
+        self.keeps();
         let both = part_key(self.alloc, part, key)?;
         let path = path_under(self.alloc, self.path(part), key)?;
         match self.store.get_abs_path(&both)? {

@@ -10,14 +10,12 @@ use Rattle.sc_model.specs.declared.event.Written.{Written}
 use Rattle.sc_model.specs.declared.event.Written.TheVariants.{Done}
 use Rattle.sc_model.specs.declared.level.LevelKind.{LevelKind}
 use Rattle.sc_model.specs.declared.level.LevelKind.TheVariants.{Disk}
-use Rattle.sc_model.specs.declared.level.Policy.TheVariants.{Single}
 use Rattle.sc_storage.proofs.Chains.{spelled_at}
-use Rattle.sc_storage.specs.Puts.{PutsDisk}
-use Rattle.sc_storage.specs.Storages.{Alone, AreIn, Gets, GetsBoth, GetsRaw, HitIsSpelled, IsCached, IsRefusal, IsWritten, LooksAlone, LookupRefused, PutRefusedAlone, PutsAlone}
+use Rattle.sc_storage.specs.Storages.{Alone, AreIn, Gets, GetsBoth, GetsRaw, HitIsSpelled, IsCached, IsRefusal, IsWritten, LooksAlone, LookupRefused, PutRefusedAlone, PutsAlone, PutsFile}
 use Rattle.sc_storage.specs.declared.storage_error.StorageError.{StorageError}
 use Rattle.sc_storage.specs.declared.storage_error.StorageError.TheVariants.{Level as LevelRefused, NoLevels, NoMemory, Refused, Unsupported}
 use Rattle.sc_store.specs.Asking.{CauseBy}
-use Rattle.sc_store.specs.Held.{HeldLevel, disk_of}
+use Rattle.sc_store.specs.Held.{HeldLevel}
 
 pub hit_is_spelled : (kind : LevelKind) (answer : Answer) (key : List ℕ) (v w : Level) → CauseBy kind Whole answer key v w → HitIsSpelled answer
 hit_is_spelled kind (Hit bytes mark) key v w cause = spelled_at kind bytes key mark v w cause
@@ -65,5 +63,5 @@ pub put_refused : {A : Type 0} (r : Result A StorageError) (key bytes : List ℕ
 put_refused (Ok x) key bytes how a b puts is = tt
 put_refused (Err e) key bytes how a b puts is = not_put e key bytes how a b puts is
 
-pub at_disk : (kind : LevelKind) (key bytes : List ℕ) (how : Written) (a b : HeldLevel) → kind ≡ Disk → PutsDisk Single key bytes how (disk_of a) (disk_of b) → PutsAlone kind key bytes how a b
+pub at_disk : (kind : LevelKind) (key bytes : List ℕ) (how : Written) (a b : HeldLevel) → kind ≡ Disk → PutsFile key bytes how a b → PutsAlone kind key bytes how a b
 at_disk kind key bytes how a b is puts = subst (λ (k : LevelKind). PutsAlone k key bytes how a b) (sym is) puts

@@ -4,6 +4,8 @@ use Rattle.std.specs.Option.{option_map_or}
 use Rattle.sc_disk.specs.Store.{AddEntry}
 use Rattle.sc_disk_cache.specs.DiskStores.{DiskStore, OpenEntry, entry_at, entry_path}
 use Rattle.sc_disk_cache.specs.Entries.{ClosesEntry, CommitCause, CommitsEntry, CommitsFile, FillsBy, IsOpenAt, OthersStay, size_at}
+use Rattle.sc_disk_cache.specs.Marked.{MarksCommitted, MarksFilled, MarksOpened}
+use Rattle.sc_disk_cache.specs.Marks.{Fills, Forgets, Marks, SameMarks, after_fill, is_marked, mark_of}
 use Rattle.sc_disk_cache.specs.Moving.{Opens, OpensBy, ReserveCause, SameEntries, written_of as reserved_of}
 use Rattle.sc_disk_cache.specs.declared.filling.Filling.TheVariants.{Filled as StillOpen, Refused as NotFilled}
 use Rattle.sc_disk_cache.specs.declared.reserving.Reservation.{Reservation}
@@ -21,18 +23,20 @@ use Rattle.sc_model.specs.declared.level.LevelFacts.{LevelFacts}
 use Rattle.sc_model.specs.declared.level.LevelKind.TheVariants.{Disk}
 use Rattle.sc_model.specs.declared.level.Policy.{Policy}
 use Rattle.sc_storage.specs.Moving.{Keeps}
-use Rattle.sc_storage.specs.Puts.{EntryCause, PutsDisk, PutsEntry}
+use Rattle.sc_pair.specs.Parts.{in_part}
+use Rattle.sc_pair.specs.declared.part.Part.TheVariants.{Main}
+use Rattle.sc_storage.specs.Puts.{EntryCause, PutMarks, PutsDisk, PutsEntry}
 use Rattle.sc_store.proofs.Alone.{other_set}
 use Rattle.sc_store.proofs.Checks.{later_then}
 use Rattle.sc_store.specs.Asking.{AloneAt, ReservesDisk}
-use Rattle.sc_store.specs.Held.{Held, disk_in, level_in, no_room, room_in}
+use Rattle.sc_store.specs.Held.{Held, disk_in, level_in, marks_in, no_room, room_in}
 
 never : false ≡ true → ⊥
 never e = absurd (cc)
 
-pub if_both : {A E : Type 0} {P Q S : A → Type 0} (r : Result A E) → ((a : A) → P a → Q a → S a) → IfOk r P → IfOk r Q → IfOk r S
-if_both (Ok a) f p q = f a p q
-if_both (Err e) f p q = tt
+pub if_all : {A E : Type 0} {P Q M S : A → Type 0} (r : Result A E) → ((a : A) → P a → Q a → M a → S a) → IfOk r P → IfOk r Q → IfOk r M → IfOk r S
+if_all (Ok a) f p q m = f a p q m
+if_all (Err e) f p q m = tt
 
 -- one level moved twice
 pub alone_then : (l : ℕ) (a b c : Held) → AloneAt l a b → AloneAt l b c → AloneAt l a c
@@ -43,6 +47,7 @@ alone_then l a b c s t = record {
   told = t.told ∙ s.told;
   levels = t.levels ∙ ap (λ vs. slice_set vs l (level_in c.levels l)) s.levels ∙ set-set a.levels l (level_in b.levels l) (level_in c.levels l);
   rooms = t.rooms ∙ ap (λ rs. slice_set rs l (room_in c.rooms l)) s.rooms ∙ set-set a.rooms l (room_in b.rooms l) (room_in c.rooms l);
+  marks = t.marks ∙ ap (λ ms. slice_set ms l (marks_in c.marks l)) s.marks ∙ set-set a.marks l (marks_in b.marks l) (marks_in c.marks l);
 }
 
 -- what is so of one level, and of all others, is so of all
@@ -211,3 +216,29 @@ was_put policy key size e e2 bytes how s t u w long o later same f after closes 
       wrote = λ t2. commit_puts how s.facts.capacity expected s.reserved key bytes s.level t.level u.level w.level early (sized.reserves t2) f.1.maps later till after (file t2);
       cause = commit_cause how e2.number (make_key_path key) bytes s.told expected s.level u w sized.free early till file cause;
     }
+
+-- The marks of such a put.
+pub kept_marks : (a b : Marks) → b ≡ a → SameMarks a b
+kept_marks a b same = λ q. ap (λ (m : Marks). is_marked m q) same
+
+marks_then : (a b c : Marks) → SameMarks a b → SameMarks b c → SameMarks a c
+marks_then a b c s t = λ q. t q ∙ s q
+
+pub not_filled : (e : AddEntry) (c : Cause) (how : Reservation) (a b d : Marks) (number : ℕ) (mark : Bool) → how ≡ Open e → MarksOpened how a b → MarksFilled number mark (NotFilled c) b d → SameMarks a d
+not_filled e c how a b d number mark is opened filled =
+    let began : Forgets e.number a b = subst (λ (x : Reservation). MarksOpened x a b) is opened in
+    marks_then a b d began.files filled.files
+
+settled : (path : List ℕ) (e : AddEntry) (mark : Bool) (how : Written) (a b c d : Marks) (w : DiskStore) → Forgets e.number a b → Fills e.number mark b c → MarksCommitted e.number path how c d w → PutMarks path mark how a d w
+settled path e mark Done a b c d w opened filled done = record {
+  marked = done.marked ∙ ap mark_of (filled.filled ∙ ap (λ o. Some (after_fill o mark)) opened.none);
+  kept = λ told key bytes apart is. done.kept told key bytes apart is ∙ filled.files (in_part Main key) ∙ opened.files (in_part Main key);
+  fewer = λ q apart none. done.fewer q apart (filled.files q ∙ opened.files q ∙ none);
+}
+settled path e mark (Refused r) a b c d w opened filled done = marks_then a c d (marks_then a b c opened.files filled.files) done.files
+
+pub marks_put : (policy : Policy) (key : List ℕ) (size : ℕ) (e e2 : AddEntry) (bytes : List ℕ) (s t u : DiskStore) (how_opened : Reservation) (mark : Bool) (how : Written) (a b c d : Marks) (w : DiskStore) → Opened policy key size e s t → FillsBy e bytes (StillOpen e2) t u
+    → how_opened ≡ Open e → MarksOpened how_opened a b → MarksFilled e.number mark (StillOpen e2) b c → MarksCommitted e2.number e2.key how c d w → PutMarks (entry_path key) mark how a d w
+marks_put policy key size e e2 bytes s t u how_opened mark how a b c d w o f is opened filled done =
+    settled (entry_path key) e mark how a b c d w (subst (λ (x : Reservation). MarksOpened x a b) is opened) filled
+    (subst (λ (p : List ℕ). MarksCommitted e.number p how c d w) o.opens.key (subst (λ (x : AddEntry). MarksCommitted x.number x.key how c d w) f.0 done))

@@ -17,4 +17,4 @@ turn count l next mode step is answer old between new h after same takes goes =
     subst (λ (n : ℕ). ChecksFrom n l mode answer old new) (sym (one_less count l h)) (is, between, subst (λ (s : Step). TakesTurn (policy_at old.policy l) l mode s old between) same takes, rest)
 
 pub stays_then : (a b c : Held) → Stays a b → Stays b c → Stays a c
-stays_then a b c s t = record { titles = t.titles ∙ s.titles; policy = t.policy ∙ s.policy; told = t.told ∙ s.told; rooms = t.rooms ∙ s.rooms; count = t.count ∙ s.count }
+stays_then a b c s t = record { titles = t.titles ∙ s.titles; policy = t.policy ∙ s.policy; told = t.told ∙ s.told; rooms = t.rooms ∙ s.rooms; marks = t.marks ∙ s.marks; count = t.count ∙ s.count }

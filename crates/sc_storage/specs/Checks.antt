@@ -27,6 +27,7 @@ pub record CheckedAt (l : ℕ) (answer : Checked) (old new : Held) : Type 0 wher
   pub policy : new.policy ≡ old.policy
   pub told : new.told ≡ old.told
   pub rooms : new.rooms ≡ old.rooms
+  pub marks : new.marks ≡ old.marks
   pub alone : new.levels ≡ slice_set old.levels l (level_in new.levels l)
   pub later : Later (level_in old.levels l) (level_in new.levels l)
   pub checked : ChecksAt l answer old new
@@ -74,4 +75,5 @@ pub record Stays (old new : Held) : Type 0 where
   pub policy : new.policy ≡ old.policy
   pub told : new.told ≡ old.told
   pub rooms : new.rooms ≡ old.rooms
+  pub marks : new.marks ≡ old.marks
   pub count : length new.levels ≡ length old.levels

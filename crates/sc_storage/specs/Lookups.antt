@@ -16,8 +16,8 @@ use Rattle.sc_model.specs.declared.level.Handed.{Handed}
 use Rattle.sc_storage.specs.Moving.{Counted}
 use Rattle.sc_storage.specs.Puts.{WritesHanded}
 use Rattle.sc_storage.specs.declared.lookup.Hit.{Hit}
-use Rattle.sc_store.specs.Asking.{AsksAt, CauseBy, reads_key}
-use Rattle.sc_store.specs.Held.{Held, level_in}
+use Rattle.sc_store.specs.Asking.{AsksAt, CauseBy, MarksAsked, TellsMark, reads_key}
+use Rattle.sc_store.specs.Held.{Held, level_in, marks_in}
 
 -- One level was asked, and no other.
 pub record AskedAt (l : ℕ) (key : List ℕ) (mode : Mode) (answer : Answer) (old new : Held) : Type 0 where
@@ -31,6 +31,9 @@ pub record AskedAt (l : ℕ) (key : List ℕ) (mode : Mode) (answer : Answer) (o
   pub asked : AsksAt l key mode answer old new
   pub cause : CauseBy (level_facts old.facts l).kind mode answer key (level_in old.levels l) (level_in new.levels l)
   pub bad_key : reads_key mode ≡ true → is_store_key key ≡ false → new ≡ old
+  pub mark : reads_key mode ≡ true → TellsMark (level_facts old.facts l).kind (marks_in old.marks l) key answer
+  pub marks : MarksAsked (level_facts old.facts l).kind mode key answer (marks_in old.marks l) (marks_in new.marks l)
+  pub marks_alone : new.marks ≡ slice_set old.marks l (marks_in new.marks l)
 
 -- What it answered was counted there. All of a call is at one moment, so that nothing takes time.
 pub record LooksAt (l : ℕ) (key : List ℕ) (mode : Mode) (answer : Answer) (old new : Counted) : Type 0 where

@@ -1,19 +1,21 @@
 -- Any store of entries, and what its calls do.
 use Rattle.std.specs.Prelude.{◌≡◌, ◌++◌, ℕ, Bool, true, false, List, Option, Some, None, codes, decimal}
-use Rattle.sc_disk_cache.specs.DiskStores.{entry_at}
+use Rattle.sc_disk_cache.specs.DiskStores.{entry_at, entry_path}
 use Rattle.sc_entry.specs.Keys.{is_store_key}
 use Rattle.sc_entry.specs.declared.cache.Cache.{Cache}
 use Rattle.sc_entry.specs.declared.cache.Cache.TheVariants.{Hit as HitIs, Miss as MissIs}
 use Rattle.sc_entry.specs.declared.cache_mode.CacheMode.{CacheMode}
 use Rattle.sc_entry.specs.declared.cache_mode.CacheMode.TheVariants.{ReadOnly}
+use Rattle.sc_entry.specs.declared.get_path_result.GetPathResult.{GetPathResult}
+use Rattle.sc_entry.specs.declared.get_path_result.GetPathResult.TheVariants.{Found as FoundAt, Miss as NoFile, Unsupported as NoPaths}
 use Rattle.sc_model.specs.Follows.{some_size}
 use Rattle.sc_model.specs.Plan.{cause_text}
 use Rattle.sc_model.specs.World as world
 use Rattle.sc_model.specs.World.{Later, early_cause}
 use Rattle.sc_model.specs.declared.event.Answer.{Answer}
-use Rattle.sc_model.specs.declared.event.Answer.TheVariants.{Hit as AnswersHit, Refused as AnswersRefused}
+use Rattle.sc_model.specs.declared.event.Answer.TheVariants.{Found as AnswersFound, Hit as AnswersHit, Refused as AnswersRefused}
 use Rattle.sc_model.specs.declared.event.Mode.{Mode}
-use Rattle.sc_model.specs.declared.event.Mode.TheVariants.{Pre, Raw, Whole}
+use Rattle.sc_model.specs.declared.event.Mode.TheVariants.{Path, Pre, Raw, Whole}
 use Rattle.sc_model.specs.declared.event.Written.{Written}
 use Rattle.sc_model.specs.declared.event.Written.TheVariants.{Done as WriteDone, Refused as WriteRefused}
 use Rattle.sc_model.specs.declared.level.Cause.{Cause}
@@ -28,14 +30,14 @@ use Rattle.sc_stats.specs.declared.counters.LevelStats.{LevelStats}
 use Rattle.sc_storage.specs.Checks.{ChecksAll, Stays}
 use Rattle.sc_storage.specs.Lookups.{AreSpelled, IsCache, IsEntry, LooksUp, bytes_of}
 use Rattle.sc_storage.specs.Moving.{Keeps}
-use Rattle.sc_storage.specs.Preprocessor.{AsksEach}
-use Rattle.sc_storage.specs.Puts.{Puts, PutsDisk}
+use Rattle.sc_storage.specs.Preprocessor.{AsksEach, PutsPreOver}
+use Rattle.sc_storage.specs.Puts.{PutMarks, Puts, PutsDisk}
 use Rattle.sc_storage.specs.Sizes.{size_sum}
 use Rattle.sc_storage.specs.Stores.{Multilevel, counted_of, first_flag}
 use Rattle.sc_storage.specs.declared.lookup.Hit.{Hit}
 use Rattle.sc_storage.specs.declared.storage_error.StorageError.{StorageError}
 use Rattle.sc_storage.specs.declared.storage_error.StorageError.TheVariants.{Level as LevelRefused, NoLevels, NoMemory, Refused, Unsupported}
-use Rattle.sc_store.specs.Asking.{AsksLevel, CauseBy, PutCause, PutsLevel, reads_key}
+use Rattle.sc_store.specs.Asking.{AsksLevel, CauseBy, MarksAsked, MarksWrote, PreCauseAt, PutCause, PutsLevel, PutsPre, TellsMark, reads_key}
 use Rattle.sc_store.specs.Checking.{ChecksLevel, facts_after}
 use Rattle.sc_store.specs.Held.{HeldLevel, disk_of}
 use Rattle.sc_store.specs.Telling.{level_max, store_location, store_max, store_type}
@@ -106,12 +108,14 @@ KeepsStore (Layered a) (Layered b) = Keeps a.held b.held × (b.basedirs ≡ a.ba
 KeepsStore (Wrapped a) (Wrapped b) = KeepsStore a b
 KeepsStore a b = ⊥
 
--- A lookup at a store that stands alone. A bad key calls nothing.
+-- A lookup at a store that stands alone. A bad key calls nothing, and a hit tells the mark of its key.
 pub record LooksAlone (key : List ℕ) (mode : Mode) (answer : Answer) (old new : HeldLevel) : Type 0 where
   pub later : Later old.level new.level
   pub asked : AsksLevel key mode answer old new
   pub cause : CauseBy old.facts.kind mode answer key old.level new.level
   pub bad_key : reads_key mode ≡ true → is_store_key key ≡ false → (answer ≡ AnswersRefused BadKey) × (new ≡ old)
+  pub mark : reads_key mode ≡ true → TellsMark old.facts.kind old.marks key answer
+  pub marks : MarksAsked old.facts.kind mode key answer old.marks new.marks
 
 -- a hit's bytes spell an entry
 abbrev pub HitIsSpelled : Answer → Type 0
@@ -195,17 +199,37 @@ RefusesPre (Layered a) (Layered b) key error = PreRefusedOver error key a b
 RefusesPre (Wrapped a) (Wrapped b) key error = RefusesPre a b key error
 RefusesPre a b key error = ⊥
 
--- A put at a remote store that stands alone. One that is refused for its mode or key calls nothing.
+-- an answer as where a file stands
+abbrev pub IsPath : Answer → GetPathResult → Type 0
+IsPath (AnswersFound path) found = found ≡ FoundAt path
+IsPath answer found = found ≡ NoFile
+
+-- A store that keeps no files has no paths, and is not touched.
+abbrev pub PathsAlone : LevelKind → List ℕ → GetPathResult → HeldLevel → HeldLevel → Type 0
+PathsAlone Disk key found old new = (answer : Answer) × LooksAlone key Path answer old new × IsPath answer found
+PathsAlone Remote key found old new = (found ≡ NoPaths) × (new ≡ old)
+
+-- It was told where a key's file stands, which a disk store that stands alone can.
+abbrev pub GetsPath : State → State → List ℕ → GetPathResult → Type 0
+GetsPath (Alone a) (Alone b) key found = PathsAlone a.facts.kind key found a b
+GetsPath a b key found = (found ≡ NoPaths) × (b ≡ a)
+
+-- A put at a remote store that stands alone. One that is refused for its mode or key calls nothing. No local run made its bytes.
 pub record PutsRemote (key bytes : List ℕ) (how : Written) (old new : HeldLevel) : Type 0 where
   pub later : Later old.level new.level
   pub wrote : PutsLevel Single key bytes how old new
   pub cause : PutCause (early_cause Single old.facts key) how old.level new.level
   pub early : (c : Cause) → early_cause Single old.facts key ≡ Some c → (how ≡ WriteRefused c) × (new ≡ old)
+  pub marks : MarksWrote key false how old.marks new.marks
+
+-- One at a disk store.
+abbrev pub PutsFile : List ℕ → List ℕ → Written → HeldLevel → HeldLevel → Type 0
+PutsFile key bytes how old new = PutsDisk Single key bytes how (disk_of old) (disk_of new) × PutMarks (entry_path key) false how old.marks new.marks (disk_of new)
 
 -- A put at a store that stands alone.
 abbrev pub PutsAlone : LevelKind → List ℕ → List ℕ → Written → HeldLevel → HeldLevel → Type 0
 PutsAlone Remote key bytes how old new = PutsRemote key bytes how old new
-PutsAlone Disk key bytes how old new = PutsDisk Single key bytes how (disk_of old) (disk_of new)
+PutsAlone Disk key bytes how old new = PutsFile key bytes how old new
 
 -- An entry, or bytes as they are, were put. A store that is only read takes none.
 abbrev pub PutsIn : State → State → List ℕ → List ℕ → Type 0
@@ -243,11 +267,43 @@ RefusesPut refusal a b key bytes error = ⊥
 abbrev pub only_read : StorageError
 only_read = Refused (ForReading Wrapper)
 
+-- A put of an entry of the preprocessor at a disk store that stands alone. One that is refused for its mode or key calls nothing.
+pub record PutsPreDisk (key bytes : List ℕ) (how : Written) (old new : HeldLevel) : Type 0 where
+  pub later : Later old.level new.level
+  pub wrote : PutsPre Single key bytes how (disk_of old) (disk_of new)
+  pub marks : new.marks ≡ old.marks
+  pub cause : PreCauseAt Single key bytes how (disk_of old) (disk_of new)
+  pub early : (c : Cause) → early_cause Single old.facts key ≡ Some c → (how ≡ WriteRefused c) × (new ≡ old)
+
+-- At any store that stands alone. A remote store keeps none, and is not called.
+abbrev pub PutsPreAlone : LevelKind → List ℕ → List ℕ → Written → HeldLevel → HeldLevel → Type 0
+PutsPreAlone Disk key bytes how old new = PutsPreDisk key bytes how old new
+PutsPreAlone Remote key bytes how old new = (how ≡ WriteDone) × (new ≡ old)
+
+-- An entry of the preprocessor was put. What levels count stays; a store that is only read takes none.
+abbrev pub PutsPreIn : State → State → List ℕ → List ℕ → Type 0
+PutsPreIn (Alone a) (Alone b) key bytes = PutsPreAlone a.facts.kind key bytes WriteDone a b
+PutsPreIn (Layered a) (Layered b) key bytes = PutsPreOver key bytes a.held b.held × (b.counters ≡ a.counters)
+PutsPreIn a b key bytes = ⊥
+
+abbrev pub PrePutRefused : LevelKind → StorageError → List ℕ → List ℕ → HeldLevel → HeldLevel → Type 0
+PrePutRefused Disk NoMemory key bytes old new = Unit {0}
+PrePutRefused Disk (Refused cause) key bytes old new = PutsPreAlone Disk key bytes (WriteRefused cause) old new
+PrePutRefused kind error key bytes old new = ⊥
+
+-- A refused put of such an entry. A remote store refuses none, and over levels no refusal is one of the put.
+abbrev pub RefusesPrePut : State → State → List ℕ → List ℕ → StorageError → Type 0
+RefusesPrePut (Alone a) (Alone b) key bytes error = PrePutRefused a.facts.kind error key bytes a b
+RefusesPrePut (Layered a) (Layered b) key bytes error = (error ≡ NoMemory) × (b.counters ≡ a.counters)
+RefusesPrePut (Wrapped a) (Wrapped b) key bytes error = (error ≡ only_read) × (b ≡ a)
+RefusesPrePut a b key bytes error = ⊥
+
 -- What no check changes of a store that stands alone.
 pub record StaysAlone (old new : HeldLevel) : Type 0 where
   pub title : new.title ≡ old.title
   pub told : new.told ≡ old.told
   pub room : new.room ≡ old.room
+  pub marks : new.marks ≡ old.marks
 
 abbrev pub StaysStore : State → State → Type 0
 StaysStore (Alone a) (Alone b) = StaysAlone a b

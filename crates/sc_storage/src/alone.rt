@@ -4,7 +4,7 @@ ghost use Rattle.sc_storage.specs.Storages as storages;
 
 use crate::lookup::entry_of;
 use crate::storage_error::StorageError;
-use sc_entry::{ByteText, Cache};
+use sc_entry::{ByteText, Cache, GetPathResult};
 use sc_model::{Answer, Written};
 use std::alloc::Global;
 
@@ -58,6 +58,19 @@ pub(crate) fn both_in(
         Answer::Miss => Ok((Cache::Miss, None)),
         Answer::Found(_) => Ok((Cache::Miss, None)),
         Answer::Size(_, _) => Ok((Cache::Miss, None)),
+    }
+}
+
+/// Where a file stands.
+pub(crate) fn path_in(answer: Answer) -> GetPathResult
+    ensures { storages.IsPath answer result }
+{
+    match answer {
+        Answer::Found(path) => GetPathResult::Found(path),
+        Answer::Hit(_, _) => GetPathResult::Miss,
+        Answer::Miss => GetPathResult::Miss,
+        Answer::Refused(_) => GetPathResult::Miss,
+        Answer::Size(_, _) => GetPathResult::Miss,
     }
 }
 

@@ -1,19 +1,17 @@
 //! A disk store, asked as any store.
-ghost use Rattle.std.specs.Prelude.{◌≡◌, ◌≢◌, IfOk, OnErr};
+ghost use Rattle.std.specs.Prelude.{◌≡◌, false, IfOk, OnErr};
 ghost use Rattle.sc_disk_cache.specs.Entries.{ClosesEntry, CommitCause, CommitsEntry, FillsBy, IsOpenAt};
+ghost use Rattle.sc_disk_cache.specs.Marked.{MarksCommitted, MarksFilled};
 ghost use Rattle.sc_disk_cache.specs.Moving.{Stays};
-ghost use Rattle.sc_model.specs.declared.event.Mode.TheVariants.{Path};
 ghost use Rattle.sc_model.specs.declared.level.LevelKind.TheVariants.{Disk as IsDisk};
-ghost use Rattle.sc_model.specs.declared.level.Policy.TheVariants.{Single as Alone};
-ghost use Rattle.sc_storage.specs.Puts.{PutsDisk};
-ghost use Rattle.sc_storage.specs.Storages.{KeepsAlone, LooksAlone, State};
+ghost use Rattle.sc_storage.specs.Storages.{KeepsAlone, LooksAlone, PutsFile, PutsPreDisk, State};
 ghost use Rattle.sc_store.specs.Held.{disk_of};
 
-use crate::alone::{both_in, bytes_in, cache_in, ended};
+use crate::alone::{both_in, bytes_in, cache_in, ended, path_in};
 use crate::storage::Storage;
 use crate::storage_error::StorageError;
 use sc_disk::{Disk, LruDiskCacheAddEntry};
-use sc_entry::{ByteText, Cache, CacheMode, CacheWrite, Items, NoMemory, Text};
+use sc_entry::{ByteText, Cache, CacheMode, CacheWrite, GetPathResult, Items, NoMemory, Text};
 use sc_model::{Answer, Mode, Policy, Written};
 use sc_stats::LevelStats;
 use sc_store::{DiskStorage, EntryError, Filling, Reservation};
@@ -26,9 +24,9 @@ fn look_disk<D: Disk + Drop>(
     mode: Mode,
     now: u64,
 ) -> Result<Answer, NoMemory>
-    requires { mode ≢ Path }
     ensures keeps { KeepsAlone store.old store.new }
     ensures looked { IfOk result (λ answer. LooksAlone key.now mode answer store.old store.new) }
+    ensures kind { store.old.facts.kind ≡ IsDisk }
 {
     store.keeps();
     store.ask(key, mode, now)
@@ -44,9 +42,10 @@ fn fill<D: Disk + Drop>(
     ensures title { store.new.title ≡ store.old.title }
     ensures stays { Stays (disk_of store.old) (disk_of store.new) }
     ensures filled { IfOk result (λ how. FillsBy entry bytes.now how (disk_of store.old) (disk_of store.new)) }
+    ensures marks { IfOk result (λ how. MarksFilled entry.number false how store.old.marks store.new.marks) }
     ensures closed { OnErr result (ClosesEntry entry.number (disk_of store.old) (disk_of store.new)) }
 {
-    match store.fill(entry, bytes.as_slice()) {
+    match store.fill(entry, bytes.as_slice(), false) {
         Ok(how) => Ok(how),
         Err(EntryError::NoMemory) => Err(NoMemory),
         Err(EntryError::NotOpen) => unreachable!(),
@@ -65,6 +64,7 @@ fn commit<D: Disk + Drop>(
     ensures closed { ClosesEntry entry.number (disk_of store.old) (disk_of store.new) }
     ensures committed { IfOk result (λ how. CommitsEntry entry.number how (disk_of store.old) (disk_of store.new)) }
     ensures cause { IfOk result (λ how. CommitCause entry.number how (disk_of store.old) (disk_of store.new)) }
+    ensures marks { IfOk result (λ how. MarksCommitted entry.number entry.key how store.old.marks store.new.marks (disk_of store.new)) }
 {
     match store.commit(entry, now) {
         Ok(how) => Ok(how),
@@ -81,7 +81,7 @@ fn put_disk<D: Disk + Drop>(
     now: u64,
 ) -> Result<Written, NoMemory>
     ensures keeps { KeepsAlone store.old store.new }
-    ensures wrote { IfOk result (λ how. PutsDisk Alone key.now bytes.now how (disk_of store.old) (disk_of store.new)) }
+    ensures wrote { IfOk result (λ how. PutsFile key.now bytes.now how store.old store.new) }
     ensures kind { store.old.facts.kind ≡ IsDisk }
 {
     store.keeps();
@@ -94,6 +94,21 @@ fn put_disk<D: Disk + Drop>(
         Filling::Refused(cause) => return Ok(Written::Refused(cause)),
     };
     commit(store, filled, now)
+}
+
+/// Puts an entry of the preprocessor under a key.
+fn put_pre_disk<D: Disk + Drop>(
+    store: &mut DiskStorage<D>,
+    key: &Text,
+    bytes: &[u8],
+    now: u64,
+) -> Result<Written, NoMemory>
+    ensures keeps { KeepsAlone store.old store.new }
+    ensures wrote { IfOk result (λ how. PutsPreDisk key.now bytes.now how store.old store.new) }
+    ensures kind { store.old.facts.kind ≡ IsDisk }
+{
+    store.keeps();
+    store.put_pre(&Policy::Single, key, bytes, now)
 }
 
 impl<D: Disk + Drop> Storage for DiskStorage<D> {
@@ -154,6 +169,27 @@ impl<D: Disk + Drop> Storage for DiskStorage<D> {
     ) -> Result<(), StorageError> {
         let how = put_disk(self, key, &bytes, now)?;
         ended(how)
+    }
+
+    fn put_preprocessor_cache_entry(
+        &mut self,
+        _alloc: Global,
+        key: &Text,
+        bytes: &[u8],
+        now: u64,
+    ) -> Result<(), StorageError> {
+        let how = put_pre_disk(self, key, bytes, now)?;
+        ended(how)
+    }
+
+    fn get_path(
+        &mut self,
+        _alloc: Global,
+        key: &Text,
+        now: u64,
+    ) -> Result<GetPathResult, NoMemory> {
+        let answer = look_disk(self, key, Mode::Path, now)?;
+        Ok(path_in(answer))
     }
 
     fn check(&mut self, _alloc: Global) -> Result<CacheMode, StorageError> {

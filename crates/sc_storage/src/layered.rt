@@ -5,7 +5,7 @@ use crate::multilevel::MultiLevelStorage;
 use crate::storage::Storage;
 use crate::storage_error::StorageError;
 use sc_disk::Disk;
-use sc_entry::{ByteText, Cache, CacheMode, CacheWrite, Items, NoMemory, Text};
+use sc_entry::{ByteText, Cache, CacheMode, CacheWrite, GetPathResult, Items, NoMemory, Text};
 use sc_model::{Answer, Put};
 use sc_stats::LevelStats;
 use sc_store::{Checked, Remote};
@@ -83,6 +83,27 @@ impl<R: Remote + Drop, D: Disk + Drop> Storage for MultiLevelStorage<R, D> {
             Put::Level(level, cause) => Err(StorageError::Level(level, cause)),
             Put::NoLevels => Err(StorageError::NoLevels),
         }
+    }
+
+    fn put_preprocessor_cache_entry(
+        &mut self,
+        alloc: Global,
+        key: &Text,
+        bytes: &[u8],
+        now: u64,
+    ) -> Result<(), StorageError> {
+        self.put_preprocessor(alloc, key, bytes, now)?;
+        Ok(())
+    }
+
+    fn get_path(
+        &mut self,
+        _alloc: Global,
+        _key: &Text,
+        _now: u64,
+    ) -> Result<GetPathResult, NoMemory> {
+        let _levels = self.levels().len();
+        Ok(GetPathResult::Unsupported)
     }
 
     fn check(&mut self, alloc: Global) -> Result<CacheMode, StorageError> {

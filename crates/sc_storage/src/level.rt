@@ -5,7 +5,7 @@ ghost use Rattle.sc_store.specs.Levels.{held_level};
 use crate::storage::Storage;
 use crate::storage_error::StorageError;
 use sc_disk::Disk;
-use sc_entry::{ByteText, Cache, CacheMode, CacheWrite, Items, NoMemory, Text};
+use sc_entry::{ByteText, Cache, CacheMode, CacheWrite, GetPathResult, Items, NoMemory, Text};
 use sc_stats::LevelStats;
 use sc_store::{Level, Remote};
 use std::alloc::Global;
@@ -79,6 +79,26 @@ impl<R: Remote, D: Disk + Drop> Storage for Level<R, D> {
         match self {
             Level::Remote(store) => store.put_raw(alloc, key, bytes, now),
             Level::Disk(store) => store.put_raw(alloc, key, bytes, now),
+        }
+    }
+
+    fn put_preprocessor_cache_entry(
+        &mut self,
+        alloc: Global,
+        key: &Text,
+        bytes: &[u8],
+        now: u64,
+    ) -> Result<(), StorageError> {
+        match self {
+            Level::Remote(store) => store.put_preprocessor_cache_entry(alloc, key, bytes, now),
+            Level::Disk(store) => store.put_preprocessor_cache_entry(alloc, key, bytes, now),
+        }
+    }
+
+    fn get_path(&mut self, alloc: Global, key: &Text, now: u64) -> Result<GetPathResult, NoMemory> {
+        match self {
+            Level::Remote(store) => store.get_path(alloc, key, now),
+            Level::Disk(store) => store.get_path(alloc, key, now),
         }
     }
 

@@ -28,7 +28,7 @@ pub(crate) fn remote(alloc: Global, held: &[u8]) -> Result<OneLevel, Fail> {
         files.push((path, ByteText::from_slice(alloc, held)?))?;
     }
     let remote = MemRemote::new(alloc, files, Items::new(alloc))?;
-    Ok(Level::Remote(RemoteStorage::new(remote, Items::new(alloc), RW)))
+    Ok(Level::Remote(RemoteStorage::new(alloc, remote, Items::new(alloc), RW)))
 }
 
 /// An empty disk in memory, which refuses the call of this number.
@@ -135,9 +135,9 @@ fn write(alloc: Global, store: &mut Storage, level: usize, backfill: bool) -> Re
     let key = Text::from_str(alloc, "abc")?;
     let bytes = ByteText::from_slice(alloc, b"AAA")?;
     if backfill {
-        store.backfill_step(alloc, level as u64, &key, &bytes, 1)?;
+        store.backfill_step(alloc, level as u64, &key, &bytes, false, 1)?;
     } else {
-        store.put_step(alloc, level as u64, &key, &bytes, 1)?;
+        store.put_step(alloc, level as u64, &key, &bytes, false, 1)?;
     }
     Ok(())
 }

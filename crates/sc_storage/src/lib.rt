@@ -26,6 +26,4 @@ pub use storage_error::StorageError;
 #[cfg(test)]
 mod level_tests;
 #[cfg(test)]
-mod storage_tests;
-#[cfg(test)]
 mod tests;

@@ -11,7 +11,7 @@ ghost use Rattle.sc_storage.specs.Lookups as lookups;
 ghost use Rattle.sc_storage.specs.Lookups.{IsCache, IsSpelled, LooksAt, LooksUp};
 ghost use Rattle.sc_storage.specs.declared.lookup.Hit.{Hit as Found};
 ghost use Rattle.sc_storage.specs.Moving.{Keeps};
-ghost use Rattle.sc_storage.specs.Preprocessor.{AsksEach};
+ghost use Rattle.sc_storage.specs.Preprocessor.{AsksEach, PutsPreOver};
 ghost use Rattle.sc_storage.specs.Puts.{Puts, WritesAt};
 ghost use Rattle.sc_storage.specs.Sizes.{size_sum};
 ghost use Rattle.sc_storage.specs.Stores.{IsChain, IsNew, counted_of, first_flag};
@@ -291,38 +291,42 @@ impl<R: Remote, D: Disk + Drop> MultiLevelStorage<R, D> {
         )
     }
 
-    /// Puts bytes at one level, and at no other: a single action of a put. What it came to is counted there.
+    /// Puts bytes at one level, and at no other: a single action of a put. The flag says whether a local run made them. What
+    /// it came to is counted there.
     pub fn put_step(
         &mut self,
         alloc: Global,
         level: u64,
         key: &Text,
         bytes: &ByteText,
+        from_run: bool,
         now: u64,
     ) -> Result<Written, NoMemory>
         requires { level < length self.old.held.levels }
         ensures keeps { Keeps self.old.held self.new.held }
         ensures basedirs { self.new.basedirs ≡ self.old.basedirs }
-        ensures wrote { IfOk result (λ how. WritesAt false level key.now bytes.now how (counted_of self.old) (counted_of self.new)) }
+        ensures wrote { IfOk result (λ how. WritesAt false level key.now bytes.now from_run how (counted_of self.old) (counted_of self.new)) }
     {
-        self.write_step(alloc, false, level, key, bytes, now)
+        self.write_step(alloc, false, level, key, bytes, from_run, now)
     }
 
-    /// Puts a hit's bytes at one level, and at no other: a single action of a lookup. What it came to is counted there.
+    /// Puts a hit's bytes, with the mark of the hit, at one level, and at no other: a single action of a lookup. What it came
+    /// to is counted there.
     pub fn backfill_step(
         &mut self,
         alloc: Global,
         level: u64,
         key: &Text,
         bytes: &ByteText,
+        marked: bool,
         now: u64,
     ) -> Result<Written, NoMemory>
         requires { level < length self.old.held.levels }
         ensures keeps { Keeps self.old.held self.new.held }
         ensures basedirs { self.new.basedirs ≡ self.old.basedirs }
-        ensures wrote { IfOk result (λ how. WritesAt true level key.now bytes.now how (counted_of self.old) (counted_of self.new)) }
+        ensures wrote { IfOk result (λ how. WritesAt true level key.now bytes.now marked how (counted_of self.old) (counted_of self.new)) }
     {
-        self.write_step(alloc, true, level, key, bytes, now)
+        self.write_step(alloc, true, level, key, bytes, marked, now)
     }
 
     fn write_step(
@@ -332,12 +336,13 @@ impl<R: Remote, D: Disk + Drop> MultiLevelStorage<R, D> {
         level: u64,
         key: &Text,
         bytes: &ByteText,
+        mark: bool,
         now: u64,
     ) -> Result<Written, NoMemory>
         requires { level < length self.old.held.levels }
         ensures keeps { Keeps self.old.held self.new.held }
         ensures basedirs { self.new.basedirs ≡ self.old.basedirs }
-        ensures wrote { IfOk result (λ how. WritesAt backfill level key.now bytes.now how (counted_of self.old) (counted_of self.new)) }
+        ensures wrote { IfOk result (λ how. WritesAt backfill level key.now bytes.now mark how (counted_of self.old) (counted_of self.new)) }
     {
         let _basedirs = self.basedirs.len();
         putting::write_level(
@@ -348,7 +353,7 @@ impl<R: Remote, D: Disk + Drop> MultiLevelStorage<R, D> {
             level,
             key,
             bytes,
-            false,
+            mark,
             now,
         )
     }
@@ -368,6 +373,25 @@ impl<R: Remote, D: Disk + Drop> MultiLevelStorage<R, D> {
         let _counters = self.counters.len();
         let _basedirs = self.basedirs.len();
         preprocessor::ask_each(alloc, &mut self.levels, key, now)
+    }
+
+    /// Puts an entry of the preprocessor, in the order of the levels, at each that may be written and takes writes, whatever
+    /// comes of that. Nothing is counted.
+    pub(crate) fn put_preprocessor(
+        &mut self,
+        alloc: Global,
+        key: &Text,
+        bytes: &[u8],
+        now: u64,
+    ) -> Result<(), NoMemory>
+        ensures keeps { Keeps self.old.held self.new.held }
+        ensures counters { self.new.counters ≡ self.old.counters }
+        ensures basedirs { self.new.basedirs ≡ self.old.basedirs }
+        ensures wrote { IfOk result (λ _. PutsPreOver key.now bytes.now self.old.held self.new.held) }
+    {
+        let _counters = self.counters.len();
+        let _basedirs = self.basedirs.len();
+        preprocessor::put_each(alloc, &mut self.levels, key, bytes, now)
     }
 
     /// Puts an entry under a key at this moment: first at the levels that have to be written, in order, whose first refusal is

@@ -1,13 +1,16 @@
-//! Lookups of the preprocessor's entries over levels.
-ghost use Rattle.std.specs.Prelude.{◌≡◌, ◌<◌, IfOk, length};
+//! Lookups and puts of the preprocessor's entries over levels.
+ghost use Rattle.std.specs.Prelude.{◌≡◌, ◌<◌, false, IfOk, length};
+ghost use Rattle.sc_model.specs.Plan as plans;
+ghost use Rattle.sc_model.specs.Script.{is_single};
+ghost use Rattle.sc_model.specs.There.{AreLevels};
 ghost use Rattle.sc_model.specs.declared.event.Mode.TheVariants.{Pre};
 ghost use Rattle.sc_storage.specs.Lookups.{AskedAt};
 ghost use Rattle.sc_storage.specs.Moving.{Keeps};
 ghost use Rattle.sc_storage.specs.Preprocessor as preprocessor;
 
 use sc_disk::Disk;
-use sc_entry::{NoMemory, Text};
-use sc_model::{Answer, Mode};
+use sc_entry::{NoMemory, Queue, Text};
+use sc_model::{Answer, Mode, Written};
 use sc_store::{Levels, Remote};
 use std::alloc::Global;
 
@@ -55,4 +58,48 @@ pub(crate) fn ask_each<R: Remote, D: Disk + Drop>(
         level += 1;
     }
     Ok(Answer::Miss)
+}
+
+/// Puts an entry of the preprocessor at one level, and at no other.
+fn put_level<R: Remote, D: Disk + Drop>(
+    levels: &mut Levels<R, D>,
+    level: usize,
+    key: &Text,
+    bytes: &[u8],
+    now: u64,
+) -> Result<Written, NoMemory>
+    requires { level < length levels.old.levels }
+    ensures keeps { Keeps levels.old levels.new }
+    ensures wrote { IfOk result (λ how. preprocessor.PutsPreAt level key.now bytes.now how levels.old levels.new) }
+{
+    levels.put_pre_step(level, key, bytes, now)
+}
+
+/// The levels that take such an entry.
+fn plan_of<R: Remote, D: Disk>(alloc: Global, levels: &Levels<R, D>) -> Result<Queue<u64>, NoMemory>
+    requires { is_single levels.now.policy ≡ false }
+    ensures plan { IfOk result (λ taking. taking ≡ plans.pre_plan levels.now.policy levels.now.facts) }
+    ensures there { IfOk result (λ taking. AreLevels (length levels.now.levels) taking) }
+{
+    let _count = levels.len();
+    levels.pre_plan(alloc)
+}
+
+/// Puts it at each of the levels that take it, in order, whatever that comes to.
+pub(crate) fn put_each<R: Remote, D: Disk + Drop>(
+    alloc: Global,
+    levels: &mut Levels<R, D>,
+    key: &Text,
+    bytes: &[u8],
+    now: u64,
+) -> Result<(), NoMemory>
+    requires { is_single levels.old.policy ≡ false }
+    ensures keeps { Keeps levels.old levels.new }
+    ensures wrote { IfOk result (λ _. preprocessor.PutsPreOver key.now bytes.now levels.old levels.new) }
+{
+    let mut left = plan_of(alloc, levels)?;
+    while let Some(level) = left.pop_front() {
+        put_level(levels, level as usize, key, bytes, now)?;
+    }
+    Ok(())
 }

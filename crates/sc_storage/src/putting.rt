@@ -1,6 +1,7 @@
 //! Puts over levels.
 ghost use Rattle.std.specs.Prelude.{◌≡◌, ◌<◌, false, IfOk, OnErr, length};
 ghost use Rattle.sc_disk_cache.specs.Entries.{ClosesEntry, CommitCause, CommitsEntry, FillsBy, IsOpenAt};
+ghost use Rattle.sc_disk_cache.specs.Marked.{MarksCommitted, MarksFilled};
 ghost use Rattle.sc_model.specs.Plan as plans;
 ghost use Rattle.sc_model.specs.Plan.{level_facts};
 ghost use Rattle.sc_model.specs.Script.{is_single};
@@ -11,7 +12,7 @@ ghost use Rattle.sc_model.specs.declared.phase.Refusal.TheVariants.{NoneYet};
 ghost use Rattle.sc_storage.specs.Moving.{Keeps, counted};
 ghost use Rattle.sc_storage.specs.Puts as puts;
 ghost use Rattle.sc_store.specs.Asking.{AloneAt};
-ghost use Rattle.sc_store.specs.Held.{disk_in, level_in};
+ghost use Rattle.sc_store.specs.Held.{disk_in, level_in, marks_in};
 
 use crate::counting::count_written;
 use sc_disk::{Disk, LruDiskCacheAddEntry};
@@ -33,7 +34,7 @@ fn put_remote<R: Remote, D: Disk + Drop>(
     requires level { level < length levels.old.levels }
     requires remote { (level_facts levels.old.facts level).kind ≡ IsRemote }
     ensures keeps { Keeps levels.old levels.new }
-    ensures wrote { IfOk result (λ how. puts.RemotePutAt level key.now bytes.now how levels.old levels.new) }
+    ensures wrote { IfOk result (λ how. puts.RemotePutAt level key.now bytes.now mark how levels.old levels.new) }
 {
     levels.put_step(alloc, level, key, bytes, mark)
 }
@@ -44,6 +45,7 @@ fn fill<R: Remote, D: Disk + Drop>(
     level: usize,
     entry: LruDiskCacheAddEntry,
     bytes: &ByteText,
+    mark: bool,
 ) -> Result<Filling, NoMemory>
     requires level { level < length levels.old.levels }
     requires disk { (level_facts levels.old.facts level).kind ≡ IsDisk }
@@ -51,9 +53,10 @@ fn fill<R: Remote, D: Disk + Drop>(
     ensures alone { AloneAt level levels.old levels.new }
     ensures later { Later (level_in levels.old.levels level) (level_in levels.new.levels level) }
     ensures filled { IfOk result (λ how. FillsBy entry bytes.now how (disk_in levels.old level) (disk_in levels.new level)) }
+    ensures marks { IfOk result (λ how. MarksFilled entry.number mark how (marks_in levels.old.marks level) (marks_in levels.new.marks level)) }
     ensures closed { OnErr result (ClosesEntry entry.number (disk_in levels.old level) (disk_in levels.new level)) }
 {
-    match levels.fill(level, entry, bytes.as_slice()) {
+    match levels.fill(level, entry, bytes.as_slice(), mark) {
         Ok(how) => Ok(how),
         Err(EntryError::NoMemory) => Err(NoMemory),
         Err(EntryError::NotOpen) => unreachable!(),
@@ -75,6 +78,7 @@ fn commit<R: Remote, D: Disk + Drop>(
     ensures closed { ClosesEntry entry.number (disk_in levels.old level) (disk_in levels.new level) }
     ensures committed { IfOk result (λ how. CommitsEntry entry.number how (disk_in levels.old level) (disk_in levels.new level)) }
     ensures cause { IfOk result (λ how. CommitCause entry.number how (disk_in levels.old level) (disk_in levels.new level)) }
+    ensures marks { IfOk result (λ how. MarksCommitted entry.number entry.key how (marks_in levels.old.marks level) (marks_in levels.new.marks level) (disk_in levels.new level)) }
 {
     match levels.commit(level, entry, now) {
         Ok(how) => Ok(how),
@@ -83,24 +87,25 @@ fn commit<R: Remote, D: Disk + Drop>(
     }
 }
 
-/// Puts an entry at a disk level, and at no other. What it opens it closes, whatever it comes to.
+/// Puts an entry at a disk level, and at no other. What it opens it closes, whatever it comes to. The key gets this mark.
 fn put_disk<R: Remote, D: Disk + Drop>(
     levels: &mut Levels<R, D>,
     level: usize,
     key: &Text,
     bytes: &ByteText,
+    mark: bool,
     now: u64,
 ) -> Result<Written, NoMemory>
     requires level { level < length levels.old.levels }
     requires disk { (level_facts levels.old.facts level).kind ≡ IsDisk }
     ensures keeps { Keeps levels.old levels.new }
-    ensures wrote { IfOk result (λ how. puts.DiskPutAt level key.now bytes.now how levels.old levels.new) }
+    ensures wrote { IfOk result (λ how. puts.DiskPutAt level key.now bytes.now mark how levels.old levels.new) }
 {
     let entry = match levels.reserve(level, key, bytes.len() as u64, now)? {
         Reservation::Open(entry) => entry,
         Reservation::Refused(cause) => return Ok(Written::Refused(cause)),
     };
-    let filled = match fill(levels, level, entry, bytes)? {
+    let filled = match fill(levels, level, entry, bytes, mark)? {
         Filling::Filled(entry) => entry,
         Filling::Refused(cause) => return Ok(Written::Refused(cause)),
     };
@@ -121,11 +126,11 @@ pub(crate) fn write_level<R: Remote, D: Disk + Drop>(
 ) -> Result<Written, NoMemory>
     requires { level < length levels.old.levels }
     ensures keeps { Keeps levels.old levels.new }
-    ensures wrote { IfOk result (λ how. puts.WritesAt backfill level key.now bytes.now how (counted levels.old counters.old) (counted levels.new counters.new)) }
+    ensures wrote { IfOk result (λ how. puts.WritesAt backfill level key.now bytes.now mark how (counted levels.old counters.old) (counted levels.new counters.new)) }
 {
     let how = match levels.kind(level as usize) {
         LevelKind::Remote => put_remote(alloc, levels, level as usize, key, bytes, mark)?,
-        LevelKind::Disk => put_disk(levels, level as usize, key, bytes, now)?,
+        LevelKind::Disk => put_disk(levels, level as usize, key, bytes, mark, now)?,
     };
     count_written(alloc, counters, level, backfill, how);
     Ok(how)
@@ -163,7 +168,7 @@ fn write_each<R: Remote, D: Disk + Drop>(
 ) -> Result<Refusal, NoMemory>
     requires { AreLevels (length levels.old.levels) plan }
     ensures keeps { Keeps levels.old levels.new }
-    ensures wrote { IfOk result (λ refusal. puts.WritesEach plan put.now.key put.now.bytes NoneYet refusal (counted levels.old counters.old) (counted levels.new counters.new)) }
+    ensures wrote { IfOk result (λ refusal. puts.WritesEach plan put.now.key put.now.bytes put.now.run NoneYet refusal (counted levels.old counters.old) (counted levels.new counters.new)) }
 {
     let mut refusal = Refusal::NoneYet;
     let mut left = plan;

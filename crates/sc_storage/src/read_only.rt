@@ -3,7 +3,7 @@ ghost use Rattle.sc_storage.specs.Storages.{State};
 
 use crate::storage::Storage;
 use crate::storage_error::StorageError;
-use sc_entry::{ByteText, Cache, CacheMode, CacheWrite, Items, NoMemory, Text};
+use sc_entry::{ByteText, Cache, CacheMode, CacheWrite, GetPathResult, Items, NoMemory, Text};
 use sc_model::{Cause, Store};
 use sc_stats::LevelStats;
 use std::alloc::Global;
@@ -65,6 +65,26 @@ impl<S: Storage + Drop> Storage for ReadOnlyStorage<S> {
         _now: u64,
     ) -> Result<(), StorageError> {
         Err(StorageError::Unsupported)
+    }
+
+    fn put_preprocessor_cache_entry(
+        &mut self,
+        _alloc: Global,
+        _key: &Text,
+        _bytes: &[u8],
+        _now: u64,
+    ) -> Result<(), StorageError> {
+        let cause = Cause::ReadOnly(Store::Wrapper);
+        Err(StorageError::Refused(cause))
+    }
+
+    fn get_path(
+        &mut self,
+        _alloc: Global,
+        _key: &Text,
+        _now: u64,
+    ) -> Result<GetPathResult, NoMemory> {
+        Ok(GetPathResult::Unsupported)
     }
 
     fn check(&mut self, _alloc: Global) -> Result<CacheMode, StorageError> {

@@ -1,12 +1,11 @@
 //! A remote store, asked as any store.
-ghost use Rattle.std.specs.Prelude.{◌≢◌, IfOk};
-ghost use Rattle.sc_model.specs.declared.event.Mode.TheVariants.{Path};
+ghost use Rattle.std.specs.Prelude.{IfOk};
 ghost use Rattle.sc_storage.specs.Storages.{KeepsAlone, LooksAlone, PutsAlone, State};
 
 use crate::alone::{both_in, bytes_in, cache_in, ended};
 use crate::storage::Storage;
 use crate::storage_error::StorageError;
-use sc_entry::{ByteText, Cache, CacheMode, CacheWrite, Items, NoMemory, Text};
+use sc_entry::{ByteText, Cache, CacheMode, CacheWrite, GetPathResult, Items, NoMemory, Text};
 use sc_model::{Answer, Mode, Policy, Written};
 use sc_stats::LevelStats;
 use sc_store::{Checked, Remote, RemoteStorage};
@@ -19,7 +18,6 @@ fn look_remote<R: Remote>(
     key: &Text,
     mode: Mode,
 ) -> Result<Answer, NoMemory>
-    requires { mode ≢ Path }
     ensures keeps { KeepsAlone store.old store.new }
     ensures looked { IfOk result (λ answer. LooksAlone key.now mode answer store.old store.new) }
 {
@@ -38,7 +36,7 @@ fn put_remote<R: Remote>(
     ensures wrote { IfOk result (λ how. PutsAlone store.old.facts.kind key.now bytes.now how store.old store.new) }
 {
     let _remote = store.kind();
-    store.put_step(alloc, &Policy::Single, key, bytes)
+    store.put_step(alloc, &Policy::Single, key, bytes, false)
 }
 
 impl<R: Remote> Storage for RemoteStorage<R> {
@@ -99,6 +97,27 @@ impl<R: Remote> Storage for RemoteStorage<R> {
     ) -> Result<(), StorageError> {
         let how = put_remote(alloc, self, key, &bytes)?;
         ended(how)
+    }
+
+    fn put_preprocessor_cache_entry(
+        &mut self,
+        _alloc: Global,
+        _key: &Text,
+        _bytes: &[u8],
+        _now: u64,
+    ) -> Result<(), StorageError> {
+        let _remote = self.kind();
+        Ok(())
+    }
+
+    fn get_path(
+        &mut self,
+        _alloc: Global,
+        _key: &Text,
+        _now: u64,
+    ) -> Result<GetPathResult, NoMemory> {
+        let _remote = self.kind();
+        Ok(GetPathResult::Unsupported)
     }
 
     fn check(&mut self, alloc: Global) -> Result<CacheMode, StorageError> {

@@ -3,11 +3,11 @@ ghost use Rattle.std.specs.Prelude.{◌≡◌, true, IfErr, IfOk};
 ghost use Rattle.sc_entry.specs.Entries.{entry as spelling};
 ghost use Rattle.sc_model.specs.declared.event.Mode.TheVariants.{Raw, Whole};
 ghost use Rattle.sc_storage.specs.Storages as storages;
-ghost use Rattle.sc_storage.specs.Storages.{ChecksIn, Gets, GetsBoth, GetsPre, GetsRaw, KeepsStore, PutsIn, RefusesCheck, RefusesLookup, RefusesPre, RefusesPut, State, StaysStore};
+ghost use Rattle.sc_storage.specs.Storages.{ChecksIn, Gets, GetsBoth, GetsPath, GetsPre, GetsRaw, KeepsStore, PutsIn, PutsPreIn, RefusesCheck, RefusesLookup, RefusesPre, RefusesPrePut, RefusesPut, State, StaysStore};
 ghost use Rattle.sc_storage.specs.declared.storage_error.StorageError.TheVariants.{Unsupported};
 
 use crate::storage_error::StorageError;
-use sc_entry::{ByteText, Cache, CacheMode, CacheWrite, Items, NoMemory, Text};
+use sc_entry::{ByteText, Cache, CacheMode, CacheWrite, GetPathResult, Items, NoMemory, Text};
 use sc_stats::LevelStats;
 use std::alloc::Global;
 
@@ -79,6 +79,25 @@ pub trait Storage {
         ensures keeps { KeepsStore (state self.old) (state self.new) }
         ensures found { IfOk result (λ bytes. GetsPre (state self.old) (state self.new) key.now bytes) }
         ensures refused { IfErr result (λ error. RefusesPre (state self.old) (state self.new) key.now error) };
+
+    /// Puts an entry of the preprocessor under a key. A disk store tells a refusal, a remote store keeps none of them. Over
+    /// levels it is put, in their order, at each that may be written and takes writes, whatever comes of that.
+    fn put_preprocessor_cache_entry(
+        &mut self,
+        alloc: Global,
+        key: &Text,
+        bytes: &[u8],
+        now: u64,
+    ) -> Result<(), StorageError>
+        ensures keeps { KeepsStore (state self.old) (state self.new) }
+        ensures wrote { IfOk result (λ _. PutsPreIn (state self.old) (state self.new) key.now bytes.now) }
+        ensures refused { IfErr result (λ error. RefusesPrePut (state self.old) (state self.new) key.now bytes.now error) };
+
+    /// Where the file of a key stands: a disk store tells that, and a bad key, an absent one and a refusal have none. No other
+    /// store keeps files.
+    fn get_path(&mut self, alloc: Global, key: &Text, now: u64) -> Result<GetPathResult, NoMemory>
+        ensures keeps { KeepsStore (state self.old) (state self.new) }
+        ensures found { IfOk result (λ found. GetsPath (state self.old) (state self.new) key.now found) };
 
     /// Finds out whether it can be read and written.
     fn check(&mut self, alloc: Global) -> Result<CacheMode, StorageError>

@@ -23,7 +23,7 @@ fn remote(
     let remote = MemRemote::new(alloc, Items::new(alloc), failing)?;
     let mut basedirs = Items::new(alloc);
     basedirs.push(ByteText::from_slice(alloc, basedir)?)?;
-    Ok(Level::Remote(RemoteStorage::new(remote, basedirs, mode)))
+    Ok(Level::Remote(RemoteStorage::new(alloc, remote, basedirs, mode)))
 }
 
 fn told(found: Checked) -> &'static str {

@@ -11,10 +11,11 @@ use Rattle.sc_model.specs.declared.level.Policy.{Policy}
 use Rattle.sc_entry.specs.Entries.{objects}
 use Rattle.sc_model.specs.declared.event.Mode.TheVariants.{Whole}
 use Rattle.sc_disk_cache.specs.DiskStores.{DiskStore}
+use Rattle.sc_disk_cache.specs.Marks.{Marks, no_marks}
 use Rattle.sc_disk_cache.specs.Moving.{ReserveCause}
 use Rattle.sc_disk_cache.specs.declared.reserving.Reservation.{Reservation}
-use Rattle.sc_store.specs.Asking.{AloneAt, AsksAt, AsksLevel, CauseBy, PutCause, PutsAt, PutsLevel, has_mode}
-use Rattle.sc_store.specs.Held.{AreWithin, Held, HeldLevel, IsWithin, Room, all_tell, disk_in, disk_of, held_of, level_in, no_room, no_title, room_in, title_in}
+use Rattle.sc_store.specs.Asking.{AloneAt, AsksAt, AsksLevel, CauseBy, MarksAsked, PutCause, PutsAt, PutsLevel, TellsMark, has_mode}
+use Rattle.sc_store.specs.Held.{AreWithin, Held, HeldLevel, IsWithin, Room, all_tell, disk_in, disk_of, held_of, level_in, marks_in, no_room, no_title, room_in, title_in}
 
 -- what a move of one level leaves
 pub record Alone (old new : Held) (l : ℕ) (before after : HeldLevel) : Type 0 where
@@ -24,6 +25,9 @@ pub record Alone (old new : Held) (l : ℕ) (before after : HeldLevel) : Type 0 
   pub told : new.told ≡ old.told
   pub alone : new.levels ≡ slice_set old.levels l after.level
   pub rooms : new.rooms ≡ slice_set old.rooms l after.room
+  pub marks : new.marks ≡ slice_set old.marks l after.marks
+  pub marks_were : marks_in old.marks l ≡ before.marks
+  pub marks_are : marks_in new.marks l ≡ after.marks
   pub room_was : room_in old.rooms l ≡ before.room
   pub room_is : room_in new.rooms l ≡ after.room
   pub title_was : title_in old.titles l ≡ before.title
@@ -80,6 +84,9 @@ module _ {S : Type 0} (seen : S → HeldLevel) where
         told = tell_stays stores l store later within is told;
         alone = maps (λ x. x.level) new ∙ map-set (λ s. (seen s).level) stores l later ∙ ap (λ xs. slice_set xs l (seen later).level) (sym (maps (λ x. x.level) stores));
         rooms = maps (λ x. x.room) new ∙ map-set (λ s. (seen s).room) stores l later ∙ ap (λ xs. slice_set xs l (seen later).room) (sym (maps (λ x. x.room) stores));
+        marks = maps (λ x. x.marks) new ∙ map-set (λ s. (seen s).marks) stores l later ∙ ap (λ xs. slice_set xs l (seen later).marks) (sym (maps (λ x. x.marks) stores));
+        marks_were = ap (λ xs. slice_index_or xs l no_marks) (maps (λ x. x.marks) stores) ∙ part_at (λ s. (seen s).marks) stores l store no_marks within is;
+        marks_are = ap (λ xs. slice_index_or xs l no_marks) (maps (λ x. x.marks) new) ∙ new_at (λ s. (seen s).marks) stores l later no_marks within;
         room_was = ap (λ xs. slice_index_or xs l no_room) (maps (λ x. x.room) stores) ∙ part_at (λ s. (seen s).room) stores l store no_room within is;
         room_is = ap (λ xs. slice_index_or xs l no_room) (maps (λ x. x.room) new) ∙ new_at (λ s. (seen s).room) stores l later no_room within;
         title_was = ap (λ xs. slice_index_or xs l no_title) (maps (λ x. x.title) stores) ∙ part_at (λ s. (seen s).title) stores l store no_title within is;
@@ -140,6 +147,16 @@ module _ {S : Type 0} (seen : S → HeldLevel) where
   rooms_of : (policy : Policy) (stores : List S) (l : ℕ) (store later : S) → l < length stores → store ≡ slice_index_or stores l store → (seen later).room ≡ (seen store).room → (held_of (map seen (slice_set stores l later)) policy).rooms ≡ (held_of (map seen stores) policy).rooms
   rooms_of policy stores l store later within is room = maps (λ x. x.room) (slice_set stores l later) ∙ stays (λ s. (seen s).room) stores l store later within is room ∙ sym (maps (λ x. x.room) stores)
 
+  marks_of : (policy : Policy) (stores : List S) (l : ℕ) (store later : S) → l < length stores → store ≡ slice_index_or stores l store → (seen later).marks ≡ (seen store).marks → (held_of (map seen (slice_set stores l later)) policy).marks ≡ (held_of (map seen stores) policy).marks
+  marks_of policy stores l store later within is same = maps (λ x. x.marks) (slice_set stores l later) ∙ stays (λ s. (seen s).marks) stores l store later within is same ∙ sym (maps (λ x. x.marks) stores)
+
+  -- no mark was given nor taken
+  pub same_marks : (old : Held) (policy : Policy) (stores : List S) (l : ℕ) (store later : S) → held_of (map seen stores) policy ≡ old → l < length old.levels → store ≡ slice_index_or stores l store → (seen later).marks ≡ (seen store).marks
+      → (held_of (map seen (slice_set stores l later)) policy).marks ≡ old.marks
+  same_marks old policy stores l store later at within is same =
+      let here : l < length stores = within_stores policy stores l (subst (λ (o : Held). l < length o.levels) (sym at) within) in
+      marks_of policy stores l store later here is same ∙ ap (λ (o : Held). o.marks) at
+
   -- nothing was opened nor closed
   pub same_rooms : (old : Held) (policy : Policy) (stores : List S) (l : ℕ) (store later : S) → held_of (map seen stores) policy ≡ old → l < length old.levels → store ≡ slice_index_or stores l store → (seen later).room ≡ (seen store).room
       → (held_of (map seen (slice_set stores l later)) policy).rooms ≡ old.rooms
@@ -193,6 +210,22 @@ put_cause_at old new l before after policy key how by m h =
     (subst (λ (f : LevelFacts). PutCause (early_cause policy f key) how (level_in old.levels l) (level_in new.levels l)) (sym m.facts_were)
     (subst (λ (v : Level). PutCause (early_cause policy before.facts key) how v (level_in new.levels l)) (sym m.was) (subst (λ (w : Level). PutCause (early_cause policy before.facts key) how before.level w) (sym m.is) h)))
 
+-- What is so of a level's marks.
+pub marks_alone : (old new : Held) (l : ℕ) (before after : HeldLevel) → Alone old new l before after → new.marks ≡ slice_set old.marks l (marks_in new.marks l)
+marks_alone old new l before after m = m.marks ∙ ap (λ x. slice_set old.marks l x) (sym m.marks_are)
+
+pub marks_at : (P : Marks → Marks → Type 0) (old new : Held) (l : ℕ) (before after : HeldLevel) → Alone old new l before after → P before.marks after.marks → P (marks_in old.marks l) (marks_in new.marks l)
+marks_at P old new l before after m h = subst (λ (x : Marks). P x (marks_in new.marks l)) (sym m.marks_were) (subst (λ (x : Marks). P before.marks x) (sym m.marks_are) h)
+
+pub tells_at : (old new : Held) (l : ℕ) (before after : HeldLevel) (key : List ℕ) (answer : Answer) → Alone old new l before after → TellsMark before.facts.kind before.marks key answer → TellsMark (level_facts old.facts l).kind (marks_in old.marks l) key answer
+tells_at old new l before after key answer m h =
+    subst (λ (f : LevelFacts). TellsMark f.kind (marks_in old.marks l) key answer) (sym m.facts_were) (subst (λ (x : Marks). TellsMark before.facts.kind x key answer) (sym m.marks_were) h)
+
+pub marks_asked_at : (old new : Held) (l : ℕ) (before after : HeldLevel) (mode : Mode) (key : List ℕ) (answer : Answer) → Alone old new l before after → MarksAsked before.facts.kind mode key answer before.marks after.marks
+    → MarksAsked (level_facts old.facts l).kind mode key answer (marks_in old.marks l) (marks_in new.marks l)
+marks_asked_at old new l before after mode key answer m h =
+    subst (λ (f : LevelFacts). MarksAsked f.kind mode key answer (marks_in old.marks l) (marks_in new.marks l)) (sym m.facts_were) (marks_at (MarksAsked before.facts.kind mode key answer) old new l before after m h)
+
 -- The clauses of calls of disk levels.
 pub alone_moved : (old new : Held) (l : ℕ) (before after : HeldLevel) → Alone old new l before after → AloneAt l old new
 alone_moved old new l before after m = record {
@@ -202,6 +235,7 @@ alone_moved old new l before after m = record {
   told = m.told;
   levels = alone_at old new l before after m;
   rooms = m.rooms ∙ ap (λ r. slice_set old.rooms l r) (sym m.room_is);
+  marks = marks_alone old new l before after m;
 }
 
 -- a level that tells where all do

@@ -21,7 +21,8 @@ use Rattle.sc_model.specs.declared.level.Policy.{Policy}
 use Rattle.sc_model.specs.declared.level.Store.TheVariants.{Remote as RemoteStore}
 use Rattle.sc_disk_cache.specs.Wholes.{hit_of, if_spells, mode_answer, whole_answer}
 use Rattle.sc_store.specs.Asking.{raw_answer, reads_key, written_of}
-use Rattle.sc_store.specs.Held.{Given, HeldLevel, Modes, Names, held_remote, remote_facts, remote_level}
+use Rattle.sc_disk_cache.specs.Marks.{Marks}
+use Rattle.sc_store.specs.Held.{Given, HeldLevel, Modes, Names, held_remote, marked, remote_facts, remote_level}
 use Rattle.sc_store.specs.Remotes.{Puts, ReadCause, Reads, WriteCause, Writes}
 use Rattle.sc_store.specs.declared.remote.RemoteRead.{RemoteRead}
 use Rattle.sc_store.specs.declared.remote.RemoteRead.TheVariants.{Found, NotFound, Refused as ReadRefused}
@@ -29,17 +30,17 @@ use Rattle.sc_store.specs.declared.remote.RemoteWrite.{RemoteWrite}
 use Rattle.sc_store.specs.declared.remote.RemoteWrite.TheVariants.{Done as WriteDone, Refused as WriteRefused}
 
 -- a read of a key's path is a lookup of the key
-pub read_asks : (read : RemoteRead) (held held2 : Option Files) (f f2 l l2 : ℕ) (c c2 : Option Calls) (mode : Modes) (key path : List ℕ) → IsStoreKey key → path ≡ normalize_key key → f ≤ f2 → l ≤ l2 → MakesOn c c2 f f2
+pub read_asks : (read : RemoteRead) (held held2 : Option Files) (f f2 l l2 : ℕ) (c c2 : Option Calls) (mode : Modes) (mark : Bool) (key path : List ℕ) → IsStoreKey key → path ≡ normalize_key key → f ≤ f2 → l ≤ l2 → MakesOn c c2 f f2
     → Told (Reads read l l2 path) held held2 → ReadCause read f f2 → is_some held ≡ true
-    → (r : ℕ) → Asks objects (remote_facts mode) r key Raw (raw_answer read) (remote_level held f l c) (remote_level held2 f2 l2 c2)
-read_asks (Found bytes) (Some m) (Some n) f f2 l l2 c c2 mode key path good at faults losses calls reads cause told r =
+    → (r : ℕ) → Asks objects (remote_facts mode) r key Raw (raw_answer read mark) (remote_level held f l c) (remote_level held2 f2 l2 c2)
+read_asks (Found bytes) (Some m) (Some n) f f2 l l2 c c2 mode mark key path good at faults losses calls reads cause told r =
     record { later = record { faults = faults; losses = losses; calls = calls; opened = refl }; keeps = (reads.0, refl); answers = (good, ap (λ p. find_file n p) (sym at) ∙ reads.1); opens = refl }
-read_asks NotFound (Some m) (Some n) f f2 l l2 c c2 mode key path good at faults losses calls reads cause told r =
+read_asks NotFound (Some m) (Some n) f f2 l l2 c c2 mode mark key path good at faults losses calls reads cause told r =
     record { later = record { faults = faults; losses = losses; calls = calls; opened = refl }; keeps = (reads.0, refl); answers = (good, ap (λ p. find_file n p) (sym at) ∙ reads.1); opens = refl }
-read_asks (ReadRefused fault) (Some m) (Some n) f f2 l l2 c c2 mode key path good at faults losses calls reads cause told r =
+read_asks (ReadRefused fault) (Some m) (Some n) f f2 l l2 c c2 mode mark key path good at faults losses calls reads cause told r =
     record { later = record { faults = faults; losses = losses; calls = calls; opened = refl }; keeps = (reads.0, refl); answers = (good, cause); opens = refl }
-read_asks read (Some m) None f f2 l l2 c c2 mode key path good at faults losses calls reads cause told r = absurd reads
-read_asks read None held2 f f2 l l2 c c2 mode key path good at faults losses calls reads cause told r = absurd (cc)
+read_asks read (Some m) None f f2 l l2 c c2 mode mark key path good at faults losses calls reads cause told r = absurd reads
+read_asks read None held2 f f2 l l2 c c2 mode mark key path good at faults losses calls reads cause told r = absurd (cc)
 
 -- bytes that are found are an entry, or no entry
 hit_answers : (key bytes : List ℕ) (mark : Bool) (v w : Level) (os : Option (List Object)) → objects bytes ≡ os → IsStoreKey key → held_by Remote w key ≡ Some bytes
@@ -97,10 +98,10 @@ write_puts (WriteRefused fault) (Some m) (Some n) f f2 l l2 c c2 policy mode key
 write_puts answer (Some m) None f f2 l l2 c c2 policy mode key path bytes free at puts cause told r = absurd puts
 write_puts answer None held2 f f2 l l2 c c2 policy mode key path bytes free at puts cause told r = absurd (cc)
 
-pub write_puts_at : (names : Names) (given : Given) (how : Written) (old : HeldLevel) (answer : RemoteWrite) (held held2 : Option Files) (f f2 l l2 : ℕ) (c c2 : Option Calls) (policy : Policy) (mode : Modes) (key path bytes : List ℕ) → how ≡ written_of answer
-    → held_remote names given mode held f l c ≡ old → early_cause policy (remote_facts mode) key ≡ None → path ≡ normalize_key key → Told (Writes answer l l2 path bytes) held held2 → WriteCause answer f f2 → old.told ≡ true
+pub write_puts_at : (names : Names) (given : Given) (marks : Marks) (how : Written) (old : HeldLevel) (answer : RemoteWrite) (held held2 : Option Files) (f f2 l l2 : ℕ) (c c2 : Option Calls) (policy : Policy) (mode : Modes) (key path bytes : List ℕ) → how ≡ written_of answer
+    → marked marks (held_remote names given mode held f l c) ≡ old → early_cause policy (remote_facts mode) key ≡ None → path ≡ normalize_key key → Told (Writes answer l l2 path bytes) held held2 → WriteCause answer f f2 → old.told ≡ true
     → (r : ℕ) → Wrote_at policy old.facts r key bytes Whole how old.level (remote_level held2 f2 l2 c2)
-write_puts_at names given how old answer held held2 f f2 l l2 c c2 policy mode key path bytes ends is free at puts cause =
+write_puts_at names given marks how old answer held held2 f f2 l l2 c c2 policy mode key path bytes ends is free at puts cause =
     subst (λ (o : HeldLevel). o.told ≡ true → (r : ℕ) → Wrote_at policy o.facts r key bytes Whole how o.level (remote_level held2 f2 l2 c2)) is
     (λ told r. subst (λ (x : Written). Wrote_at policy (remote_facts mode) r key bytes Whole x (remote_level held f l c) (remote_level held2 f2 l2 c2)) (sym ends)
     (write_puts answer held held2 f f2 l l2 c c2 policy mode key path bytes free at puts cause told r))

@@ -10,7 +10,7 @@ use Rattle.sc_model.specs.declared.level.LevelPolicy.{LevelPolicy}
 use Rattle.sc_stats.specs.Sums.{no_level_stats}
 use Rattle.sc_stats.specs.declared.counters.LevelStats.{LevelStats}
 use Rattle.sc_store.specs.Planning.{facts_of}
-use Rattle.sc_store.specs.Telling.{known, level_max, level_name, max_onto, new_counters, titles_of}
+use Rattle.sc_store.specs.Telling.{first_location, known, level_max, level_name, max_onto, new_counters, titles_of}
 use Rattle.sc_store.specs.declared.level.Level.{Level}
 
 -- what stands behind the first of a list
@@ -45,6 +45,15 @@ pub all_within : {R D : Type 0} (levels : List (Level R D)) (level : Level R D) 
 all_within {R} {D} levels level some first here rest policy =
     subst (λ (ls : List (Level R D)). AreWithin (held_levels ls policy)) (sym (behind levels level some first))
     (first_within (held_level level) _ policy here (rest policy))
+
+-- no level is beyond its capacity where there is none
+pub none_within : {R D : Type 0} (levels : List (Level R D)) → length levels < 1 → (policy : Policy) → AreWithin (held_levels levels policy)
+none_within [] none policy = λ l kind. absurd (cc)
+none_within (level ∷ levels) none policy = absurd (omega arith)
+
+-- where the first level is
+pub first_located : {R D : Type 0} (levels : List (Level R D)) (level : Level R D) → 1 ≤ length levels → level ≡ get_or levels 0 level → first_location (titles_of levels) ≡ (held_level level).title.location
+first_located {R} {D} levels level some first = ap (λ (ls : List (Level R D)). first_location (titles_of ls)) (behind levels level some first)
 
 -- as many as before, and one more was counted
 pub one_counted : {A : Type 0} (xs : List A) (x : A) (n total : ℕ) → 1 ≤ length xs → x ≡ get_or xs 0 x → n + length xs ≡ total → (n + 1) + length (take (length xs - 1) (drop 1 xs)) ≡ total

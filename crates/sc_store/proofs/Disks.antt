@@ -1,18 +1,25 @@
 -- Calls of a disk level, as a level of levels that all tell.
-use Rattle.std.proofs.Common.{◌≡◌, ℕ, Bool, true, List, Result, Ok, Err, IfErr, OnErr}
+use Rattle.std.proofs.Common.{◌≡◌, ℕ, Bool, true, List, Option, Result, Ok, Err, IfErr, OnErr}
 use Rattle.sc_disk.specs.Store.{AddEntry}
 use Rattle.sc_disk_cache.specs.DiskStores.{DiskStore}
 use Rattle.sc_disk_cache.specs.Entries.{ClosesEntry, CommitCause, CommitsEntry, CommitsNothing, FillsBy}
+use Rattle.sc_disk_cache.specs.Marked.{MarksCommitted}
+use Rattle.sc_disk_cache.specs.Marks.{Marks}
 use Rattle.sc_disk_cache.specs.Moving.{EvictsFor, OpensBy, SameEntries}
+use Rattle.sc_disk_cache.specs.Preprocessor.{PreCause}
 use Rattle.sc_disk_cache.specs.declared.filling.Filling.{Filling}
 use Rattle.sc_disk_cache.specs.declared.filling.Filling.TheVariants.{Filled, Refused as NotFilled}
 use Rattle.sc_disk_cache.specs.declared.reserving.Reservation.{Reservation}
 use Rattle.sc_disk_cache.specs.declared.reserving.Reservation.TheVariants.{Open, Refused as NotReserved}
+use Rattle.sc_model.specs.World.{early_cause}
 use Rattle.sc_model.specs.declared.event.Written.{Written}
 use Rattle.sc_model.specs.declared.event.Written.TheVariants.{Done, Refused}
+use Rattle.sc_model.specs.declared.level.Cause.{Cause}
 use Rattle.sc_model.specs.declared.level.Cause.TheVariants.{BadEntry, BadKey, FileTooLarge, Io, ReadOnly, RemoteFault, Reserved}
+use Rattle.sc_model.specs.declared.level.LevelKind.{LevelKind}
+use Rattle.sc_model.specs.declared.level.LevelKind.TheVariants.{Disk, Remote}
 use Rattle.sc_model.specs.declared.level.Policy.{Policy}
-use Rattle.sc_store.specs.Asking.{ReservesDisk}
+use Rattle.sc_store.specs.Asking.{PreCauseAt, PreCauseBy, PutsPre, ReservesDisk}
 use Rattle.sc_store.proofs.Alone.{telling}
 
 module _ (t u : Bool) (old new : DiskStore) (tells : t ≡ true → old.told ≡ true) where
@@ -59,6 +66,30 @@ module _ (t u : Bool) (old new : DiskStore) (tells : t ≡ true → old.told ≡
   cause_telling number (Refused BadEntry) h = absurd h
   cause_telling number (Refused (ReadOnly s)) h = absurd h
   cause_telling number (Refused (RemoteFault k)) h = absurd h
+
+  pub puts_pre_telling : (p : Policy) (k b : List ℕ) (how : Written) → PutsPre p k b how old new → PutsPre p k b how (telling t old) (telling u new)
+  puts_pre_telling p k b how h told = h (tells told)
+
+  pre_cause_telling : (early : Option Cause) (b : List ℕ) (how : Written) → PreCause early b how old new → PreCause early b how (telling t old) (telling u new)
+  pre_cause_telling early b Done h = h
+  pre_cause_telling early b (Refused FileTooLarge) h = (h.0, (h.1.0, (λ told. h.1.1 (tells told)), h.1.2))
+  pre_cause_telling early b (Refused Reserved) h = (h.0, (h.1.0, (λ told. h.1.1 (tells told)), h.1.2, h.1.3))
+  pre_cause_telling early b (Refused Io) h = h
+  pre_cause_telling early b (Refused BadKey) h = h
+  pre_cause_telling early b (Refused BadEntry) h = h
+  pre_cause_telling early b (Refused (ReadOnly s)) h = h
+  pre_cause_telling early b (Refused (RemoteFault k)) h = h
+
+  pre_cause_by_telling : (kind : LevelKind) (early : Option Cause) (b : List ℕ) (how : Written) → PreCauseBy kind early b how old new → PreCauseBy kind early b how (telling t old) (telling u new)
+  pre_cause_by_telling Disk early b how h = pre_cause_telling early b how h
+  pre_cause_by_telling Remote early b how h = h
+
+  pub pre_cause_at_telling : (p : Policy) (k b : List ℕ) (how : Written) → PreCauseAt p k b how old new → PreCauseAt p k b how (telling t old) (telling u new)
+  pre_cause_at_telling p k b how h = pre_cause_by_telling old.facts.kind (early_cause p old.facts k) b how h
+
+  pub committed_telling : (number : ℕ) (path : List ℕ) (how : Written) (a b : Marks) → (u ≡ true → new.told ≡ true) → MarksCommitted number path how a b new → MarksCommitted number path how a b (telling u new)
+  committed_telling number path Done a b later h = record { marked = h.marked; kept = λ told key bytes apart is. h.kept (later told) key bytes apart is; fewer = h.fewer; none = h.none; others = h.others }
+  committed_telling number path (Refused c) a b later h = h
 
 pub if_err : {A E : Type 0} {P Q : E → Type 0} (r : Result A E) → ((e : E) → P e → Q e) → IfErr r P → IfErr r Q
 if_err (Ok a) f h = tt

@@ -1,4 +1,5 @@
-mod Plans
+pub mod Plans
+mod Marking
 mod Tellings
 mod Devices
 pub mod PathMaps

@@ -4,6 +4,7 @@ use Rattle.std.specs.Str.Lossy.{utf8_lossy}
 use Rattle.std.specs.Coded.{Coded, code_by, coded×, coded_bool, coded_ℕ, coded_list, coded_option}
 use Rattle.std.specs.FinSet as set
 use Rattle.sc_disk_cache.specs.DiskStores.{DiskStore, OpenEntry}
+use Rattle.sc_disk_cache.specs.Marks.{Marks, marks_code, no_marks}
 use Rattle.sc_model.specs.Devices.{Calls, Numbers}
 use Rattle.sc_model.specs.Plan.{level_facts}
 use Rattle.sc_model.specs.World.{Files, Level, no_files, no_level_held, part_size}
@@ -72,15 +73,18 @@ pub record Room : Type 0 where
 abbrev pub no_room : Room
 no_room = record { reserved = 0; entries = [] }
 
--- One level: what does not change of it, whether it tells what it holds, what it holds where it tells that, and what is open.
+-- One level: what does not change of it, whether it tells what it holds, what it holds where it tells that, what is open, and
+-- which of its files and open entries a local run made.
 pub record HeldLevel : Type 0 where
   pub title : Title
   pub facts : LevelFacts
   pub told : Bool
   pub level : Level
   pub room : Room
+  pub marks : Marks
 
--- The levels of a daemon in order, its policy, whether every level tells what it holds, and what is open at each.
+-- The levels of a daemon in order, its policy, whether every level tells what it holds, what is open at each, and what a local
+-- run made there.
 pub record Held : Type 0 where
   pub titles : List Title
   pub facts : List LevelFacts
@@ -88,6 +92,7 @@ pub record Held : Type 0 where
   pub told : Bool
   pub levels : List Level
   pub rooms : List Room
+  pub marks : List Marks
 
 -- what is known of a map that may not be told
 abbrev pub told_files : Option Files → Files
@@ -114,18 +119,22 @@ abbrev pub remote_level : Option Files → ℕ → ℕ → Option Calls → Leve
 remote_level held faults losses calls = record { faults = faults; losses = losses; calls = calls; opened = false; main = told_files held; pre = no_files }
 
 abbrev pub held_remote : Names → Given → Modes → Option Files → ℕ → ℕ → Option Calls → HeldLevel
-held_remote names given modes held faults losses calls = record { title = remote_title names given; facts = remote_facts modes; told = is_some held; level = remote_level held faults losses calls; room = no_room }
+held_remote names given modes held faults losses calls = record { title = remote_title names given; facts = remote_facts modes; told = is_some held; level = remote_level held faults losses calls; room = no_room; marks = no_marks }
 
 -- a disk store as a level
 abbrev pub of_disk : Given → DiskStore → HeldLevel
-of_disk given s = record { title = disk_title s.facts.root given; facts = s.facts; told = s.told; level = s.level; room = record { reserved = s.reserved; entries = s.entries } }
+of_disk given s = record { title = disk_title s.facts.root given; facts = s.facts; told = s.told; level = s.level; room = record { reserved = s.reserved; entries = s.entries }; marks = no_marks }
+
+-- a level with these marks
+abbrev pub marked : Marks → HeldLevel → HeldLevel
+marked marks h = record h { marks = marks }
 
 abbrev pub all_tell : List HeldLevel → Bool
 all_tell [] = true
 all_tell (l ∷ ls) = l.told && all_tell ls
 
 abbrev pub held_of : List HeldLevel → Policy → Held
-held_of ls policy = record { titles = map (λ l. l.title) ls; facts = map (λ l. l.facts) ls; policy = policy; told = all_tell ls; levels = map (λ l. l.level) ls; rooms = map (λ l. l.room) ls }
+held_of ls policy = record { titles = map (λ l. l.title) ls; facts = map (λ l. l.facts) ls; policy = policy; told = all_tell ls; levels = map (λ l. l.level) ls; rooms = map (λ l. l.room) ls; marks = map (λ l. l.marks) ls }
 
 -- what a level holds; beyond the last level nothing
 abbrev pub level_in : List Level → ℕ → Level
@@ -134,6 +143,10 @@ level_in levels l = slice_index_or levels l no_level_held
 -- what is open at a level; beyond the last level nothing
 abbrev pub room_in : List Room → ℕ → Room
 room_in rooms l = slice_index_or rooms l no_room
+
+-- what a local run made at a level; beyond the last level nothing
+abbrev pub marks_in : List Marks → ℕ → Marks
+marks_in marks l = slice_index_or marks l no_marks
 
 -- a level as a disk store
 abbrev pub disk_of : HeldLevel → DiskStore
@@ -198,15 +211,16 @@ room_code = code_by (ℕ × List (Option OpenEntry))
     (λ _. refl)
 
 abbrev pub held_level_code : Coded HeldLevel
-held_level_code = code_by (Title × (LevelFacts × (Bool × (Level × Room))))
-    (coded× title_code (coded× facts_type.the_row.coded (coded× coded_bool (coded× level_code room_code))))
-    (λ l. (l.title, (l.facts, (l.told, (l.level, l.room)))))
-    (λ p. record { title = p.0; facts = p.1.0; told = p.1.1.0; level = p.1.1.1.0; room = p.1.1.1.1 })
+held_level_code = code_by (Title × (LevelFacts × (Bool × (Level × (Room × Marks)))))
+    (coded× title_code (coded× facts_type.the_row.coded (coded× coded_bool (coded× level_code (coded× room_code marks_code)))))
+    (λ l. (l.title, (l.facts, (l.told, (l.level, (l.room, l.marks))))))
+    (λ p. record { title = p.0; facts = p.1.0; told = p.1.1.0; level = p.1.1.1.0; room = p.1.1.1.1.0; marks = p.1.1.1.1.1 })
     (λ _. refl)
 
 abbrev pub held_code : Coded Held
-held_code = code_by (List Title × (List LevelFacts × (Policy × (Bool × (List Level × List Room)))))
-    (coded× (coded_list title_code) (coded× (coded_list facts_type.the_row.coded) (coded× policy_type.the_row.coded (coded× coded_bool (coded× (coded_list level_code) (coded_list room_code))))))
-    (λ h. (h.titles, (h.facts, (h.policy, (h.told, (h.levels, h.rooms))))))
-    (λ p. record { titles = p.0; facts = p.1.0; policy = p.1.1.0; told = p.1.1.1.0; levels = p.1.1.1.1.0; rooms = p.1.1.1.1.1 })
+held_code = code_by (List Title × (List LevelFacts × (Policy × (Bool × (List Level × (List Room × List Marks))))))
+    (coded× (coded_list title_code)
+    (coded× (coded_list facts_type.the_row.coded) (coded× policy_type.the_row.coded (coded× coded_bool (coded× (coded_list level_code) (coded× (coded_list room_code) (coded_list marks_code)))))))
+    (λ h. (h.titles, (h.facts, (h.policy, (h.told, (h.levels, (h.rooms, h.marks)))))))
+    (λ p. record { titles = p.0; facts = p.1.0; policy = p.1.1.0; told = p.1.1.1.0; levels = p.1.1.1.1.0; rooms = p.1.1.1.1.1.0; marks = p.1.1.1.1.1.1 })
     (λ _. refl)

@@ -1,17 +1,19 @@
 //! A disk store as a level's store.
-ghost use Rattle.std.specs.Prelude.{◌≡◌, ◌≢◌, ◌+◌, ◌≤◌, false, true, Some, Ok, Err, IfOk, IfErr, OnErr};
+ghost use Rattle.std.specs.Prelude.{◌≡◌, ◌+◌, ◌≤◌, false, true, Some, Ok, Err, IfOk, IfErr, OnErr, length};
 ghost use Rattle.sc_disk_cache.specs.DiskStores.{entry_path, held_disk};
 ghost use Rattle.sc_disk_cache.specs.Entries.{ClosesEntry, CommitCause, CommitsEntry, CommitsNothing, FillsBy, IsOpenAt};
+ghost use Rattle.sc_disk_cache.specs.Marked.{MarksCommitted, MarksFilled, MarksOpened, marks_of};
+ghost use Rattle.sc_disk_cache.specs.Marks.{Forgets};
 ghost use Rattle.sc_disk_cache.specs.Moving.{AskCause, AsksDisk, EvictsFor, OpensBy, ReserveCause, SameEntries, Stays, Steady};
+ghost use Rattle.sc_disk_cache.specs.Preprocessor.{PreCause, PutsPre};
 ghost use Rattle.sc_disk_cache.specs.declared.filling.EntryError.TheVariants.{NotOpen as IsNotOpen};
 ghost use Rattle.sc_disk_cache.specs.declared.reserving.Reservation.TheVariants.{Refused as IsNotReserved};
 ghost use Rattle.sc_entry.specs.Keys.{is_store_key as is_key};
 ghost use Rattle.sc_model.specs.World.{causes, early_cause as early, part_size, same_maps};
-ghost use Rattle.sc_model.specs.declared.event.Mode.TheVariants.{Path};
 ghost use Rattle.sc_model.specs.declared.level.Cause.{Cause};
 ghost use Rattle.sc_model.specs.declared.level.LevelKind.TheVariants.{Disk as IsDisk};
-ghost use Rattle.sc_store.specs.Asking.{ReservesDisk, reads_key};
-ghost use Rattle.sc_store.specs.Held.{disk_given, disk_of, disk_title, nothing_given, of_disk};
+ghost use Rattle.sc_store.specs.Asking.{ReservesDisk, TellsMark, reads_key};
+ghost use Rattle.sc_store.specs.Held.{disk_given, disk_of, disk_title, marked, nothing_given, of_disk};
 
 use sc_disk::{Disk, LruDiskCacheAddEntry};
 use sc_disk_cache::{DiskCache, EntryError, Filling, Reservation};
@@ -30,13 +32,14 @@ pub struct DiskStorage<D: Disk> {
 
 impl<D: Disk> Model for DiskStorage<D> {
     ghost use Rattle.sc_disk_cache.specs.DiskStores.{held_disk};
-    ghost use Rattle.sc_store.specs.Held.{HeldLevel, disk_given, held_level_code, of_disk};
+    ghost use Rattle.sc_disk_cache.specs.Marked.{marks_of};
+    ghost use Rattle.sc_store.specs.Held.{HeldLevel, disk_given, held_level_code, marked, of_disk};
 
     ghost Value = { HeldLevel };
 
     ghost coded = { held_level_code };
 
-    ghost view = { λ s. of_disk (disk_given s.basedirs s.use_preprocessor_cache_mode) (held_disk s.cache) };
+    ghost view = { λ s. marked (marks_of s.cache) (of_disk (disk_given s.basedirs s.use_preprocessor_cache_mode) (held_disk s.cache)) };
 }
 
 /// Where a disk store is, in words.
@@ -58,7 +61,7 @@ impl<D: Disk> DiskStorage<D> {
         use_preprocessor_cache_mode: bool,
         basedirs: Items<ByteText>,
     ) -> DiskStorage<D>
-        ensures { result ≡ of_disk (disk_given basedirs use_preprocessor_cache_mode) (held_disk cache) }
+        ensures { result ≡ marked (marks_of cache) (of_disk (disk_given basedirs use_preprocessor_cache_mode) (held_disk cache)) }
     {
         DiskStorage {
             cache,
@@ -141,11 +144,13 @@ impl<D: Disk> DiskStorage<D> {
 }
 
 impl<D: Disk + Drop> DiskStorage<D> {
-    /// Looks a key up, or tells the store's size.
+    /// Looks a key up, tells where its file stands, or tells the store's size.
+    #[tactic(auto, using(crate::proofs::Marking::disk_tells))]
     pub fn ask(&mut self, key: &Text, mode: Mode, now: u64) -> Result<Answer, NoMemory>
-        requires { mode ≢ Path }
         ensures title { self.new.title ≡ self.old.title }
         ensures steady { Steady (disk_of self.old) (disk_of self.new) }
+        ensures marks { self.new.marks ≡ self.old.marks }
+        ensures mark { reads_key mode ≡ true → IfOk result (λ answer. TellsMark IsDisk self.old.marks key.now answer) }
         ensures asked { IfOk result (λ answer. AsksDisk key.now mode answer (disk_of self.old) (disk_of self.new)) }
         ensures cause { IfOk result (λ answer. AskCause mode answer key.now self.old.level self.new.level) }
         ensures bad_key { reads_key mode ≡ true → is_key key.now ≡ false → (result ≡ Ok (Answer.Refused Cause.BadKey)) × (self.new ≡ self.old) }
@@ -163,6 +168,8 @@ impl<D: Disk + Drop> DiskStorage<D> {
     ) -> Result<Reservation, NoMemory>
         ensures title { self.new.title ≡ self.old.title }
         ensures stays { Stays (disk_of self.old) (disk_of self.new) }
+        ensures marks { IfOk result (λ how. MarksOpened how self.old.marks self.new.marks) }
+        ensures marks_stay { OnErr result (self.new.marks ≡ self.old.marks) }
         ensures moved { IfOk result (λ how. ReservesDisk policy.now key.now size how (disk_of self.old) (disk_of self.new)) }
         ensures entry { IfOk result (λ how. OpensBy (entry_path key.now) size how (disk_of self.old) (disk_of self.new)) }
         ensures kept { OnErr result (SameEntries (disk_of self.old) (disk_of self.new)) }
@@ -173,23 +180,34 @@ impl<D: Disk + Drop> DiskStorage<D> {
         self.cache.reserve(policy, key, size, now)
     }
 
-    /// Adds bytes behind those that an open entry was filled with. A refusal closes the entry, and so does want of memory.
-    pub fn fill(&mut self, entry: LruDiskCacheAddEntry, bytes: &[u8]) -> Result<Filling, EntryError>
+    /// Adds bytes behind those that an open entry was filled with. The first fill marks the entry where a local run made its
+    /// bytes, and every further one clears that mark. A refusal closes the entry, and so does want of memory.
+    pub fn fill(
+        &mut self,
+        entry: LruDiskCacheAddEntry,
+        bytes: &[u8],
+        from_run: bool,
+    ) -> Result<Filling, EntryError>
         ensures title { self.new.title ≡ self.old.title }
         ensures stays { Stays (disk_of self.old) (disk_of self.new) }
+        ensures marks { IfOk result (λ how. MarksFilled entry.number from_run how self.old.marks self.new.marks) }
+        ensures forgotten { OnErr result (IsOpenAt entry (disk_of self.old) → Forgets entry.number self.old.marks self.new.marks) }
         ensures filled { IfOk result (λ how. IsOpenAt entry (disk_of self.old) × FillsBy entry bytes.now how (disk_of self.old) (disk_of self.new)) }
         ensures closed { OnErr result (IsOpenAt entry (disk_of self.old) → ClosesEntry entry.number (disk_of self.old) (disk_of self.new)) }
         ensures kept { OnErr result (same_maps self.old.level self.new.level) }
         ensures not_open { IfErr result (λ refused. refused ≡ IsNotOpen → (IsOpenAt entry (disk_of self.old) → ⊥) × (self.new ≡ self.old)) }
         ensures shut { (IsOpenAt entry (disk_of self.old) → ⊥) → result ≡ Err IsNotOpen }
     {
-        self.cache.fill(entry, bytes)
+        self.cache.fill(entry, bytes, from_run)
     }
 
-    /// Puts an open entry's file in its key's place, and closes the entry, also by a refusal.
+    /// Puts an open entry's file in its key's place, and closes the entry, also by a refusal. The key gets the mark of the
+    /// entry.
     pub fn commit(&mut self, entry: LruDiskCacheAddEntry, now: u64) -> Result<Written, EntryError>
         ensures title { self.new.title ≡ self.old.title }
         ensures stays { Stays (disk_of self.old) (disk_of self.new) }
+        ensures marks { IfOk result (λ how. MarksCommitted entry.number entry.key how self.old.marks self.new.marks (disk_of self.new)) }
+        ensures forgotten { OnErr result (IsOpenAt entry (disk_of self.old) → Forgets entry.number self.old.marks self.new.marks) }
         ensures closed { IsOpenAt entry (disk_of self.old) → ClosesEntry entry.number (disk_of self.old) (disk_of self.new) }
         ensures committed { IfOk result (λ how. IsOpenAt entry (disk_of self.old) × CommitsEntry entry.number how (disk_of self.old) (disk_of self.new)) }
         ensures cause { IfOk result (λ how. CommitCause entry.number how (disk_of self.old) (disk_of self.new)) }
@@ -198,5 +216,25 @@ impl<D: Disk + Drop> DiskStorage<D> {
         ensures shut { (IsOpenAt entry (disk_of self.old) → ⊥) → result ≡ Err IsNotOpen }
     {
         self.cache.commit(entry, now)
+    }
+
+    /// Puts a preprocessor entry under a key. Its size is not declared: it is measured once it was written.
+    pub fn put_pre(
+        &mut self,
+        policy: &Policy,
+        key: &Text,
+        bytes: &[u8],
+        now: u64,
+    ) -> Result<Written, NoMemory>
+        ensures title { self.new.title ≡ self.old.title }
+        ensures stays { Stays (disk_of self.old) (disk_of self.new) }
+        ensures marks { self.new.marks ≡ self.old.marks }
+        ensures entries { SameEntries (disk_of self.old) (disk_of self.new) }
+        ensures put { IfOk result (λ how. PutsPre policy.now key.now bytes.now how (disk_of self.old) (disk_of self.new)) }
+        ensures evicts { OnErr result (EvictsFor (length bytes.now) (disk_of self.old) (disk_of self.new)) }
+        ensures cause { IfOk result (λ how. PreCause (early policy.now self.old.facts key.now) bytes.now how (disk_of self.old) (disk_of self.new)) }
+        ensures early { (c : Cause) → early policy.now self.old.facts key.now ≡ Some c → (result ≡ Ok (Written.Refused c)) × (self.new ≡ self.old) }
+    {
+        self.cache.put_pre(policy, key, bytes, now)
     }
 }

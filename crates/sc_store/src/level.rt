@@ -1,16 +1,17 @@
 //! One level of a daemon's store.
-ghost use Rattle.std.specs.Prelude.{◌≡◌, ◌≢◌, true, false, Some, Ok, IfOk, IfErr, OnErr, Err};
+ghost use Rattle.std.specs.Prelude.{◌≡◌, true, false, Some, Ok, IfOk, IfErr, OnErr, Err, length};
 ghost use Rattle.sc_disk_cache.specs.DiskStores.{entry_path};
 ghost use Rattle.sc_disk_cache.specs.Entries.{ClosesEntry, CommitCause, CommitsEntry, CommitsNothing, FillsBy, IsOpenAt};
+ghost use Rattle.sc_disk_cache.specs.Marked.{MarksCommitted, MarksFilled, MarksOpened};
+ghost use Rattle.sc_disk_cache.specs.Marks.{Forgets};
 ghost use Rattle.sc_disk_cache.specs.Moving.{EvictsFor, OpensBy, ReserveCause, SameEntries};
 ghost use Rattle.sc_disk_cache.specs.declared.filling.EntryError.TheVariants.{NotOpen as IsNotOpen};
 ghost use Rattle.sc_disk_cache.specs.declared.reserving.Reservation.TheVariants.{Refused as IsNotReserved};
 ghost use Rattle.sc_entry.specs.Keys.{is_store_key as is_key};
 ghost use Rattle.sc_model.specs.World.{Later, causes, early_cause as early, same_maps};
-ghost use Rattle.sc_model.specs.declared.event.Mode.TheVariants.{Path};
 ghost use Rattle.sc_model.specs.declared.level.Cause.{Cause};
 ghost use Rattle.sc_model.specs.declared.level.LevelKind.TheVariants.{Disk as IsDisk, Remote as IsRemote};
-ghost use Rattle.sc_store.specs.Asking.{AsksLevel, CauseBy, PutCause, PutsLevel, ReservesDisk, fixed_answer, reads_key};
+ghost use Rattle.sc_store.specs.Asking.{AsksLevel, CauseBy, Fewer, MarksAsked, MarksWrote, PreCauseAt, PutCause, PutsLevel, PutsPre, ReservesDisk, TellsMark, fixed_answer, reads_key};
 ghost use Rattle.sc_store.specs.Checking.{ChecksLevel, facts_after};
 ghost use Rattle.sc_store.specs.Held.{IsWithin, disk_of};
 ghost use Rattle.sc_store.specs.Levels.{held_level};
@@ -158,12 +159,14 @@ impl<R: Remote, D: Disk + Drop> Level<R, D> {
         mode: Mode,
         now: u64,
     ) -> Result<Answer, NoMemory>
-        requires { (held_level self.old).facts.kind ≡ IsDisk → mode ≢ Path }
         ensures title { (held_level self.new).title ≡ (held_level self.old).title }
         ensures facts { (held_level self.new).facts ≡ (held_level self.old).facts }
         ensures told { (held_level self.new).told ≡ (held_level self.old).told }
         ensures room { (held_level self.new).room ≡ (held_level self.old).room }
         ensures later { Later (held_level self.old).level (held_level self.new).level }
+        ensures mark { reads_key mode ≡ true → IfOk result (λ answer. TellsMark (held_level self.old).facts.kind (held_level self.old).marks key.now answer) }
+        ensures marks { IfOk result (λ answer. MarksAsked (held_level self.old).facts.kind mode key.now answer (held_level self.old).marks (held_level self.new).marks) }
+        ensures fewer { Fewer (held_level self.old).marks (held_level self.new).marks }
         ensures within { IsWithin (held_level self.new).facts (held_level self.new).level (held_level self.new).room }
         ensures asked { IfOk result (λ answer. AsksLevel key.now mode answer (held_level self.old) (held_level self.new)) }
         ensures cause { IfOk result (λ answer. CauseBy (held_level self.old).facts.kind mode answer key.now (held_level self.old).level (held_level self.new).level) }
@@ -191,6 +194,7 @@ impl<R: Remote, D: Disk + Drop> Level<R, D> {
         ensures facts { IfOk result (λ answer. (held_level self.new).facts ≡ facts_after (held_level self.old).facts answer) }
         ensures facts_stay { OnErr result ((held_level self.new).facts ≡ (held_level self.old).facts) }
         ensures told { (held_level self.new).told ≡ (held_level self.old).told }
+        ensures marks { (held_level self.new).marks ≡ (held_level self.old).marks }
         ensures room { (held_level self.new).room ≡ (held_level self.old).room }
         ensures later { Later (held_level self.old).level (held_level self.new).level }
         ensures within { IsWithin (held_level self.new).facts (held_level self.new).level (held_level self.new).room }
@@ -208,19 +212,22 @@ impl<R: Remote, D: Disk + Drop> Level<R, D> {
         }
     }
 
-    /// Puts an entry under a key of a remote level.
+    /// Puts an entry under a key of a remote level. The flag says whether a local run made the bytes.
     pub fn put_step(
         &mut self,
         alloc: Global,
         policy: &Policy,
         key: &Text,
         bytes: &ByteText,
+        from_run: bool,
     ) -> Result<Written, NoMemory>
         requires { (held_level self.old).facts.kind ≡ IsRemote }
         ensures title { (held_level self.new).title ≡ (held_level self.old).title }
         ensures facts { (held_level self.new).facts ≡ (held_level self.old).facts }
         ensures told { (held_level self.new).told ≡ (held_level self.old).told }
         ensures room { (held_level self.new).room ≡ (held_level self.old).room }
+        ensures marks { IfOk result (λ how. MarksWrote key.now from_run how (held_level self.old).marks (held_level self.new).marks) }
+        ensures fewer { OnErr result (Fewer (held_level self.old).marks (held_level self.new).marks) }
         ensures later { Later (held_level self.old).level (held_level self.new).level }
         ensures within { IsWithin (held_level self.new).facts (held_level self.new).level (held_level self.new).room }
         ensures wrote { IfOk result (λ how. PutsLevel policy.now key.now bytes.now how (held_level self.old) (held_level self.new)) }
@@ -228,7 +235,7 @@ impl<R: Remote, D: Disk + Drop> Level<R, D> {
         ensures early { (c : Cause) → early policy.now (held_level self.old).facts key.now ≡ Some c → (result ≡ Ok (Written.Refused c)) × (self.new ≡ self.old) }
     {
         match self {
-            Level::Remote(store) => store.put_step(alloc, policy, key, bytes),
+            Level::Remote(store) => store.put_step(alloc, policy, key, bytes, from_run),
             Level::Disk(store) => {
                 store.keeps();
                 unreachable!()
@@ -249,6 +256,8 @@ impl<R: Remote, D: Disk + Drop> Level<R, D> {
         ensures facts { (held_level self.new).facts ≡ (held_level self.old).facts }
         ensures told { (held_level self.new).told ≡ (held_level self.old).told }
         ensures later { Later (held_level self.old).level (held_level self.new).level }
+        ensures marks { IfOk result (λ how. MarksOpened how (held_level self.old).marks (held_level self.new).marks) }
+        ensures marks_stay { OnErr result ((held_level self.new).marks ≡ (held_level self.old).marks) }
         ensures within { IsWithin (held_level self.new).facts (held_level self.new).level (held_level self.new).room }
         ensures moved { IfOk result (λ how. ReservesDisk policy.now key.now size how (disk_of (held_level self.old)) (disk_of (held_level self.new))) }
         ensures entry { IfOk result (λ how. OpensBy (entry_path key.now) size how (disk_of (held_level self.old)) (disk_of (held_level self.new))) }
@@ -270,13 +279,21 @@ impl<R: Remote, D: Disk + Drop> Level<R, D> {
         }
     }
 
-    /// Adds bytes behind those that an open entry of a disk level was filled with. A refusal closes the entry.
-    pub fn fill(&mut self, entry: LruDiskCacheAddEntry, bytes: &[u8]) -> Result<Filling, EntryError>
+    /// Adds bytes behind those that an open entry of a disk level was filled with. The first fill marks the entry where a
+    /// local run made its bytes, and every further one clears that mark. A refusal closes the entry.
+    pub fn fill(
+        &mut self,
+        entry: LruDiskCacheAddEntry,
+        bytes: &[u8],
+        from_run: bool,
+    ) -> Result<Filling, EntryError>
         requires { (held_level self.old).facts.kind ≡ IsDisk }
         ensures title { (held_level self.new).title ≡ (held_level self.old).title }
         ensures facts { (held_level self.new).facts ≡ (held_level self.old).facts }
         ensures told { (held_level self.new).told ≡ (held_level self.old).told }
         ensures later { Later (held_level self.old).level (held_level self.new).level }
+        ensures marks { IfOk result (λ how. MarksFilled entry.number from_run how (held_level self.old).marks (held_level self.new).marks) }
+        ensures forgotten { OnErr result (IsOpenAt entry (disk_of (held_level self.old)) → Forgets entry.number (held_level self.old).marks (held_level self.new).marks) }
         ensures within { IsWithin (held_level self.new).facts (held_level self.new).level (held_level self.new).room }
         ensures filled { IfOk result (λ how. IsOpenAt entry (disk_of (held_level self.old)) × FillsBy entry bytes.now how (disk_of (held_level self.old)) (disk_of (held_level self.new))) }
         ensures closed { OnErr result (IsOpenAt entry (disk_of (held_level self.old)) → ClosesEntry entry.number (disk_of (held_level self.old)) (disk_of (held_level self.new))) }
@@ -286,7 +303,7 @@ impl<R: Remote, D: Disk + Drop> Level<R, D> {
     {
         match self {
             Level::Disk(store) => {
-                let how = store.fill(entry, bytes);
+                let how = store.fill(entry, bytes, from_run);
                 store.keeps();
                 how
             }
@@ -297,13 +314,16 @@ impl<R: Remote, D: Disk + Drop> Level<R, D> {
         }
     }
 
-    /// Puts an open entry's file of a disk level in its key's place, and closes the entry, also by a refusal.
+    /// Puts an open entry's file of a disk level in its key's place, and closes the entry, also by a refusal. The key gets the
+    /// mark of the entry.
     pub fn commit(&mut self, entry: LruDiskCacheAddEntry, now: u64) -> Result<Written, EntryError>
         requires { (held_level self.old).facts.kind ≡ IsDisk }
         ensures title { (held_level self.new).title ≡ (held_level self.old).title }
         ensures facts { (held_level self.new).facts ≡ (held_level self.old).facts }
         ensures told { (held_level self.new).told ≡ (held_level self.old).told }
         ensures later { Later (held_level self.old).level (held_level self.new).level }
+        ensures marks { IfOk result (λ how. MarksCommitted entry.number entry.key how (held_level self.old).marks (held_level self.new).marks (disk_of (held_level self.new))) }
+        ensures forgotten { OnErr result (IsOpenAt entry (disk_of (held_level self.old)) → Forgets entry.number (held_level self.old).marks (held_level self.new).marks) }
         ensures within { IsWithin (held_level self.new).facts (held_level self.new).level (held_level self.new).room }
         ensures closed { IsOpenAt entry (disk_of (held_level self.old)) → ClosesEntry entry.number (disk_of (held_level self.old)) (disk_of (held_level self.new)) }
         ensures committed { IfOk result (λ how. IsOpenAt entry (disk_of (held_level self.old)) × CommitsEntry entry.number how (disk_of (held_level self.old)) (disk_of (held_level self.new))) }
@@ -321,6 +341,41 @@ impl<R: Remote, D: Disk + Drop> Level<R, D> {
             Level::Remote(store) => {
                 let _remote = store.kind();
                 unreachable!()
+            }
+        }
+    }
+
+    /// Puts a preprocessor entry under a key. A remote level keeps none, and is not called.
+    pub fn put_pre(
+        &mut self,
+        policy: &Policy,
+        key: &Text,
+        bytes: &[u8],
+        now: u64,
+    ) -> Result<Written, NoMemory>
+        ensures title { (held_level self.new).title ≡ (held_level self.old).title }
+        ensures facts { (held_level self.new).facts ≡ (held_level self.old).facts }
+        ensures told { (held_level self.new).told ≡ (held_level self.old).told }
+        ensures later { Later (held_level self.old).level (held_level self.new).level }
+        ensures marks { (held_level self.new).marks ≡ (held_level self.old).marks }
+        ensures within { IsWithin (held_level self.new).facts (held_level self.new).level (held_level self.new).room }
+        ensures entries { SameEntries (disk_of (held_level self.old)) (disk_of (held_level self.new)) }
+        ensures put { IfOk result (λ how. PutsPre policy.now key.now bytes.now how (disk_of (held_level self.old)) (disk_of (held_level self.new))) }
+        ensures evicts { OnErr result (EvictsFor (length bytes.now) (disk_of (held_level self.old)) (disk_of (held_level self.new))) }
+        ensures cause { IfOk result (λ how. PreCauseAt policy.now key.now bytes.now how (disk_of (held_level self.old)) (disk_of (held_level self.new))) }
+        ensures early { (held_level self.old).facts.kind ≡ IsDisk → (c : Cause) → early policy.now (held_level self.old).facts key.now ≡ Some c → (result ≡ Ok (Written.Refused c)) × (self.new ≡ self.old) }
+        ensures remote { (held_level self.old).facts.kind ≡ IsRemote → (result ≡ Ok Written.Done) × (self.new ≡ self.old) }
+    {
+        match self {
+            Level::Disk(store) => {
+                store.keeps();
+                let how = store.put_pre(policy, key, bytes, now);
+                store.keeps();
+                how
+            }
+            Level::Remote(store) => {
+                let _remote = store.kind();
+                Ok(Written::Done)
             }
         }
     }

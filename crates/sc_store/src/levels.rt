@@ -1,19 +1,20 @@
-ghost use Rattle.std.specs.Prelude.{◌≡◌, ◌≢◌, ◌<◌, ◌↔◌, ℕ, IsTrue, true, false, Some, Ok, Err, IfOk, IfErr, OnErr, length, slice_set};
+ghost use Rattle.std.specs.Prelude.{◌≡◌, ◌<◌, ◌↔◌, ℕ, IsTrue, true, false, Some, Ok, Err, IfOk, IfErr, OnErr, length, slice_set};
 ghost use Rattle.sc_disk_cache.specs.DiskStores.{entry_path};
 ghost use Rattle.sc_disk_cache.specs.Entries.{ClosesEntry, CommitCause, CommitsEntry, CommitsNothing, FillsBy, IsOpenAt};
+ghost use Rattle.sc_disk_cache.specs.Marked.{MarksCommitted, MarksFilled, MarksOpened};
+ghost use Rattle.sc_disk_cache.specs.Marks.{Forgets};
 ghost use Rattle.sc_disk_cache.specs.Moving.{EvictsFor, OpensBy, ReserveCause, SameEntries};
 ghost use Rattle.sc_disk_cache.specs.declared.filling.EntryError.TheVariants.{NotOpen as IsNotOpen};
 ghost use Rattle.sc_disk_cache.specs.declared.reserving.Reservation.TheVariants.{Refused as IsNotReserved};
 ghost use Rattle.sc_entry.specs.Keys.{is_store_key as is_key};
 ghost use Rattle.sc_model.specs.Plan.{level_facts};
 ghost use Rattle.sc_model.specs.World.{Later, causes, early_cause as early, same_maps};
-ghost use Rattle.sc_model.specs.declared.event.Mode.TheVariants.{Path};
 ghost use Rattle.sc_model.specs.declared.level.Cause.{Cause};
 ghost use Rattle.sc_model.specs.declared.level.Policy.{Policy as PolicyType};
 ghost use Rattle.sc_model.specs.declared.level.LevelKind.TheVariants.{Disk as IsDisk, Remote as IsRemote};
-ghost use Rattle.sc_store.specs.Asking.{AloneAt, AsksAt, CauseBy, PutCause, PutsAt, ReservesDisk, fixed_answer, reads_key};
+ghost use Rattle.sc_store.specs.Asking.{AloneAt, AsksAt, CauseBy, Fewer, MarksAsked, MarksWrote, PreCauseAt, PutCause, PutsAt, PutsPre, ReservesDisk, TellsMark, fixed_answer, reads_key};
 ghost use Rattle.sc_store.specs.Checking.{ChecksAt, facts_after};
-ghost use Rattle.sc_store.specs.Held.{AreWithin, are_unreserved, disk_in, level_in, room_in, title_in};
+ghost use Rattle.sc_store.specs.Held.{AreWithin, are_unreserved, disk_in, level_in, marks_in, room_in, title_in};
 ghost use Rattle.sc_store.specs.Levels.{held_level, held_levels, rooms_of};
 
 use crate::checked::Checked;
@@ -112,6 +113,7 @@ impl<R: Remote, D: Disk> Levels<R, D> {
         ensures facts { (held_level result.now).facts ≡ level_facts self.now.facts level }
         ensures level { (held_level result.now).level ≡ level_in self.now.levels level }
         ensures room { (held_level result.now).room ≡ room_in self.now.rooms level }
+        ensures marks { (held_level result.now).marks ≡ marks_in self.now.marks level }
         ensures told { self.now.told ≡ true → (held_level result.now).told ≡ true }
         ensures alone { length self.now.levels ≡ 1 → (held_level result.now).told ≡ self.now.told }
     {
@@ -150,8 +152,7 @@ impl<R: Remote, D: Disk> Levels<R, D> {
 }
 
 impl<R: Remote, D: Disk + Drop> Levels<R, D> {
-    /// Looks a key up at one level, and at no other, at this moment. Paths of a disk level are asked for by a call of their
-    /// own.
+    /// Looks a key up at one level, and at no other, at this moment.
     pub fn ask(
         &mut self,
         alloc: Global,
@@ -161,7 +162,6 @@ impl<R: Remote, D: Disk + Drop> Levels<R, D> {
         now: u64,
     ) -> Result<Answer, NoMemory>
         requires level { level < length self.old.levels }
-        requires mode { (level_facts self.old.facts level).kind ≡ IsDisk → mode ≢ Path }
         ensures titles { self.new.titles ≡ self.old.titles }
         ensures facts { self.new.facts ≡ self.old.facts }
         ensures policy { self.new.policy ≡ self.old.policy }
@@ -169,6 +169,10 @@ impl<R: Remote, D: Disk + Drop> Levels<R, D> {
         ensures rooms { self.new.rooms ≡ self.old.rooms }
         ensures alone { self.new.levels ≡ slice_set self.old.levels level (level_in self.new.levels level) }
         ensures later { Later (level_in self.old.levels level) (level_in self.new.levels level) }
+        ensures mark { reads_key mode ≡ true → IfOk result (λ answer. TellsMark (level_facts self.old.facts level).kind (marks_in self.old.marks level) key.now answer) }
+        ensures marks { IfOk result (λ answer. MarksAsked (level_facts self.old.facts level).kind mode key.now answer (marks_in self.old.marks level) (marks_in self.new.marks level)) }
+        ensures marks_alone { self.new.marks ≡ slice_set self.old.marks level (marks_in self.new.marks level) }
+        ensures fewer { Fewer (marks_in self.old.marks level) (marks_in self.new.marks level) }
         ensures asked { IfOk result (λ answer. AsksAt level key.now mode answer self.old self.new) }
         ensures cause { IfOk result (λ answer. CauseBy (level_facts self.old.facts level).kind mode answer key.now (level_in self.old.levels level) (level_in self.new.levels level)) }
         ensures bad_key { reads_key mode ≡ true → is_key key.now ≡ false → (result ≡ Ok (Answer.Refused Cause.BadKey)) × (self.new ≡ self.old) }
@@ -185,6 +189,7 @@ impl<R: Remote, D: Disk + Drop> Levels<R, D> {
         ensures facts_stay { OnErr result (self.new.facts ≡ self.old.facts) }
         ensures policy { self.new.policy ≡ self.old.policy }
         ensures told { self.new.told ≡ self.old.told }
+        ensures marks { self.new.marks ≡ self.old.marks }
         ensures rooms { self.new.rooms ≡ self.old.rooms }
         ensures alone { self.new.levels ≡ slice_set self.old.levels level (level_in self.new.levels level) }
         ensures later { Later (level_in self.old.levels level) (level_in self.new.levels level) }
@@ -193,15 +198,15 @@ impl<R: Remote, D: Disk + Drop> Levels<R, D> {
         self.levels[level].check(alloc)
     }
 
-    /// Puts an entry under a key at one remote level, and at no other. The flag says that the bytes come from a local run: a
-    /// remote level keeps no mark of it.
+    /// Puts an entry under a key at one remote level, and at no other. The flag says whether a local run made the bytes: a write
+    /// that is done gives its key that mark, one that the remote refused takes it.
     pub fn put_step(
         &mut self,
         alloc: Global,
         level: usize,
         key: &Text,
         bytes: &ByteText,
-        _from_run: bool,
+        from_run: bool,
     ) -> Result<Written, NoMemory>
         requires level { level < length self.old.levels }
         requires remote { (level_facts self.old.facts level).kind ≡ IsRemote }
@@ -211,12 +216,15 @@ impl<R: Remote, D: Disk + Drop> Levels<R, D> {
         ensures told { self.new.told ≡ self.old.told }
         ensures rooms { self.new.rooms ≡ self.old.rooms }
         ensures alone { self.new.levels ≡ slice_set self.old.levels level (level_in self.new.levels level) }
+        ensures marks { IfOk result (λ how. MarksWrote key.now from_run how (marks_in self.old.marks level) (marks_in self.new.marks level)) }
+        ensures marks_alone { self.new.marks ≡ slice_set self.old.marks level (marks_in self.new.marks level) }
+        ensures fewer { OnErr result (Fewer (marks_in self.old.marks level) (marks_in self.new.marks level)) }
         ensures later { Later (level_in self.old.levels level) (level_in self.new.levels level) }
         ensures wrote { IfOk result (λ how. PutsAt level key.now bytes.now how self.old self.new) }
         ensures cause { IfOk result (λ how. PutCause (early self.old.policy (level_facts self.old.facts level) key.now) how (level_in self.old.levels level) (level_in self.new.levels level)) }
         ensures early { (c : Cause) → early self.old.policy (level_facts self.old.facts level) key.now ≡ Some c → (result ≡ Ok (Written.Refused c)) × (self.new ≡ self.old) }
     {
-        self.levels[level].put_step(alloc, &self.policy, key, bytes)
+        self.levels[level].put_step(alloc, &self.policy, key, bytes, from_run)
     }
 
     /// Opens an entry for a key at one disk level, of this size, and at no other: files are evicted until it fits.
@@ -231,6 +239,8 @@ impl<R: Remote, D: Disk + Drop> Levels<R, D> {
         requires disk { (level_facts self.old.facts level).kind ≡ IsDisk }
         ensures alone { AloneAt level self.old self.new }
         ensures later { Later (level_in self.old.levels level) (level_in self.new.levels level) }
+        ensures marks { IfOk result (λ how. MarksOpened how (marks_in self.old.marks level) (marks_in self.new.marks level)) }
+        ensures marks_stay { OnErr result ((marks_in self.new.marks level) ≡ (marks_in self.old.marks level)) }
         ensures moved { IfOk result (λ how. ReservesDisk self.old.policy key.now size how (disk_in self.old level) (disk_in self.new level)) }
         ensures entry { IfOk result (λ how. OpensBy (entry_path key.now) size how (disk_in self.old level) (disk_in self.new level)) }
         ensures kept { OnErr result (SameEntries (disk_in self.old level) (disk_in self.new level)) }
@@ -241,28 +251,33 @@ impl<R: Remote, D: Disk + Drop> Levels<R, D> {
         self.levels[level].reserve(&self.policy, key, size, now)
     }
 
-    /// Adds bytes behind those that an open entry of one disk level was filled with. A refusal closes the entry, and so does
-    /// want of memory.
+    /// Adds bytes behind those that an open entry of one disk level was filled with. The first fill marks the entry where a
+    /// local run made its bytes, and every further one clears that mark. A refusal closes the entry, and so does want of
+    /// memory.
     pub fn fill(
         &mut self,
         level: usize,
         entry: LruDiskCacheAddEntry,
         bytes: &[u8],
+        from_run: bool,
     ) -> Result<Filling, EntryError>
         requires level { level < length self.old.levels }
         requires disk { (level_facts self.old.facts level).kind ≡ IsDisk }
         ensures alone { AloneAt level self.old self.new }
         ensures later { Later (level_in self.old.levels level) (level_in self.new.levels level) }
+        ensures marks { IfOk result (λ how. MarksFilled entry.number from_run how (marks_in self.old.marks level) (marks_in self.new.marks level)) }
+        ensures forgotten { OnErr result (IsOpenAt entry (disk_in self.old level) → Forgets entry.number (marks_in self.old.marks level) (marks_in self.new.marks level)) }
         ensures filled { IfOk result (λ how. IsOpenAt entry (disk_in self.old level) × FillsBy entry bytes.now how (disk_in self.old level) (disk_in self.new level)) }
         ensures closed { OnErr result (IsOpenAt entry (disk_in self.old level) → ClosesEntry entry.number (disk_in self.old level) (disk_in self.new level)) }
         ensures kept { OnErr result (same_maps (level_in self.old.levels level) (level_in self.new.levels level)) }
         ensures not_open { IfErr result (λ refused. refused ≡ IsNotOpen → (IsOpenAt entry (disk_in self.old level) → ⊥) × (self.new ≡ self.old)) }
         ensures shut { (IsOpenAt entry (disk_in self.old level) → ⊥) → result ≡ Err IsNotOpen }
     {
-        self.levels[level].fill(entry, bytes)
+        self.levels[level].fill(entry, bytes, from_run)
     }
 
-    /// Puts an open entry's file of one disk level in its key's place, and closes the entry, also by a refusal.
+    /// Puts an open entry's file of one disk level in its key's place, and closes the entry, also by a refusal. The key gets
+    /// the mark of the entry.
     pub fn commit(
         &mut self,
         level: usize,
@@ -273,6 +288,8 @@ impl<R: Remote, D: Disk + Drop> Levels<R, D> {
         requires disk { (level_facts self.old.facts level).kind ≡ IsDisk }
         ensures alone { AloneAt level self.old self.new }
         ensures later { Later (level_in self.old.levels level) (level_in self.new.levels level) }
+        ensures marks { IfOk result (λ how. MarksCommitted entry.number entry.key how (marks_in self.old.marks level) (marks_in self.new.marks level) (disk_in self.new level)) }
+        ensures forgotten { OnErr result (IsOpenAt entry (disk_in self.old level) → Forgets entry.number (marks_in self.old.marks level) (marks_in self.new.marks level)) }
         ensures closed { IsOpenAt entry (disk_in self.old level) → ClosesEntry entry.number (disk_in self.old level) (disk_in self.new level) }
         ensures committed { IfOk result (λ how. IsOpenAt entry (disk_in self.old level) × CommitsEntry entry.number how (disk_in self.old level) (disk_in self.new level)) }
         ensures cause { IfOk result (λ how. CommitCause entry.number how (disk_in self.old level) (disk_in self.new level)) }
@@ -281,5 +298,27 @@ impl<R: Remote, D: Disk + Drop> Levels<R, D> {
         ensures shut { (IsOpenAt entry (disk_in self.old level) → ⊥) → result ≡ Err IsNotOpen }
     {
         self.levels[level].commit(entry, now)
+    }
+
+    /// Puts a preprocessor entry under a key at one level, and at no other. A remote level keeps none, and is not called.
+    pub fn put_pre_step(
+        &mut self,
+        level: usize,
+        key: &Text,
+        bytes: &[u8],
+        now: u64,
+    ) -> Result<Written, NoMemory>
+        requires { level < length self.old.levels }
+        ensures alone { AloneAt level self.old self.new }
+        ensures later { Later (level_in self.old.levels level) (level_in self.new.levels level) }
+        ensures entries { SameEntries (disk_in self.old level) (disk_in self.new level) }
+        ensures marks { (marks_in self.new.marks level) ≡ (marks_in self.old.marks level) }
+        ensures put { IfOk result (λ how. PutsPre self.old.policy key.now bytes.now how (disk_in self.old level) (disk_in self.new level)) }
+        ensures evicts { OnErr result (EvictsFor (length bytes.now) (disk_in self.old level) (disk_in self.new level)) }
+        ensures cause { IfOk result (λ how. PreCauseAt self.old.policy key.now bytes.now how (disk_in self.old level) (disk_in self.new level)) }
+        ensures early { (level_facts self.old.facts level).kind ≡ IsDisk → (c : Cause) → early self.old.policy (level_facts self.old.facts level) key.now ≡ Some c → (result ≡ Ok (Written.Refused c)) × (self.new ≡ self.old) }
+        ensures remote { (level_facts self.old.facts level).kind ≡ IsRemote → (result ≡ Ok Written.Done) × (self.new ≡ self.old) }
+    {
+        self.levels[level].put_pre(&self.policy, key, bytes, now)
     }
 }

@@ -3,7 +3,7 @@ ghost use Rattle.std.specs.Prelude.{◌≡◌, ◌&&◌, [], not, IfOk, take};
 ghost use Rattle.sc_model.specs.Plan as plans;
 ghost use Rattle.sc_model.specs.Script.{is_single as single};
 ghost use Rattle.sc_store.specs.Levels.{held_level};
-ghost use Rattle.sc_store.specs.Planning.{facts_of, test_of};
+ghost use Rattle.sc_store.specs.Planning.{facts_of, planned, test_of};
 
 use crate::level::Level;
 use crate::levels::Levels;
@@ -138,9 +138,9 @@ impl<R: Remote, D: Disk> Levels<R, D> {
         }
     }
 
-    /// The levels that are written before an answer, in order. A single store is, also where it refuses.
-    pub fn plan(&self, alloc: Global) -> Result<Queue<u64>, NoMemory>
-        ensures { IfOk result (λ levels. levels ≡ plans.plan self.now.policy self.now.facts) }
+    /// The levels of these writes, in order. A single store is one, also where it refuses.
+    fn planned(&self, alloc: Global, which: Takes) -> Result<Queue<u64>, NoMemory>
+        ensures { IfOk result (λ levels. levels ≡ planned which self.now.policy self.now.facts) }
     {
         match &self.policy {
             Policy::Single => {
@@ -149,10 +149,28 @@ impl<R: Remote, D: Disk> Levels<R, D> {
                 Ok(levels)
             }
             Policy::Levels(policies) => {
-                let found = levels_of(alloc, Takes::Required, policies.as_slice(), &self.levels)?;
+                let found = levels_of(alloc, which, policies.as_slice(), &self.levels)?;
                 Ok(found)
             }
         }
+    }
+
+    /// The levels that are written before an answer, in order. A single store is, also where it refuses.
+    #[tactic(auto, using(crate::proofs::Plans::plan_by))]
+    pub fn plan(&self, alloc: Global) -> Result<Queue<u64>, NoMemory>
+        ensures { IfOk result (λ levels. levels ≡ plans.plan self.now.policy self.now.facts) }
+    {
+        let levels = self.planned(alloc, Takes::Required)?;
+        Ok(levels)
+    }
+
+    /// The levels that take a preprocessor entry, in order. A single store does, also where it refuses.
+    #[tactic(auto, using(crate::proofs::Plans::pre_plan_by))]
+    pub fn pre_plan(&self, alloc: Global) -> Result<Queue<u64>, NoMemory>
+        ensures { IfOk result (λ levels. levels ≡ plans.pre_plan self.now.policy self.now.facts) }
+    {
+        let levels = self.planned(alloc, Takes::Any)?;
+        Ok(levels)
     }
 
     /// The levels whose writes are handed on, in order.

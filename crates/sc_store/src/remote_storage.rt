@@ -1,6 +1,7 @@
-ghost use Rattle.std.specs.Prelude.{◌≡◌, ℕ, true, false, is_some, Some, Ok, IfOk, OnErr};
+ghost use Rattle.std.specs.Prelude.{◌≡◌, ℕ, true, false, is_some, Some, Ok, IfOk, OnErr, OnOk};
+ghost use Rattle.sc_disk_cache.specs.Marks.{Sets};
 ghost use Rattle.sc_entry.specs.Entries.{objects};
-ghost use Rattle.sc_entry.specs.Keys.{IsStoreKey, is_store_key as is_key};
+ghost use Rattle.sc_entry.specs.Keys.{IsStoreKey, is_store_key as is_key, normalize_key as key_path};
 ghost use Rattle.sc_model.specs.Plan.{reads_only};
 ghost use Rattle.sc_model.specs.Script.{is_single as single};
 ghost use Rattle.sc_model.specs.World.{Asks, Later, early_cause as early};
@@ -13,8 +14,8 @@ ghost use Rattle.sc_store.specs.Telling.{kind_max};
 
 use crate::checked::Checked;
 use crate::remote::{Remote, RemoteRead, RemoteWrite};
-use sc_disk::{is_store_key, normalize_key};
-use sc_disk_cache::mode_answer;
+use sc_disk::{FileKey, is_store_key, normalize_key};
+use sc_disk_cache::{Marks, mode_answer};
 use sc_entry::{ByteText, CacheMode, Items, NoMemory, Text};
 use sc_model::{Answer, Cause, LevelKind, Mode, Policy, RemoteFault, Store, Written};
 use std::alloc::Global;
@@ -28,24 +29,25 @@ pub struct RemoteStorage<R: Remote> {
     configured: CacheMode,
     mode: CacheMode,
     skip_cache_check: bool,
+    marks: Marks,
 }
 
 impl<R: Remote> Model for RemoteStorage<R> {
-    ghost use Rattle.sc_store.specs.Held.{HeldLevel, held_level_code, held_remote, modes_of, remote_given};
+    ghost use Rattle.sc_store.specs.Held.{HeldLevel, held_level_code, held_remote, marked, modes_of, remote_given};
 
     ghost Value = { HeldLevel };
 
     ghost coded = { held_level_code };
 
-    ghost view = { λ s. held_remote (R.names s.remote) (remote_given s.basedirs s.skip_cache_check) (modes_of s.configured s.mode) (R.held s.remote) (R.fault_count s.remote) (R.loss_count s.remote) (R.calls s.remote) };
+    ghost view = { λ s. marked s.marks (held_remote (R.names s.remote) (remote_given s.basedirs s.skip_cache_check) (modes_of s.configured s.mode) (R.held s.remote) (R.fault_count s.remote) (R.loss_count s.remote) (R.calls s.remote)) };
 }
 
-/// What a read's answer tells of a key.
-fn raw_answer(found: RemoteRead) -> Answer
-    ensures { result ≡ asking.raw_answer found }
+/// What a read's answer tells of a key that has this mark.
+fn raw_answer(found: RemoteRead, mark: bool) -> Answer
+    ensures { result ≡ asking.raw_answer found mark }
 {
     match found {
-        RemoteRead::Found(bytes) => Answer::Hit(bytes, false),
+        RemoteRead::Found(bytes) => Answer::Hit(bytes, mark),
         RemoteRead::NotFound => Answer::Miss,
         RemoteRead::Refused(fault) => Answer::Refused(Cause::RemoteFault(fault)),
     }
@@ -67,6 +69,41 @@ fn written_of(answer: RemoteWrite) -> Written
     match answer {
         RemoteWrite::Done => Written::Done,
         RemoteWrite::Refused(fault) => Written::Refused(Cause::RemoteFault(fault)),
+    }
+}
+
+/// Takes the mark of a path where a lookup found nothing.
+fn forget_lost(marks: &mut Marks, path: &FileKey, raw: &Answer)
+    ensures { asking.ForgetsLost raw.now path.now marks.old marks.new }
+{
+    match raw {
+        Answer::Miss => marks.clear(path),
+        Answer::Hit(_, _) => {}
+        Answer::Refused(_) => {}
+        Answer::Found(_) => {}
+        Answer::Size(_, _) => {}
+    }
+}
+
+/// Gives a path the mark that its write is to leave: memory may be wanting for that, and is not after the write.
+fn begin(marks: &mut Marks, path: &FileKey, from_run: bool) -> Result<(), NoMemory>
+    ensures begun { OnOk result (Sets path.now from_run marks.old marks.new) }
+    ensures err { OnErr result (marks.new ≡ marks.old) }
+{
+    if from_run {
+        marks.mark(path)?;
+    } else {
+        marks.clear(path);
+    }
+    Ok(())
+}
+
+/// Takes the mark of a path whose write was refused.
+fn unless_done(marks: &mut Marks, path: &FileKey, answer: RemoteWrite)
+    ensures { asking.EndsWrite answer path.now marks.old marks.new }
+{
+    if let RemoteWrite::Refused(_) = answer {
+        marks.clear(path);
     }
 }
 
@@ -139,7 +176,12 @@ fn fixed_answer(mode: Mode) -> Answer
 
 impl<R: Remote> RemoteStorage<R> {
     /// A store over a remote, with these base directories, and its configured mode.
-    pub fn new(remote: R, basedirs: Items<ByteText>, mode: CacheMode) -> RemoteStorage<R>
+    pub fn new(
+        alloc: Global,
+        remote: R,
+        basedirs: Items<ByteText>,
+        mode: CacheMode,
+    ) -> RemoteStorage<R>
         ensures { result ≡ held_remote (R.names remote) (remote_given basedirs false) (as_configured mode) (R.held remote) (R.fault_count remote) (R.loss_count remote) (R.calls remote) }
     {
         RemoteStorage {
@@ -148,6 +190,7 @@ impl<R: Remote> RemoteStorage<R> {
             configured: mode,
             mode,
             skip_cache_check: false,
+            marks: Marks::new(alloc),
         }
     }
 
@@ -161,6 +204,7 @@ impl<R: Remote> RemoteStorage<R> {
             configured: self.configured,
             mode: self.mode,
             skip_cache_check,
+            marks: self.marks,
         }
     }
 
@@ -219,6 +263,7 @@ impl<R: Remote> RemoteStorage<R> {
     pub fn kind(&self) -> LevelKind
         ensures kind { result ≡ self.now.facts.kind }
         ensures remote { self.now.facts.kind ≡ IsRemote }
+        ensures bare { self.now.facts.wrapped ≡ false }
     {
         let _facts = &self.configured;
         LevelKind::Remote
@@ -246,10 +291,13 @@ impl<R: Remote> RemoteStorage<R> {
         self.mode
     }
 
-    /// What stands under a store key, as it is.
+    /// What stands under a store key, as it is, by the key's path.
     #[tactic(auto, using(crate::proofs::Devices::later_same))]
-    fn find(&mut self, alloc: Global, key: &Text) -> Result<Answer, NoMemory>
-        requires { IsStoreKey key.now }
+    fn find(&mut self, alloc: Global, key: &Text, path: &FileKey) -> Result<Answer, NoMemory>
+        requires key { IsStoreKey key.now }
+        requires path { path.now ≡ key_path key.now }
+        ensures marks { self.new.marks ≡ self.old.marks }
+        ensures mark { IfOk result (λ answer. asking.TellsMark IsRemote self.old.marks key.now answer) }
         ensures title { self.new.title ≡ self.old.title }
         ensures facts { self.new.facts ≡ self.old.facts }
         ensures told { self.new.told ≡ self.old.told }
@@ -258,12 +306,13 @@ impl<R: Remote> RemoteStorage<R> {
         ensures asked { IfOk result (λ answer. self.old.told ≡ true → (r : ℕ) → Asks objects self.old.facts r key.now Mode.Raw answer self.old.level self.new.level) }
         ensures cause { IfOk result (λ answer. asking.AskCause Mode.Raw answer key.now self.old.level self.new.level) }
     {
-        let path = normalize_key(alloc, key)?;
-        let found = self.remote.read(alloc, &path)?;
-        Ok(raw_answer(found))
+        let mark = self.marks.is_marked(path);
+        let found = self.remote.read(alloc, path.as_text())?;
+        Ok(raw_answer(found, mark))
     }
 
-    /// Looks a key up. A bad key is found before the remote is called.
+    /// Looks a key up. A bad key is found before the remote is called. A hit tells the mark of its key, and a miss takes it:
+    /// what stood there is lost.
     #[tactic(auto, using(crate::proofs::Devices::later_same))]
     pub fn ask(&mut self, alloc: Global, key: &Text, mode: Mode) -> Result<Answer, NoMemory>
         ensures title { self.new.title ≡ self.old.title }
@@ -275,6 +324,9 @@ impl<R: Remote> RemoteStorage<R> {
         ensures cause { IfOk result (λ answer. asking.AskCause mode answer key.now self.old.level self.new.level) }
         ensures bad_key { asking.reads_key mode ≡ true → is_key key.now ≡ false → (result ≡ Ok (Answer.Refused Cause.BadKey)) × (self.new ≡ self.old) }
         ensures no_read { asking.reads_key mode ≡ false → (result ≡ Ok (asking.fixed_answer mode)) × (self.new ≡ self.old) }
+        ensures mark { asking.reads_key mode ≡ true → IfOk result (λ answer. asking.TellsMark IsRemote self.old.marks key.now answer) }
+        ensures marks { IfOk result (λ answer. asking.MarksAsked IsRemote mode key.now answer self.old.marks self.new.marks) }
+        ensures fewer { asking.Fewer self.old.marks self.new.marks }
     {
         let _facts = &self.configured;
         if !reads_key(mode) {
@@ -283,12 +335,16 @@ impl<R: Remote> RemoteStorage<R> {
         if !is_store_key(key) {
             return Ok(Answer::Refused(Cause::BadKey));
         }
-        let raw = self.find(alloc, key)?;
+        let path = FileKey::new(normalize_key(alloc, key)?);
+        let raw = self.find(alloc, key, &path)?;
+        forget_lost(&mut self.marks, &path, &raw);
         let answer = mode_answer(alloc, mode, raw)?;
         Ok(answer)
     }
 
-    /// Puts an entry under a key. The mode of a single store and then the key are looked at before the remote is called.
+    /// Puts an entry under a key. The mode of a single store and then the key are looked at before the remote is called. The
+    /// flag says whether a local run made the bytes: a write that is done gives its key that mark, one that the remote refused
+    /// takes it.
     #[tactic(auto, using(crate::proofs::Devices::later_same))]
     pub fn put_step(
         &mut self,
@@ -296,7 +352,10 @@ impl<R: Remote> RemoteStorage<R> {
         policy: &Policy,
         key: &Text,
         bytes: &ByteText,
+        from_run: bool,
     ) -> Result<Written, NoMemory>
+        ensures marks { IfOk result (λ how. asking.MarksWrote key.now from_run how self.old.marks self.new.marks) }
+        ensures fewer { OnErr result (asking.Fewer self.old.marks self.new.marks) }
         ensures title { self.new.title ≡ self.old.title }
         ensures facts { self.new.facts ≡ self.old.facts }
         ensures told { self.new.told ≡ self.old.told }
@@ -309,8 +368,13 @@ impl<R: Remote> RemoteStorage<R> {
         if let Some(cause) = early_cause(policy, self.configured, key) {
             return Ok(Written::Refused(cause));
         }
-        let path = normalize_key(alloc, key)?;
-        let answer = self.remote.write(alloc, &path, bytes)?;
+        let path = FileKey::new(normalize_key(alloc, key)?);
+        begin(&mut self.marks, &path, from_run)?;
+        let Ok(answer) = self.remote.write(alloc, path.as_text(), bytes) else {
+            self.marks.clear(&path);
+            return Err(NoMemory);
+        };
+        unless_done(&mut self.marks, &path, answer);
         Ok(written_of(answer))
     }
 
@@ -318,6 +382,7 @@ impl<R: Remote> RemoteStorage<R> {
     #[tactic(auto, using(crate::proofs::Devices::later_same))]
     fn read_check(&mut self, alloc: Global) -> Result<RemoteRead, NoMemory>
         ensures title { self.new.title ≡ self.old.title }
+        ensures marks { self.new.marks ≡ self.old.marks }
         ensures facts { self.new.facts ≡ self.old.facts }
         ensures told { self.new.told ≡ self.old.told }
         ensures room { self.new.room ≡ self.old.room }
@@ -333,6 +398,7 @@ impl<R: Remote> RemoteStorage<R> {
     #[tactic(auto, using(crate::proofs::Devices::later_same))]
     fn write_check(&mut self, alloc: Global) -> Result<RemoteWrite, NoMemory>
         ensures title { self.new.title ≡ self.old.title }
+        ensures marks { self.new.marks ≡ self.old.marks }
         ensures facts { self.new.facts ≡ self.old.facts }
         ensures told { self.new.told ≡ self.old.told }
         ensures room { self.new.room ≡ self.old.room }
@@ -349,6 +415,7 @@ impl<R: Remote> RemoteStorage<R> {
     #[tactic(auto, using(crate::proofs::Devices::later_same))]
     fn greet(&mut self, alloc: Global) -> Result<Checked, NoMemory>
         ensures title { self.new.title ≡ self.old.title }
+        ensures marks { self.new.marks ≡ self.old.marks }
         ensures facts { self.new.facts ≡ self.old.facts }
         ensures told { self.new.told ≡ self.old.told }
         ensures room { self.new.room ≡ self.old.room }
@@ -366,6 +433,7 @@ impl<R: Remote> RemoteStorage<R> {
     #[tactic(auto, using(crate::proofs::Devices::later_same))]
     fn conclude(&mut self, alloc: Global, refusal: Option<RemoteFault>) -> Result<Checked, NoMemory>
         ensures title { self.new.title ≡ self.old.title }
+        ensures marks { self.new.marks ≡ self.old.marks }
         ensures facts { self.new.facts ≡ self.old.facts }
         ensures told { self.new.told ≡ self.old.told }
         ensures room { self.new.room ≡ self.old.room }
@@ -382,6 +450,7 @@ impl<R: Remote> RemoteStorage<R> {
     #[tactic(auto, using(crate::proofs::Checks::later_then))]
     fn probe(&mut self, alloc: Global) -> Result<Checked, NoMemory>
         ensures title { self.new.title ≡ self.old.title }
+        ensures marks { self.new.marks ≡ self.old.marks }
         ensures facts { self.new.facts ≡ self.old.facts }
         ensures told { self.new.told ≡ self.old.told }
         ensures room { self.new.room ≡ self.old.room }
@@ -397,6 +466,7 @@ impl<R: Remote> RemoteStorage<R> {
     #[tactic(auto, using(crate::proofs::Devices::later_same))]
     pub fn check(&mut self, alloc: Global) -> Result<Checked, NoMemory>
         ensures title { self.new.title ≡ self.old.title }
+        ensures marks { self.new.marks ≡ self.old.marks }
         ensures facts { IfOk result (λ answer. self.new.facts ≡ checking.facts_after self.old.facts answer) }
         ensures facts_stay { OnErr result (self.new.facts ≡ self.old.facts) }
         ensures told { self.new.told ≡ self.old.told }

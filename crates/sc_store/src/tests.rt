@@ -116,6 +116,7 @@ fn put(
     levels: &mut Levels<MemRemote, MemDisk>,
     level: usize,
     key: &str,
+    from_run: bool,
 ) -> Result<&'static str, Fail> {
     if level >= levels.len() {
         return Ok("no level");
@@ -125,7 +126,7 @@ fn put(
     };
     let key = text(alloc, key)?;
     let entry = bytes(alloc, ENTRY)?;
-    let how = levels.put_step(alloc, level, &key, &entry, true)?;
+    let how = levels.put_step(alloc, level, &key, &entry, from_run)?;
     Ok(told_written(how))
 }
 
@@ -133,8 +134,14 @@ fn put(
 fn small_levels(alloc: Global, fails: u64) -> Result<Levels<MemRemote, MemDisk>, Fail> {
     let mut levels = Vec::new(alloc);
     let empty = MemRemote::new(alloc, Items::new(alloc), Items::new(alloc))?;
-    levels.push(Level::Remote(RemoteStorage::new(empty, Items::new(alloc), CacheMode::ReadWrite)))?;
     levels.push(Level::Remote(RemoteStorage::new(
+        alloc,
+        empty,
+        Items::new(alloc),
+        CacheMode::ReadWrite,
+    )))?;
+    levels.push(Level::Remote(RemoteStorage::new(
+        alloc,
         small_remote(alloc, fails)?,
         Items::new(alloc),
         CacheMode::ReadOnly,
@@ -168,9 +175,12 @@ fn ample_ask(rt: HostRuntime) -> Result<(), Fail> {
 fn ample_put_step(rt: HostRuntime) -> Result<(), Fail> {
     let alloc = rt.alloc();
     let mut levels = small_levels(alloc, 1)?;
-    assert_eq!(rt; put(alloc, &mut levels, 0, "new")?, "done");
-    assert_eq!(rt; put(alloc, &mut levels, 0, "no key")?, "bad key");
-    assert_eq!(rt; put(alloc, &mut levels, 1, "new")?, "remote fault");
+    assert_eq!(rt; put(alloc, &mut levels, 0, "new", true)?, "done");
+    assert_eq!(rt; put(alloc, &mut levels, 0, "no key", true)?, "bad key");
+    assert_eq!(rt; put(alloc, &mut levels, 1, "new", true)?, "remote fault");
+    let found = ask(alloc, &mut levels, 0, "new", Mode::Whole)?;
+    assert_eq!(rt; told_answer(&found), b"marked".as_slice());
+    assert_eq!(rt; put(alloc, &mut levels, 0, "new", false)?, "done");
     let found = ask(alloc, &mut levels, 0, "new", Mode::Whole)?;
     assert_eq!(rt; told_answer(&found), ENTRY);
     let none = ask(alloc, &mut levels, 1, "new", Mode::Whole)?;
@@ -194,7 +204,12 @@ fn check(
     configured: CacheMode,
     skips: bool,
 ) -> Result<(&'static str, &'static str, usize), Fail> {
-    let store = RemoteStorage::new(small_remote(alloc, fails)?, Items::new(alloc), configured);
+    let store = RemoteStorage::new(
+        alloc,
+        small_remote(alloc, fails)?,
+        Items::new(alloc),
+        configured,
+    );
     let store = store.with_skip_cache_check(skips);
     let levels: Vec<Level<MemRemote, MemDisk>> = vec![in alloc; Level::Remote(store)]?;
     let mut levels = Levels::new(levels, Policy::Single);
@@ -247,7 +262,12 @@ fn levels_are_given_base_directories(rt: HostRuntime) -> Result<(), Fail> {
     let alloc = rt.alloc();
     let mut basedirs = Items::new(alloc);
     basedirs.push(bytes(alloc, b"/home")?)?;
-    let store = RemoteStorage::new(small_remote(alloc, 0)?, basedirs, CacheMode::ReadWrite);
+    let store = RemoteStorage::new(
+        alloc,
+        small_remote(alloc, 0)?,
+        basedirs,
+        CacheMode::ReadWrite,
+    );
     let level: Level<MemRemote, MemDisk> = Level::Remote(store);
     assert_eq!(rt; level.basedirs().len(), 1);
     assert!(rt; !level.use_preprocessor_cache_mode());
@@ -258,6 +278,7 @@ fn levels_are_given_base_directories(rt: HostRuntime) -> Result<(), Fail> {
 fn single_read_only(rt: HostRuntime) -> Result<(), Fail> {
     let alloc = rt.alloc();
     let store = RemoteStorage::new(
+        alloc,
         small_remote(alloc, 0)?,
         Items::new(alloc),
         CacheMode::ReadOnly,
@@ -265,7 +286,7 @@ fn single_read_only(rt: HostRuntime) -> Result<(), Fail> {
     assert_eq!(rt; store.remote().faults(), 0);
     let levels = vec![in alloc; Level::Remote(store)]?;
     let mut single = Levels::new(levels, Policy::Single);
-    assert_eq!(rt; put(alloc, &mut single, 0, "no key")?, "read-only");
+    assert_eq!(rt; put(alloc, &mut single, 0, "no key", true)?, "read-only");
     Ok(())
 }
 
@@ -327,7 +348,7 @@ fn store(
     if levels.is_unreserved() {
         return Err(Fail::new("nothing is reserved"));
     }
-    let Ok(Filling::Filled(open)) = levels.fill(0, open, entry) else {
+    let Ok(Filling::Filled(open)) = levels.fill(0, open, entry, false) else {
         return Err(Fail::new("not filled"));
     };
     match levels.commit(0, open, 2) {

@@ -3,13 +3,21 @@ use Rattle.std.proofs.Common.{◌≡◌, ℕ, ◌-◌, ◌≤◌, List, [], ◌�
 use Rattle.std.proofs.lemmas.List.{map-append}
 use Rattle.std.specs.Str.{trim}
 use Rattle.sc_store.proofs.Behind.{behind}
-use Rattle.sc_store.specs.Held.{HeldLevel}
-use Rattle.sc_store.specs.Levels.{held_level}
+use Rattle.sc_model.specs.declared.level.LevelPolicy.{LevelPolicy}
+use Rattle.sc_model.specs.declared.level.Policy.TheVariants.{Levels}
+use Rattle.sc_store.specs.Held.{Held, HeldLevel}
+use Rattle.sc_store.specs.Levels.{held_level, held_levels}
 use Rattle.sc_store.specs.declared.level.Level.{Level}
-use Rattle.sc_store_config.specs.Configs.{before, chain_levels, disk_behind, level_named, remotes_behind}
+use Rattle.sc_store_config.specs.Configs.{before, chain_levels, disk_behind, held_under, level_named, remotes_behind}
 use Rattle.sc_store_config.specs.declared.disk_config.DiskConfig.{DiskConfig}
 use Rattle.sc_store_config.specs.declared.remote_config.NamedRemote.{NamedRemote}
 use Rattle.sc_store_config.specs.declared.remote_config.RemoteConfig.{RemoteConfig}
+
+-- the store of a chain's levels
+pub chain_held : {A B : Type 0} (policies wanted : List LevelPolicy) (made : Result (List HeldLevel) (List ℕ)) (levels : List (Level A B)) (store : Held) → policies ≡ wanted → made ≡ Ok (map held_level levels) → store ≡ held_levels levels (Levels policies)
+    → held_under (Levels wanted) made ≡ Ok store
+chain_held policies wanted made levels store by is kept =
+    ap (λ m. held_under (Levels wanted) m) is ∙ ap (λ (p : List LevelPolicy). Ok (held_levels levels (Levels p))) (sym by) ∙ ap (λ (h : Held). Ok h) (sym kept)
 
 -- levels before those of a chain
 abbrev pub prepend : List HeldLevel → Result (List HeldLevel) (List ℕ) → Result (List HeldLevel) (List ℕ)

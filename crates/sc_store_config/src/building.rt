@@ -36,7 +36,7 @@ pub fn build_single_cache<R: Remote + Drop>(
     ensures { IfOk result (λ store. store ≡ configs.remote_as R.names R.held R.fault_count R.loss_count R.calls basedirs.now skip_cache_check config) }
 {
     let basedirs = copy_of(alloc, basedirs)?;
-    let store = RemoteStorage::new(config.remote, basedirs, config.mode);
+    let store = RemoteStorage::new(alloc, config.remote, basedirs, config.mode);
     Ok(store.with_skip_cache_check(skip_cache_check))
 }
 

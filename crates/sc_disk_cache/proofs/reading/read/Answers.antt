@@ -20,6 +20,6 @@ pub returns-in-Err-Io-clause-steady : goal.returns-in-Err-Io-clause-steady
 returns-in-Err-Io-clause-steady g c = λ mode capacity. let e = c.in-Err-Io.ensures.err in
     unread-steady mode capacity _ _ c.args.now e.0 c.args.cache.now.store c.get.new.self.store c.keeps.ensures.distinct e.1
 
-pub returns-in-Err : goal.returns-in-Err
-returns-in-Err g c = let e = c.in-Err.ensures.err in
-    record { steady = λ mode capacity. unread-steady mode capacity _ _ c.args.now e.0 c.args.cache.now.store c.get.new.self.store c.keeps.ensures.distinct e.1; capacity = unread-capacity _ _ c.args.now e.0 c.args.cache.now.store c.get.new.self.store e.1; answer = tt }
+pub returns-in-Err-NoMemory-clause-steady : goal.returns-in-Err-NoMemory-clause-steady
+returns-in-Err-NoMemory-clause-steady g c = λ mode capacity. let e = c.in-Err-NoMemory.ensures.err in
+    unread-steady mode capacity _ _ c.args.now e.0 c.args.cache.now.store c.get.new.self.store c.keeps.ensures.distinct e.1

@@ -17,10 +17,10 @@ pub returns-in-Err-Io-clause-entry : goal.returns-in-Err-Io-clause-entry
 returns-in-Err-Io-clause-entry g c = λ mode capacity. let p = c.in-Err-Io.ensures.err in
     refused-entries mode capacity c.args.cache.now.store c.prepare_add.new.self.store c.in-Err-Io.field-0 _ c.args.size p.0 c.keeps.ensures.sound p.1
 
-pub returns-in-Err-clause-kept : goal.returns-in-Err-clause-kept
-returns-in-Err-clause-kept g c = λ mode capacity. let p = c.in-Err.ensures.err in
-    refused-entries mode capacity c.args.cache.now.store c.prepare_add.new.self.store c.in-Err.field-0 _ c.args.size p.0 c.keeps.ensures.sound p.1
+pub returns-in-Err-NoMemory-clause-kept : goal.returns-in-Err-NoMemory-clause-kept
+returns-in-Err-NoMemory-clause-kept g c = λ mode capacity. let p = c.in-Err-NoMemory.ensures.err in
+    refused-entries mode capacity c.args.cache.now.store c.prepare_add.new.self.store c.in-Err-NoMemory.field-0 _ c.args.size p.0 c.keeps.ensures.sound p.1
 
-pub returns-in-Err-clause-evicts : goal.returns-in-Err-clause-evicts
-returns-in-Err-clause-evicts g c = λ mode. let p = c.in-Err.ensures.err in
-    refused-evicts c.args.cache.now.store c.prepare_add.new.self.store c.keeps.ensures.sound c.keeps.ensures.distinct c.keeps.ensures.placed mode c.in-Err.field-0 _ c.args.size p.0 p.1
+pub returns-in-Err-NoMemory-clause-evicts : goal.returns-in-Err-NoMemory-clause-evicts
+returns-in-Err-NoMemory-clause-evicts g c = λ mode. let p = c.in-Err-NoMemory.ensures.err in
+    refused-evicts c.args.cache.now.store c.prepare_add.new.self.store c.keeps.ensures.sound c.keeps.ensures.distinct c.keeps.ensures.placed mode c.in-Err-NoMemory.field-0 _ c.args.size p.0 p.1

@@ -10,7 +10,7 @@ abbrev pub invariant-loop-level : goal.invariant-loop-level
 invariant-loop-level g l = record {
   keeps : Keeps l.fn.levels l.levels;
   there : AreLevels (length l.levels.levels) l.left;
-  chain : (last : Refusal) (new : Counted) → WritesEach l.left l.fn.put.key l.fn.put.bytes l.refusal last (counted l.levels l.counters) new → WritesEach l.fn.plan l.fn.put.key l.fn.put.bytes NoneYet last (counted l.fn.levels l.fn.counters) new;
+  chain : (last : Refusal) (new : Counted) → WritesEach l.left l.fn.put.key l.fn.put.bytes l.fn.put.run l.refusal last (counted l.levels l.counters) new → WritesEach l.fn.plan l.fn.put.key l.fn.put.bytes l.fn.put.run NoneYet last (counted l.fn.levels l.fn.counters) new;
 }
 
 abbrev pub decreases-loop-level : goal.decreases-loop-level

@@ -1,14 +1,20 @@
-use Rattle.std.proofs.Common.{ℕ, List, sym, subst, ◌∙◌}
+use Rattle.std.proofs.Common.{sym, ap, ◌∙◌}
+use Rattle.sc_pair.specs.Parts.{in_part}
 use Rattle.sc_pair.specs.declared.part.Part.TheVariants.{Main}
 use Rattle.sc_disk_cache.specs.DiskStores.{held_disk}
-use Rattle.sc_disk_cache.specs.Moving.{ReadsAt}
-use Rattle.sc_disk_cache.proofs.Askings.{asked-entry, disk-kind}
+use Rattle.sc_disk_cache.specs.Marked.{marks_of}
+use Rattle.sc_disk_cache.specs.Marks.{Marks, is_marked}
+use Rattle.sc_disk_cache.proofs.Askings.{asked-told, cause-told, mark-told}
 use Rattle.sc_disk_cache.proofs.disk_cache.DiskCache.ask_entry.Goals as goal
 
 pub returns-clause-asked : goal.returns-clause-asked
-returns-clause-asked g c =
-    let old = held_disk c.args.self.now in
-    let new = held_disk c.find.new.self in
-    let reads = subst (λ (p : List ℕ). ReadsAt Main p c.in_ok-raw.raw old.told old.level new.level) (c.new-path.ensures ∙ c.in_ok-make_key_path.ensures) c.in_ok-raw.ensures.answer in
-    asked-entry c.args.mode c.args.key.now c.in_ok-raw.raw old new c.mode_answer.result c.requires (disk-kind c.args.self.now.mode c.args.self.now.pair.max_size c.args.self.now.pair.opened c.args.self.now.pair.disks)
-    (sym c.if-not-is_store_key.ensures) c.in_ok-raw.ensures.steady reads c.in_ok-raw.ensures.opened c.mode_answer.ensures
+returns-clause-asked g c = asked-told c.args.mode c.args.key.now c.new-path.result (is_marked (marks_of c.ask_at.new.self) (in_part Main c.new-path.result)) c.in_ok-answer.answer c.marked.result c.requires c.marked.ensures
+    (held_disk c.args.self.now) (held_disk c.ask_at.new.self) (c.in_ok-answer.ensures.asked c.args.key.now (sym c.if-not-is_store_key.ensures) (c.new-path.ensures ∙ c.in_ok-make_key_path.ensures))
+
+pub returns-clause-cause : goal.returns-clause-cause
+returns-clause-cause g c = cause-told c.args.mode c.args.key.now c.new-path.result (is_marked (marks_of c.ask_at.new.self) (in_part Main c.new-path.result)) c.in_ok-answer.answer c.marked.result c.requires c.marked.ensures
+    (held_disk c.args.self.now).level (held_disk c.ask_at.new.self).level (c.in_ok-answer.ensures.cause c.args.key.now (sym c.if-not-is_store_key.ensures) (c.new-path.ensures ∙ c.in_ok-make_key_path.ensures))
+
+pub returns-clause-mark : goal.returns-clause-mark
+returns-clause-mark g c = mark-told c.args.mode c.args.key.now c.new-path.result (is_marked (marks_of c.ask_at.new.self) (in_part Main c.new-path.result)) c.in_ok-answer.answer c.marked.result c.requires c.marked.ensures
+    (marks_of c.args.self.now) (ap (λ (m : Marks). is_marked m (in_part Main c.new-path.result)) c.in_ok-answer.ensures.marks) (c.new-path.ensures ∙ c.in_ok-make_key_path.ensures)

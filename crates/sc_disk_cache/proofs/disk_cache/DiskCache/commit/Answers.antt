@@ -1,55 +1,37 @@
-use Rattle.std.proofs.Common.{ℕ, refl, subst, sym}
-use Rattle.sc_disk_cache.specs.DiskStores.{opened_store}
-use Rattle.sc_disk_cache.specs.Entries.{ClosesEntry, CommitCause, CommitsEntry, CommitsNothing}
-use Rattle.sc_disk_cache.specs.Moving.{Stays}
-use Rattle.sc_disk_cache.proofs.Lending.{lent, lent-limit, limit-of, of_some}
+use Rattle.std.proofs.Common.{ℕ, List, sym, subst}
+use Rattle.sc_model.specs.declared.event.Written.{Written}
+use Rattle.sc_model.specs.declared.event.Written.TheVariants.{Done, Refused}
+use Rattle.sc_disk_cache.specs.DiskStores.{DiskStore, held_disk}
+use Rattle.sc_disk_cache.specs.Entries.{CommitsEntry, IsOpenAt}
+use Rattle.sc_disk_cache.specs.Marked.{MarksDone, SweptBy, marks_of}
+use Rattle.sc_disk_cache.specs.Marks.{Marks, Settles}
+use Rattle.sc_disk_cache.proofs.Marking.{marks-done}
 use Rattle.sc_disk_cache.proofs.disk_cache.DiskCache.commit.Goals as goal
 
-pub invariant_of-self : goal.invariant_of-self
-invariant_of-self g c = let h = of_some c.get.result _ c.in-Some.is (c.get.follows.holds c.commit.new.cache) in
-    record {
-      limit = lent-limit c.args.self.now.mode c.args.self.now.pair.max_size (c.get.follows.lender c.commit.new.cache).max_size c.args.self.now.pair.opened (c.get.follows.lender c.commit.new.cache).opened c.args.self.now.pair.disks
-          (c.get.follows.lender c.commit.new.cache).disks c.in-Some.cache.now c.commit.new.cache (sym c.in-Some.ensures.value) h.0 h.1 c.commit.ensures.capacity c.args.self.now.limit;
-    }
+pub returns-in-Ok-Done-clause-committed : goal.returns-in-Ok-Done-clause-committed
+returns-in-Ok-Done-clause-committed g c =
+    let h = c.in-Ok-Done.ensures.committed in
+    subst (λ (s : DiskStore). IsOpenAt c.args.entry s × CommitsEntry c.args.entry.number Done s (held_disk c.sweep.new.self)) c.begin_mark.ensures.held (
+      h.0,
+      subst (λ (s : DiskStore). CommitsEntry c.args.entry.number Done (held_disk c.begin_mark.new.self) s) (sym c.sweep.ensures.held)
+          (subst (λ (w : Written). CommitsEntry c.args.entry.number w (held_disk c.begin_mark.new.self) (held_disk c.commit_entry.new.self)) c.in-Ok-Done.field-0-is h.1),
+    )
 
-pub returns-in-Ok-clause-stays : goal.returns-in-Ok-clause-stays
-returns-in-Ok-clause-stays g c = let h = of_some c.get.result _ c.in-Some.is (c.get.follows.holds c.commit.new.cache) in
-    lent c.args.self.now.mode c.args.self.now.pair.max_size (c.get.follows.lender c.commit.new.cache).max_size c.args.self.now.pair.opened (c.get.follows.lender c.commit.new.cache).opened c.args.self.now.pair.disks
-    (c.get.follows.lender c.commit.new.cache).disks c.in-Some.cache.now c.commit.new.cache (sym c.in-Some.ensures.value) h.0 h.1 Stays
-    (c.commit.ensures.stays c.args.self.now.mode c.args.self.now.pair.max_size)
+pub returns-in-Ok-Done-clause-marks : goal.returns-in-Ok-Done-clause-marks
+returns-in-Ok-Done-clause-marks g c =
+    let path = c.in-Ok.ensures.began.0 in
+    let settled : Settles c.args.entry.key c.args.entry.number (marks_of c.begin_mark.new.self) c.settle.new.self = subst (λ (p : List ℕ). Settles p c.args.entry.number (marks_of c.begin_mark.new.self) c.settle.new.self) path
+    (subst (λ (n : ℕ). Settles c.in-Ok.path n (marks_of c.begin_mark.new.self) c.settle.new.self) c.number-number.ensures
+    (subst (λ (m : Marks). Settles c.in-Ok.path c.number-number.result m c.settle.new.self) c.commit_entry.ensures.marks c.settle.ensures)) in
+    let swept : SweptBy c.commit_entry.new.self.pair.opened c.args.entry.key c.settle.new.self (marks_of c.sweep.new.self) = subst (λ (p : List ℕ). SweptBy c.commit_entry.new.self.pair.opened p c.settle.new.self (marks_of c.sweep.new.self)) path c.sweep.ensures.swept in
+    subst (λ (s : DiskStore). MarksDone c.args.entry.number c.args.entry.key (marks_of c.args.self.now) (marks_of c.sweep.new.self) s) (sym c.sweep.ensures.held)
+    (marks-done c.args.entry.key c.args.entry.number c.in-Ok.added (marks_of c.args.self.now) (marks_of c.begin_mark.new.self) c.settle.new.self (marks_of c.sweep.new.self) c.in-Ok.ensures.began.1 settled
+    c.commit_entry.new.self.mode c.commit_entry.new.self.pair.max_size c.commit_entry.new.self.pair.opened c.commit_entry.new.self.pair.disks swept)
 
-pub returns-in-Err-clause-stays : goal.returns-in-Err-clause-stays
-returns-in-Err-clause-stays g c = let h = of_some c.get.result _ c.in-Some.is (c.get.follows.holds c.commit.new.cache) in
-    lent c.args.self.now.mode c.args.self.now.pair.max_size (c.get.follows.lender c.commit.new.cache).max_size c.args.self.now.pair.opened (c.get.follows.lender c.commit.new.cache).opened c.args.self.now.pair.disks
-    (c.get.follows.lender c.commit.new.cache).disks c.in-Some.cache.now c.commit.new.cache (sym c.in-Some.ensures.value) h.0 h.1 Stays
-    (c.commit.ensures.stays c.args.self.now.mode c.args.self.now.pair.max_size)
-
-pub returns-in-Ok-clause-closed : goal.returns-in-Ok-clause-closed
-returns-in-Ok-clause-closed g c = λ opened. let h = of_some c.get.result _ c.in-Some.is (c.get.follows.holds c.commit.new.cache) in
-    lent c.args.self.now.mode c.args.self.now.pair.max_size (c.get.follows.lender c.commit.new.cache).max_size c.args.self.now.pair.opened (c.get.follows.lender c.commit.new.cache).opened c.args.self.now.pair.disks
-    (c.get.follows.lender c.commit.new.cache).disks c.in-Some.cache.now c.commit.new.cache (sym c.in-Some.ensures.value) h.0 h.1 (ClosesEntry c.args.entry.number) (c.in-Ok.ensures.closed c.args.self.now.mode c.args.self.now.pair.max_size)
-
-pub returns-in-Ok-clause-committed : goal.returns-in-Ok-clause-committed
-returns-in-Ok-clause-committed g c = let h = of_some c.get.result _ c.in-Some.is (c.get.follows.holds c.commit.new.cache) in (
-  c.if-not-has_open.ensures.opened refl,
-  lent c.args.self.now.mode c.args.self.now.pair.max_size (c.get.follows.lender c.commit.new.cache).max_size c.args.self.now.pair.opened (c.get.follows.lender c.commit.new.cache).opened c.args.self.now.pair.disks
-      (c.get.follows.lender c.commit.new.cache).disks c.in-Some.cache.now c.commit.new.cache (sym c.in-Some.ensures.value) h.0 h.1 (CommitsEntry c.args.entry.number c.in-Ok.how) (c.in-Ok.ensures.committed c.args.self.now.mode c.args.self.now.pair.max_size),
-)
-
-pub returns-in-Ok-clause-cause : goal.returns-in-Ok-clause-cause
-returns-in-Ok-clause-cause g c = let h = of_some c.get.result _ c.in-Some.is (c.get.follows.holds c.commit.new.cache) in let was = c.in-Some.cache.now in let w = c.commit.new.cache in
-    lent c.args.self.now.mode c.args.self.now.pair.max_size (c.get.follows.lender c.commit.new.cache).max_size c.args.self.now.pair.opened (c.get.follows.lender c.commit.new.cache).opened c.args.self.now.pair.disks
-    (c.get.follows.lender c.commit.new.cache).disks c.in-Some.cache.now c.commit.new.cache (sym c.in-Some.ensures.value) h.0 h.1 (CommitCause c.args.entry.number c.in-Ok.how)
-    (subst (λ (n : ℕ). CommitCause c.args.entry.number c.in-Ok.how (opened_store c.args.self.now.mode n was.store) (opened_store c.args.self.now.mode n w.store))
-    (limit-of c.args.self.now.mode c.args.self.now.pair.max_size (c.get.follows.lender c.commit.new.cache).max_size c.args.self.now.pair.opened (c.get.follows.lender c.commit.new.cache).opened c.args.self.now.pair.disks
-    (c.get.follows.lender c.commit.new.cache).disks c.in-Some.cache.now c.commit.new.cache (sym c.in-Some.ensures.value) h.0 h.1 c.args.self.now.limit) (c.in-Ok.ensures.cause c.args.self.now.mode))
-
-pub returns-in-Err-clause-closed : goal.returns-in-Err-clause-closed
-returns-in-Err-clause-closed g c = λ opened. let h = of_some c.get.result _ c.in-Some.is (c.get.follows.holds c.commit.new.cache) in
-    lent c.args.self.now.mode c.args.self.now.pair.max_size (c.get.follows.lender c.commit.new.cache).max_size c.args.self.now.pair.opened (c.get.follows.lender c.commit.new.cache).opened c.args.self.now.pair.disks
-    (c.get.follows.lender c.commit.new.cache).disks c.in-Some.cache.now c.commit.new.cache (sym c.in-Some.ensures.value) h.0 h.1 (ClosesEntry c.args.entry.number) (c.in-Err.ensures.closed c.args.self.now.mode c.args.self.now.pair.max_size)
-
-pub returns-in-Err-clause-kept : goal.returns-in-Err-clause-kept
-returns-in-Err-clause-kept g c = let h = of_some c.get.result _ c.in-Some.is (c.get.follows.holds c.commit.new.cache) in
-    lent c.args.self.now.mode c.args.self.now.pair.max_size (c.get.follows.lender c.commit.new.cache).max_size c.args.self.now.pair.opened (c.get.follows.lender c.commit.new.cache).opened c.args.self.now.pair.disks
-    (c.get.follows.lender c.commit.new.cache).disks c.in-Some.cache.now c.commit.new.cache (sym c.in-Some.ensures.value) h.0 h.1 (CommitsNothing c.args.entry.number) (c.in-Err.ensures.kept c.args.self.now.mode c.args.self.now.pair.max_size)
+pub returns-in-Ok-Refused-clause-committed : goal.returns-in-Ok-Refused-clause-committed
+returns-in-Ok-Refused-clause-committed g c =
+    let h = c.in-Ok-Refused.ensures.committed in
+    subst (λ (s : DiskStore). IsOpenAt c.args.entry s × CommitsEntry c.args.entry.number (Refused c.in-Ok-Refused.cause) s (held_disk c.commit_entry.new.self)) c.begin_mark.ensures.held (
+      h.0,
+      subst (λ (w : Written). CommitsEntry c.args.entry.number w (held_disk c.begin_mark.new.self) (held_disk c.commit_entry.new.self)) c.in-Ok-Refused.field-0-is h.1,
+    )

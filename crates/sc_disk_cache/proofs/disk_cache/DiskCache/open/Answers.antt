@@ -17,6 +17,7 @@ returns-in-Err g c = let e = c.in-Err.ensures.err in let u = c.in-Err.ensures.un
     record {
       steady = refuses-steady c.args.self.now.mode c.args.self.now.pair.max_size c.get_or_init.new.self.max_size c.args.self.now.pair.opened c.get_or_init.new.self.opened c.args.self.now.pair.disks c.get_or_init.new.self.disks
           e.0 e.1 u.0 u.1 e.2 e.3 c.get_or_init.ensures.max_size e.4;
+      marks = refl;
       opened = tt;
       fault = tt;
     }

@@ -11,12 +11,12 @@ returns-clause-moves g c n =
     let a = c.fill.ensures.alone in
     filled _ c.args.self.now c.fill.new.self c.args.level c.args.entry c.args.bytes.now c.in-Ok.how n c.self.view_is
     (record { told = a.told; facts = a.facts; levels = a.levels; rooms = a.rooms; later = c.fill.ensures.later }) c.requires.holds
-    (subst (λ (bytes : List ℕ). FillsBy c.args.entry bytes c.in-Ok.how (disk_in c.self.inside.levels c.args.level) (disk_in c.fill.new.self c.args.level)) c.as_slice-bytes.ensures c.in-Ok.ensures.filled.1)
+    (subst (λ (bytes : List ℕ). FillsBy c.args.entry bytes c.in-Ok.how (disk_in c.self.inside.levels c.args.level) (disk_in c.fill.new.self c.args.level)) c.as_slice-entry_bytes.ensures c.in-Ok.ensures.filled.1)
 
 pub returns-clause-fills : goal.returns-clause-fills
 returns-clause-fills g c =
     subst (λ (s : State). FillsBy c.args.entry c.args.bytes.now.bytes c.in-Ok.how (disk_at s c.args.level) (disk_in c.fill.new.self c.args.level)) c.self.view_is
-    (subst (λ (bytes : List ℕ). FillsBy c.args.entry bytes c.in-Ok.how (disk_in c.self.inside.levels c.args.level) (disk_in c.fill.new.self c.args.level)) c.as_slice-bytes.ensures c.in-Ok.ensures.filled.1)
+    (subst (λ (bytes : List ℕ). FillsBy c.args.entry bytes c.in-Ok.how (disk_in c.self.inside.levels c.args.level) (disk_in c.fill.new.self c.args.level)) c.as_slice-entry_bytes.ensures c.in-Ok.ensures.filled.1)
 
 pub returns-clause-elsewhere : goal.returns-clause-elsewhere
 returns-clause-elsewhere g c m apart =

@@ -1,7 +1,8 @@
 use Rattle.std.proofs.Common.{rules, length, ◌<◌, subst, ◌≡◌, map, slice_index_or, slice_set, ap, sym, ◌∙◌}
+use Rattle.sc_store.specs.Asking.{Fewer}
 use Rattle.sc_store.specs.Held.{AreWithin, held_of}
 use Rattle.sc_store.specs.Levels.{held_level}
-use Rattle.sc_store.proofs.Alone.{Alone, facts_at, within_stores, stays_within, alone_at, asks_at, cause_at, if_ok, later_at, moved, same_rooms, unmoved}
+use Rattle.sc_store.proofs.Alone.{Alone, within_stores, stays_within, alone_at, asks_at, cause_at, if_ok, later_at, marks_alone, marks_asked_at, marks_at, moved, same_rooms, tells_at, unmoved}
 use Rattle.sc_store.proofs.levels.Levels.ask.Goals as goal
 
 pub returns : goal.returns
@@ -17,6 +18,10 @@ returns g c =
     let here : store ≡ slice_index_or stores l store = search rules in
     let m : Alone old new l (held_level store) (held_level later) = moved held_level old policy stores l store later c.self.view_is c.requires.level here e.title e.facts e.told in
     record {
+      mark = λ reads. if_ok c.ask.result (λ answer. tells_at old new l (held_level store) (held_level later) c.args.key.now answer m) (e.mark reads);
+      marks = if_ok c.ask.result (λ answer. marks_asked_at old new l (held_level store) (held_level later) c.args.mode c.args.key.now answer m) e.marks;
+      marks_alone = marks_alone old new l (held_level store) (held_level later) m;
+      fewer = marks_at Fewer old new l (held_level store) (held_level later) m e.fewer;
       titles = m.titles;
       facts = m.facts;
       policy = m.policy;
@@ -48,10 +53,3 @@ pub index_mut-requires : goal.index_mut-requires
 index_mut-requires g c =
     let here : c.args.level < length c.self.inside.levels.items = within_stores held_level c.self.inside.policy c.self.inside.levels.items c.args.level (subst (λ h. c.args.level < length h.levels) (sym c.self.view_is) c.requires.level) in
     search rules
-
-pub ask-requires : goal.ask-requires
-ask-requires g c =
-    let stores = c.self.inside.levels.items in
-    let here : c.index_mut.result.now ≡ slice_index_or stores c.args.level c.index_mut.result.now = search rules in
-    let same = facts_at held_level c.args.self.now c.self.inside.policy stores c.args.level c.index_mut.result.now c.self.view_is c.requires.level here in
-    λ kind. c.requires.mode (ap (λ f. f.kind) same ∙ kind)

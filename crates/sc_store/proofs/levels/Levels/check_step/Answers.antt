@@ -1,7 +1,7 @@
 use Rattle.std.proofs.Common.{rules, length, ◌<◌, subst, ◌≡◌, map, slice_index_or, slice_set, sym}
 use Rattle.sc_store.specs.Held.{AreWithin, held_of}
 use Rattle.sc_store.specs.Levels.{held_level}
-use Rattle.sc_store.proofs.Alone.{if_ok, same_rooms, within_stores}
+use Rattle.sc_store.proofs.Alone.{if_ok, same_marks, same_rooms, within_stores}
 use Rattle.sc_store.proofs.Disks.{on_err}
 use Rattle.sc_store.proofs.Checking.{Turned, alone_turned, checks_at, facts_found, facts_kept, later_turned, turned, turned_within}
 use Rattle.sc_store.proofs.levels.Levels.check_step.Goals as goal
@@ -24,6 +24,7 @@ returns g c =
       facts_stay = on_err c.check.result (facts_kept old new l (held_level store) (held_level later) m) e.facts_stay;
       policy = m.policy;
       told = m.told;
+      marks = same_marks held_level old policy stores l store later c.self.view_is c.requires here e.marks;
       rooms = same_rooms held_level old policy stores l store later c.self.view_is c.requires here e.room;
       alone = alone_turned old new l (held_level store) (held_level later) m;
       later = later_turned old new l (held_level store) (held_level later) m e.later;

@@ -1,10 +1,12 @@
 use Rattle.std.proofs.Common.{rules, length, ◌<◌, ◌≡◌, map, slice_index_or, slice_set, ap, sym, subst, ◌∙◌}
 use Rattle.sc_disk_cache.specs.DiskStores.{entry_at}
 use Rattle.sc_disk_cache.specs.Entries.{ClosesEntry, CommitCause, CommitsEntry, CommitsNothing, IsOpenAt}
+use Rattle.sc_disk_cache.specs.Marked.{MarksCommitted}
+use Rattle.sc_disk_cache.specs.Marks.{Forgets}
 use Rattle.sc_store.specs.Held.{AreWithin, disk_in, disk_of, held_of}
 use Rattle.sc_store.specs.Levels.{held_level}
-use Rattle.sc_store.proofs.Alone.{Alone, facts_at, within_stores, stays_within, alone_moved, disk_at, if_ok, later_at, moved, unmoved}
-use Rattle.sc_store.proofs.Disks.{cause_telling, closes_telling, commits_telling, if_err, nothing_telling, on_err}
+use Rattle.sc_store.proofs.Alone.{Alone, facts_at, within_stores, stays_within, alone_moved, disk_at, if_ok, later_at, marks_at, moved, unmoved}
+use Rattle.sc_store.proofs.Disks.{cause_telling, closes_telling, commits_telling, committed_telling, if_err, nothing_telling, on_err}
 use Rattle.sc_store.proofs.levels.Levels.commit.Goals as goal
 
 pub returns : goal.returns
@@ -25,6 +27,9 @@ returns g c =
     let open_before : IsOpenAt entry (disk_in old l) → IsOpenAt entry (disk_of before) = λ o. (o.0, (o.1.0, ap (λ r. entry_at r.entries entry.number) (sym m.room_was) ∙ o.1.1, o.1.2)) in
     let open_in : IsOpenAt entry (disk_of before) → IsOpenAt entry (disk_in old l) = λ o. (o.0, (o.1.0, ap (λ r. entry_at r.entries entry.number) m.room_was ∙ o.1.1, o.1.2)) in
     record {
+      marks = if_ok c.commit.result (λ how h. marks_at (λ a b. MarksCommitted entry.number entry.key how a b (disk_in new l)) old new l before after m (disk_at (λ s t. MarksCommitted entry.number entry.key how before.marks after.marks t) old new l before after m e.facts
+          (committed_telling old.told new.told (disk_of before) (disk_of after) m.tells entry.number entry.key how before.marks after.marks (λ told. e.told ∙ m.tells (sym m.told ∙ told)) h))) e.marks;
+      forgotten = on_err c.commit.result (λ h o. marks_at (λ a b. Forgets entry.number a b) old new l before after m (h (open_before o))) e.forgotten;
       alone = alone_moved old new l before after m;
       later = later_at old new l before after m e.later;
       closed = λ o. disk_at (ClosesEntry entry.number) old new l before after m e.facts (closes_telling old.told new.told (disk_of before) (disk_of after) m.tells entry.number (e.closed (open_before o)));

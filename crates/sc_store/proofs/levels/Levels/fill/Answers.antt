@@ -1,9 +1,11 @@
 use Rattle.std.proofs.Common.{rules, length, ◌<◌, ◌≡◌, map, slice_index_or, slice_set, ap, sym, subst, ◌∙◌}
 use Rattle.sc_disk_cache.specs.DiskStores.{entry_at}
 use Rattle.sc_disk_cache.specs.Entries.{ClosesEntry, FillsBy, IsOpenAt}
+use Rattle.sc_disk_cache.specs.Marked.{MarksFilled}
+use Rattle.sc_disk_cache.specs.Marks.{Forgets}
 use Rattle.sc_store.specs.Held.{AreWithin, disk_in, disk_of, held_of}
 use Rattle.sc_store.specs.Levels.{held_level}
-use Rattle.sc_store.proofs.Alone.{Alone, facts_at, within_stores, stays_within, alone_moved, disk_at, if_ok, later_at, maps_at, moved, unmoved}
+use Rattle.sc_store.proofs.Alone.{Alone, facts_at, within_stores, stays_within, alone_moved, disk_at, if_ok, later_at, maps_at, marks_at, moved, unmoved}
 use Rattle.sc_store.proofs.Disks.{closes_telling, fills_telling, if_err, on_err}
 use Rattle.sc_store.proofs.levels.Levels.fill.Goals as goal
 
@@ -25,6 +27,8 @@ returns g c =
     let open_before : IsOpenAt entry (disk_in old l) → IsOpenAt entry (disk_of before) = λ o. (o.0, (o.1.0, ap (λ r. entry_at r.entries entry.number) (sym m.room_was) ∙ o.1.1, o.1.2)) in
     let open_in : IsOpenAt entry (disk_of before) → IsOpenAt entry (disk_in old l) = λ o. (o.0, (o.1.0, ap (λ r. entry_at r.entries entry.number) m.room_was ∙ o.1.1, o.1.2)) in
     record {
+      marks = if_ok c.fill.result (λ how h. marks_at (λ a b. MarksFilled entry.number c.args.from_run how a b) old new l before after m h) e.marks;
+      forgotten = on_err c.fill.result (λ h o. marks_at (λ a b. Forgets entry.number a b) old new l before after m (h (open_before o))) e.forgotten;
       alone = alone_moved old new l before after m;
       later = later_at old new l before after m e.later;
       filled = if_ok c.fill.result (λ how h. (open_in h.0, disk_at (FillsBy entry c.args.bytes.now how) old new l before after m e.facts (fills_telling old.told new.told (disk_of before) (disk_of after) m.tells entry c.args.bytes.now how h.1))) e.filled;

@@ -17,6 +17,7 @@ returns g c =
       facts = sym m.facts_were;
       level = sym m.was;
       room = sym m.room_was;
+      marks = sym m.marks_were;
       told = m.tells;
       alone = alone_tells held_level old policy stores l store c.self.view_is c.requires here;
     }

@@ -1,8 +1,10 @@
 use Rattle.std.proofs.Common.{rules, length, ◌<◌, subst, ◌≡◌, map, slice_index_or, slice_set, ap, sym, ◌∙◌}
 use Rattle.sc_model.specs.World.{early_cause}
+use Rattle.sc_store.specs.Asking.{Fewer, MarksWrote}
 use Rattle.sc_store.specs.Held.{AreWithin, held_of}
 use Rattle.sc_store.specs.Levels.{held_level}
-use Rattle.sc_store.proofs.Alone.{Alone, facts_at, within_stores, stays_within, alone_at, if_ok, later_at, moved, put_cause_at, puts_at, same_rooms, unmoved}
+use Rattle.sc_store.proofs.Alone.{Alone, facts_at, within_stores, stays_within, alone_at, if_ok, later_at, marks_alone, marks_at, moved, put_cause_at, puts_at, same_rooms, unmoved}
+use Rattle.sc_store.proofs.Disks.{on_err}
 use Rattle.sc_store.proofs.levels.Levels.put_step.Goals as goal
 
 pub returns : goal.returns
@@ -20,6 +22,9 @@ returns g c =
     let m : Alone old new l (held_level store) (held_level later) = moved held_level old policy stores l store later c.self.view_is c.requires.level here e.title e.facts e.told in
     let by : policy ≡ old.policy = ap (λ h. h.policy) c.self.view_is in
     record {
+      marks = if_ok c.put_step.result (λ how. marks_at (MarksWrote key c.args.from_run how) old new l (held_level store) (held_level later) m) e.marks;
+      marks_alone = marks_alone old new l (held_level store) (held_level later) m;
+      fewer = on_err c.put_step.result (marks_at Fewer old new l (held_level store) (held_level later) m) e.fewer;
       titles = m.titles;
       facts = m.facts;
       policy = m.policy;

@@ -1,11 +1,12 @@
 use Rattle.std.proofs.Common.{rules, length, ◌<◌, ◌≡◌, map, slice_index_or, slice_set, ap, sym, subst, ◌∙◌}
 use Rattle.sc_disk_cache.specs.DiskStores.{entry_path}
+use Rattle.sc_disk_cache.specs.Marked.{MarksOpened}
 use Rattle.sc_disk_cache.specs.Moving.{EvictsFor, OpensBy, SameEntries}
 use Rattle.sc_model.specs.World.{early_cause}
 use Rattle.sc_store.specs.Asking.{ReservesDisk}
 use Rattle.sc_store.specs.Held.{AreWithin, disk_in, disk_of, held_of}
 use Rattle.sc_store.specs.Levels.{held_level}
-use Rattle.sc_store.proofs.Alone.{Alone, facts_at, within_stores, stays_within, alone_moved, disk_at, if_ok, later_at, moved, reserve_cause_at, unmoved}
+use Rattle.sc_store.proofs.Alone.{Alone, facts_at, within_stores, stays_within, alone_moved, disk_at, if_ok, later_at, marks_at, moved, reserve_cause_at, unmoved}
 use Rattle.sc_store.proofs.Disks.{evicts_telling, on_err, opens_telling, reserves_telling, same_telling}
 use Rattle.sc_store.proofs.levels.Levels.reserve.Goals as goal
 
@@ -26,6 +27,8 @@ returns g c =
     let by : policy ≡ old.policy = ap (λ h. h.policy) c.self.view_is in
     let key = c.args.key.now in
     record {
+      marks = if_ok c.reserve.result (λ how h. marks_at (λ a b. MarksOpened how a b) old new l before after m h) e.marks;
+      marks_stay = on_err c.reserve.result (λ h. marks_at (λ a b. b ≡ a) old new l before after m h) e.marks_stay;
       alone = alone_moved old new l before after m;
       later = later_at old new l before after m e.later;
       moved = if_ok c.reserve.result (λ how h. subst (λ p. ReservesDisk p key c.args.size how (disk_in old l) (disk_in new l)) by (disk_at (ReservesDisk policy key c.args.size how) old new l before after m e.facts

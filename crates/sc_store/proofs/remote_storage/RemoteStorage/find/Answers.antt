@@ -1,3 +1,4 @@
+use Rattle.std.proofs.Common.{◌∙◌}
 use Rattle.sc_store.specs.Held.{modes_of}
 use Rattle.sc_store.proofs.Askings.{read_asks}
 use Rattle.sc_store.proofs.remote_storage.RemoteStorage.find.Goals as goal
@@ -10,4 +11,4 @@ returns-clause-asked g c =
     let e = c.in_ok-found.ensures in
     rw (← c.self.view_is, c.raw_answer.ensures)
     (read_asks c.in_ok-found.found (r.held old) (r.held new) (r.fault_count old) (r.fault_count new) (r.loss_count old) (r.loss_count new) (r.calls old) (r.calls new)
-    (modes_of c.self.inside.configured c.self.inside.mode) c.args.key.now c.in_ok-path.path c.requires c.in_ok-path.ensures e.faults_stay e.losses_stay e.calls e.told e.cause)
+    (modes_of c.self.inside.configured c.self.inside.mode) c.is_marked-mark.result c.args.key.now c.as_text.result.now c.requires.key (c.as_text.ensures ∙ c.requires.path) e.faults_stay e.losses_stay e.calls e.told e.cause)

@@ -2,7 +2,7 @@ use Rattle.std.proofs.Common.{sym, ◌∙◌}
 use Rattle.sc_disk_cache.specs.DiskStores.{held_disk}
 use Rattle.sc_disk_cache.proofs.Askings.{disk-kind}
 use Rattle.sc_disk_cache.proofs.Reservings.{early-held, reserved-cause, reserved-evicts, reserved-moved}
-use Rattle.sc_disk_cache.proofs.disk_cache.DiskCache.reserve.Goals as goal
+use Rattle.sc_disk_cache.proofs.disk_cache.DiskCache.reserve_entry.Goals as goal
 
 pub returns-clause-moved : goal.returns-clause-moved
 returns-clause-moved g c = let s = c.args.self.now in

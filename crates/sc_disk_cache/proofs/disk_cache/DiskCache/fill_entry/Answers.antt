@@ -3,7 +3,7 @@ use Rattle.sc_model.specs.World.{same_maps}
 use Rattle.sc_disk_cache.specs.Entries.{ClosesEntry, FillsBy}
 use Rattle.sc_disk_cache.specs.Moving.{Stays}
 use Rattle.sc_disk_cache.proofs.Lending.{lent, lent-limit, of_some}
-use Rattle.sc_disk_cache.proofs.disk_cache.DiskCache.fill.Goals as goal
+use Rattle.sc_disk_cache.proofs.disk_cache.DiskCache.fill_entry.Goals as goal
 
 pub invariant_of-self : goal.invariant_of-self
 invariant_of-self g c = let h = of_some c.get.result _ c.in-Some.is (c.get.follows.holds c.fill.new.cache) in
