@@ -26,4 +26,6 @@ pub use storage_error::StorageError;
 #[cfg(test)]
 mod level_tests;
 #[cfg(test)]
+mod storage_tests;
+#[cfg(test)]
 mod tests;
