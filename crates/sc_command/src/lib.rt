@@ -22,8 +22,6 @@ mod setting;
 mod shared_creator;
 mod statuses;
 mod system_command;
-#[cfg(test)]
-mod tests;
 mod variables;
 mod words;
 

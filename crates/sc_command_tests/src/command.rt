@@ -1,4 +1,4 @@
-use crate::{
+use sc_command::{
     AsyncCommand, Call, ChildCall, ChildOrCall, Client, CommandChild, CommandCreator,
     CommandCreatorSync, CommandError, CommandRefusal, MockChild, MockCommand, MockCommandCreator,
     NewCommandError, ProcessCommandCreator, RunCommand, SharedCreator, SpawnError, StdioMode,

@@ -1,0 +1,5 @@
+//! Tests of `sc_command`.
+#![tactic(auto)]
+
+#[cfg(test)]
+mod command;
