@@ -1,5 +1,6 @@
 //! The actions of requests for what a daemon has counted, and for what its store tells of itself.
-ghost use Rattle.std.specs.Prelude.{◌≡◌, ◌+◌, ◌<◌, ◌++◌, [], List, length, IfOk};
+ghost use Rattle.std.specs.Prelude.{◌≡◌, ◌+◌, ◌<◌, ◌++◌, [], List, length, map, IfOk};
+ghost use Rattle.std.specs.Str.Lossy.{utf8_lossy};
 ghost use Rattle.sc_action.specs.Serves.{Stands};
 ghost use Rattle.sc_action.specs.Sizes.{counters_of, with_size};
 ghost use Rattle.sc_action.specs.Telling.{ActsFor, SaysCounted};
@@ -15,7 +16,7 @@ ghost use Rattle.sc_stats.specs.declared.counters.LevelStats.{LevelStats as Coun
 ghost use Rattle.sc_stats.specs.declared.counters.ServerStats.{ServerStats as Stats};
 
 use crate::acted::Acted;
-use sc_entry::{Items, NoMemory, Text};
+use sc_entry::{ByteText, Items, NoMemory, Text};
 use sc_hold::Hold;
 use sc_model::{Answer, Mode, Phase, Request, Response, Sized, StorageHandshakeInfo, Told, What};
 use sc_stats::{LevelStats, ServerInfo, ServerStats};
@@ -64,8 +65,8 @@ fn handshake<H: Hold>(alloc: Global, hold: &H) -> Result<StorageHandshakeInfo, N
     Ok(StorageHandshakeInfo {
         location: hold.location(alloc)?,
         cache_type_name: Text::from_str(alloc, hold.cache_type_name())?,
-        basedirs: Items::new(alloc),
-        use_preprocessor_cache_mode: false,
+        basedirs: hold.basedirs(alloc)?,
+        use_preprocessor_cache_mode: hold.use_preprocessor_cache_mode(),
         cache_mode: hold.cache_mode(),
         max_size: hold.max_size(),
     })
@@ -172,6 +173,18 @@ fn multi_level(
     Ok(Some(counters))
 }
 
+/// Paths as texts, with replacement characters for what is no UTF-8.
+fn texts(alloc: Global, paths: &[ByteText]) -> Result<Items<Text>, NoMemory>
+    ensures { IfOk result (λ texts. texts ≡ map utf8_lossy paths.now) }
+{
+    let mut texts = Vec::new(alloc);
+    for path in paths {
+        let text = String::from_utf8_lossy(alloc, path.as_slice())?;
+        texts.push(Text::from_string(text))?;
+    }
+    Ok(Items::from_vec(texts))
+}
+
 /// Statistics with what the store tells of itself, and the sizes and counters that its levels told.
 fn server_info<H: Hold>(
     alloc: Global,
@@ -190,9 +203,9 @@ fn server_info<H: Hold>(
         cache_location: hold.location(alloc)?,
         cache_size,
         max_cache_size: hold.max_size(),
-        use_preprocessor_cache_mode: false,
+        use_preprocessor_cache_mode: hold.use_preprocessor_cache_mode(),
         version: Text::from_str(alloc, VERSION)?,
-        basedirs: Items::new(alloc),
+        basedirs: texts(alloc, hold.basedirs(alloc)?.as_slice())?,
     })
 }
 

@@ -15,8 +15,6 @@ mod probe;
 mod run_line;
 mod script_workshop;
 mod shelf;
-#[cfg(test)]
-mod tests;
 mod tool;
 mod words;
 mod words_error;

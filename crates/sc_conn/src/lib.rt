@@ -3,8 +3,6 @@
 
 mod end;
 mod inbox;
-#[cfg(test)]
-mod tests;
 
 pub use end::End;
 pub use inbox::Inbox;

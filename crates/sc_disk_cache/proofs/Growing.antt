@@ -14,18 +14,17 @@ use Rattle.sc_disk.specs.Disks.{DiskFiles, DiskRecord, DiskState, Does, IsSize, 
 use Rattle.sc_disk.specs.Names.{is_temporary_path}
 use Rattle.sc_disk.specs.Sound.{IsSound}
 use Rattle.sc_disk.specs.Store.{AddEntry, AreKeys, Closed, IsOpen, Store, declared_at, filed, firsts, gone, others, reserved, size_of as measure, store, temporary_of}
-use Rattle.sc_disk.specs.declared.change.Change.{Change}
 use Rattle.sc_disk.specs.declared.change.Change.TheVariants.{Touched, Moved}
 use Rattle.sc_disk.specs.declared.error.Error.{Error}
 use Rattle.sc_disk.specs.declared.error.Error.TheVariants.{FileTooLarge, Io, Reserved}
-use Rattle.sc_model.specs.World.{Evicts, Files, Level, put_file, same_maps}
+use Rattle.sc_model.specs.World.{Files, Level, put_file, same_maps}
 use Rattle.sc_model.specs.declared.event.Written.TheVariants.{Done as WriteDone, Refused as WriteRefused}
 use Rattle.sc_model.specs.declared.level.Cause.TheVariants.{FileTooLarge as ForSize, Io as ForIo, Reserved as ForRoom}
 use Rattle.sc_pair.specs.Parts.{ArePlaced, in_part}
 use Rattle.sc_pair.specs.declared.part.Part.{Part}
 use Rattle.sc_pair.specs.declared.part.Part.TheVariants.{Main, Pre}
 use Rattle.sc_disk_cache.specs.DiskStores.{OpenEntry, entries_of, entry_at, level_of, opened_store, told_files}
-use Rattle.sc_disk_cache.specs.Entries.{Grows, GrowsEntry, GrowsNothing, MakesRoom, PutsFile, room_for}
+use Rattle.sc_disk_cache.specs.Entries.{GrowsEntry, GrowsNothing, MakesRoom, PutsFile}
 use Rattle.sc_disk_cache.specs.Shown.{Index, bytes_at, files_of}
 use Rattle.sc_disk_cache.proofs.Changing.{lookup-dropped}
 use Rattle.sc_disk_cache.proofs.Closings.{hidden-maps, none-gone, only-hidden}

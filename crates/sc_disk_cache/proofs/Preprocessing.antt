@@ -1,5 +1,5 @@
 -- A put of a preprocessor entry: an entry that declares nothing, its fill and its commit in one.
-use Rattle.std.proofs.Common.{◌≡◌, ◌≢◌, ◌==◌, eqb-true, eq-eqb, inl, inr, ℕ, ◌+◌, ◌<◌, ◌≤◌, max, Bool, true, false, bytes_eq, IfOk, OnErr, List, [], ◌∷◌, ◌++◌, length, Option, Some, None, Result, Ok, Err, refl, sym, ap, ◌∙◌, subst, arith}
+use Rattle.std.proofs.Common.{◌≡◌, ◌≢◌, ◌==◌, eqb-true, eq-eqb, inl, inr, ℕ, ◌+◌, ◌<◌, ◌≤◌, Bool, true, false, bytes_eq, IfOk, OnErr, List, [], ◌∷◌, ◌++◌, length, Option, Some, None, Result, refl, sym, ap, ◌∙◌, subst, arith}
 use Rattle.std.proofs.lemmas.Bool.{lt-ltb}
 use Rattle.std.specs.List.{IsDistinct}
 use Rattle.std.specs.Map.{keys_of}
@@ -11,7 +11,7 @@ use Rattle.sc_entry.specs.declared.memory.NoMemory.{NoMemory}
 use Rattle.sc_disk.specs.Disks.{files_now}
 use Rattle.sc_disk.specs.Sound.{IsSound}
 use Rattle.sc_disk.specs.Store.{AddEntry, Store, reserved}
-use Rattle.sc_model.specs.World.{Evicts, Evicts_unless, IsFault, IsRefused, Level, Puts_pre_disk, Reserves, causes, early_cause, part_size, put_file, room_cause, same_maps, write_cause}
+use Rattle.sc_model.specs.World.{Evicts, Evicts_unless, IsFault, Level, Puts_pre_disk, Reserves, causes, early_cause, part_size, put_file, room_cause, same_maps, write_cause}
 use Rattle.sc_model.specs.declared.event.Written.{Written}
 use Rattle.sc_model.specs.declared.event.Written.TheVariants.{Done as WriteDone, Refused as WriteRefused}
 use Rattle.sc_model.specs.declared.level.Cause.{Cause}

@@ -19,6 +19,3 @@ pub use holding::HeldSize;
 pub use marks::Marks;
 pub use reserving::Reservation;
 pub use whole::mode_answer;
-
-#[cfg(test)]
-mod tests;

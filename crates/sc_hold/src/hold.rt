@@ -81,6 +81,14 @@ pub trait Hold {
     fn cache_type_name(&self) -> &str
         ensures { result.now ≡ (config self.now).store.type_name };
 
+    /// The base directories of its store.
+    fn basedirs(&self, alloc: Global) -> Result<Items<ByteText>, NoMemory>
+        ensures { IfOk result (λ basedirs. basedirs ≡ (config self.now).store.basedirs) };
+
+    /// Whether its store is to keep entries of the preprocessor.
+    fn use_preprocessor_cache_mode(&self) -> bool
+        ensures { result ≡ (config self.now).store.flag };
+
     /// The most bytes that its store may take, where that is known.
     fn max_size(&self) -> Option<u64>
         ensures { result ≡ (config self.now).store.max_size };

@@ -1,5 +1,6 @@
 -- What a daemon is: its real spellings, what its probe and its workshop tell, its levels and its limits.
-use Rattle.std.specs.Prelude.{◌≡◌, ℕ, Bool, false, List, [], ◌∷◌, Option, None}
+use Rattle.std.specs.Prelude.{ℕ, Bool, List, [], Option, None, map}
+use Rattle.std.specs.Str.Lossy.{utf8_lossy}
 use Rattle.sc_compile.specs.Answers.{told_answer}
 use Rattle.sc_compile.specs.Tools.{plain_compilers}
 use Rattle.sc_compile.specs.declared.run_line.RunLine.{RunLine}
@@ -11,10 +12,13 @@ use Rattle.sc_model.specs.declared.level.Policy.{Policy}
 use Rattle.sc_stats.specs.declared.counters.LevelStats.{LevelStats}
 use Rattle.sc_wire.specs.Responses.{payload}
 
--- what a store tells of itself: where it is, what type it has, and the most that it may take, where that is known
+-- what a store tells of itself: where it is, what type it has, its base directories, whether it is to keep entries of the
+-- preprocessor, and the most that it may take, where that is known
 pub record StoreTold : Type 0 where
   pub location : List ℕ
   pub type_name : List ℕ
+  pub basedirs : List (List ℕ)
+  pub flag : Bool
   pub max_size : Option ℕ
 
 -- what a daemon is made of, as plain data: what its store tells of itself, the counters that its levels begin with, its
@@ -33,15 +37,15 @@ pub record Config : Type 0 where
 abbrev pub real_codec : Codec
 real_codec = record { payload = payload; entry = entry; objects = objects }
 
--- A daemon over plain compilers, without a distributed client. Its store has no base directories, and uses no entries of
--- the preprocessor.
+-- A daemon over plain compilers, without a distributed client. Statistics read base directories that are no UTF-8 with
+-- replacement characters.
 abbrev pub setup : Config → Setup
 setup c = record {
   codec = real_codec;
   compilers = plain_compilers c.table;
   scheduler = record { url = None; retry_text = λ n. [] };
   workshop = told_answer c.lines;
-  store = record { location = c.store.location; type_name = c.store.type_name; basedirs = []; basedir_texts = []; flag = false; max_size = c.store.max_size };
+  store = record { location = c.store.location; type_name = c.store.type_name; basedirs = c.store.basedirs; basedir_texts = map utf8_lossy c.store.basedirs; flag = c.store.flag; max_size = c.store.max_size };
   levels = c.levels;
   policy = c.policy;
   tokens = c.tokens;

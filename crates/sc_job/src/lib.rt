@@ -7,8 +7,6 @@ mod level_rows;
 mod notes;
 mod rows;
 mod stored;
-#[cfg(test)]
-mod tests;
 mod verdict;
 
 pub use finish::{fatal_text, finish_fatal, finish_hit, finish_output};

@@ -4,8 +4,6 @@
 mod making;
 mod memory;
 mod sizes;
-#[cfg(test)]
-mod tests;
 
 pub use making::{Made, make};
 pub use memory::Memory;

@@ -1,5 +1,5 @@
 -- How a state moves by what opened, filled and closed an entry at one of its disk levels.
-use Rattle.std.proofs.Common.{◌≡◌, ◌≢◌, ◌==◌, ℕ, ◌+◌, ◌≤◌, Bool, true, false, ◌&&◌, not, List, [], length, slice_set, Option, Some, None, refl, ap, arith, sym, subst, ◌∙◌, eqb-true, eq-eqb}
+use Rattle.std.proofs.Common.{◌≡◌, ◌≢◌, ◌==◌, ℕ, ◌+◌, ◌≤◌, Bool, true, false, ◌&&◌, not, List, [], length, slice_set, Option, None, refl, ap, arith, sym, subst, ◌∙◌, eqb-true, eq-eqb}
 use Rattle.std.specs.Option.{option_map_or}
 use Rattle.sc_disk.specs.Store.{AddEntry}
 use Rattle.sc_disk_cache.specs.DiskStores.{DiskStore, OpenEntry, entry_at, entry_path}
@@ -10,12 +10,12 @@ use Rattle.sc_disk_cache.specs.declared.filling.Filling.TheVariants.{Filled as S
 use Rattle.sc_disk_cache.specs.declared.reserving.Reservation.{Reservation}
 use Rattle.sc_disk_cache.specs.declared.reserving.Reservation.TheVariants.{Open, Refused as NotReserved}
 use Rattle.sc_entry.specs.Keys.{IsStoreKey, is_store_key, make_key_path}
-use Rattle.sc_hold.specs.Holding.{Elsewhere, Holds, IsGood, OpensNone, ReservesBy, SameRoom, filled_of}
+use Rattle.sc_hold.specs.Holding.{Holds, IsGood, OpensNone, ReservesBy, filled_of}
 use Rattle.sc_job.specs.Setups.{setup}
 use Rattle.sc_model.specs.Follows.{kind_at}
-use Rattle.sc_model.specs.Plan.{level_facts, reads_only}
+use Rattle.sc_model.specs.Plan.{reads_only}
 use Rattle.sc_model.specs.Script.{is_single}
-use Rattle.sc_model.specs.World.{Commits, Fills, Later, Level, Moves, Need, World, causes, or_cause, read_only_store, room_cause, write_cause}
+use Rattle.sc_model.specs.World.{Commits, Fills, Later, Level, Moves, Need, World, causes, or_cause, read_only_store, room_cause}
 use Rattle.sc_model.specs.declared.event.What.{What}
 use Rattle.sc_model.specs.declared.event.What.TheVariants.{Committed, Filled, Reserved}
 use Rattle.sc_model.specs.declared.event.Written.{Written}
@@ -31,7 +31,6 @@ use Rattle.sc_owned.specs.State.{State, disk_at, reserved_in}
 use Rattle.sc_store.proofs.Alone.{other_set}
 use Rattle.sc_store.specs.Asking.{ReservesDisk}
 use Rattle.sc_store.specs.Held.{Held, Room, disk_in, level_in, no_room, room_in}
-use Rattle.sc_owned.proofs.Steps.{held_in}
 
 -- One level and what is open there moved, and no other.
 pub record AtLevel (o : State) (after : Held) (l : ℕ) : Type 0 where

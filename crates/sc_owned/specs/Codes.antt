@@ -26,10 +26,10 @@ use base.Stored.{coded_via}
 use mathlib.Core.HLevel.{Σ_prop_path}
 
 abbrev pub told_code : Coded StoreTold
-told_code = code_by (List ℕ × (List ℕ × Option ℕ))
-    (coded× (coded_list coded_ℕ) (coded× (coded_list coded_ℕ) (coded_option coded_ℕ)))
-    (λ s. (s.location, (s.type_name, s.max_size)))
-    (λ p. record { location = p.0; type_name = p.1.0; max_size = p.1.1 })
+told_code = code_by (List ℕ × (List ℕ × (List (List ℕ) × (Bool × Option ℕ))))
+    (coded× (coded_list coded_ℕ) (coded× (coded_list coded_ℕ) (coded× (coded_list (coded_list coded_ℕ)) (coded× coded_bool (coded_option coded_ℕ)))))
+    (λ s. (s.location, (s.type_name, (s.basedirs, (s.flag, s.max_size)))))
+    (λ p. record { location = p.0; type_name = p.1.0; basedirs = p.1.1.0; flag = p.1.1.1.0; max_size = p.1.1.1.1 })
     (λ _. refl)
 
 abbrev pub config_code : Coded Config

@@ -12,6 +12,7 @@ use Rattle.sc_model.specs.declared.level.LevelFacts.{LevelFacts}
 use Rattle.sc_model.specs.declared.level.Policy.{Policy}
 use Rattle.sc_model.specs.declared.level.Policy.TheVariants.{Levels, Single}
 use Rattle.sc_stats.specs.declared.counters.LevelStats.{LevelStats}
+use Rattle.sc_store.specs.Basedirs.{first_flag, store_basedirs}
 use Rattle.sc_store.specs.Held.{Held, IsWithin, Room, level_in, room_in}
 use Rattle.sc_store.specs.Telling.{new_counters, store_location, store_max, store_type}
 
@@ -48,7 +49,7 @@ pub record State : Type 0 where
 
 -- what the store of these levels tells of itself
 abbrev pub store_of : Held → StoreTold
-store_of held = record { location = store_location held.policy held.titles; type_name = store_type held.policy held.titles; max_size = store_max held.policy held.facts }
+store_of held = record { location = store_location held.policy held.titles; type_name = store_type held.policy held.titles; basedirs = store_basedirs held.policy held.titles; flag = first_flag held.titles; max_size = store_max held.policy held.facts }
 
 -- what a daemon over these levels is made of
 abbrev pub config_of : Held → (tokens limit : ℕ) → Option (List Tool) → Option (List RunLine) → Config

@@ -68,6 +68,15 @@ impl<P: Parts> Hold for Owned<P> {
         self.levels.cache_type_name()
     }
 
+    fn basedirs(&self, alloc: Global) -> Result<Items<ByteText>, NoMemory> {
+        let basedirs = self.levels.basedirs(alloc)?;
+        Ok(basedirs)
+    }
+
+    fn use_preprocessor_cache_mode(&self) -> bool {
+        self.levels.use_preprocessor_cache_mode()
+    }
+
     fn max_size(&self) -> Option<u64> {
         self.levels.max_size()
     }

@@ -6,8 +6,6 @@ mod missing;
 mod nowhere;
 mod owned;
 mod parts;
-#[cfg(test)]
-mod tests;
 
 pub use owned::Owned;
 pub use parts::Parts;

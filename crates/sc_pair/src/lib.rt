@@ -15,6 +15,3 @@ pub use lazy_pair::LazyPair;
 pub use pair_cache::{PairCache, part_key};
 pub use part::Part;
 pub use two::Two;
-
-#[cfg(test)]
-mod tests;

@@ -8,8 +8,6 @@ mod levels;
 mod printing;
 mod section;
 mod sections;
-#[cfg(test)]
-mod tests;
 mod words;
 
 pub use ended::{Ended, exit_code, put_error};

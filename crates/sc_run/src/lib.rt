@@ -1,20 +1,10 @@
 //! What the program does with its words and its input, whatever its streams are.
 #![tactic(auto)]
 
-#[cfg(test)]
-mod disk_tests;
-#[cfg(test)]
-mod level_tests;
 mod outside;
-#[cfg(test)]
-mod policy_tests;
 mod printing;
 mod running;
 mod scripted;
-#[cfg(test)]
-mod stats_tests;
-#[cfg(test)]
-mod tests;
 
 pub use outside::Outside;
 pub use printing::printed;

@@ -12,8 +12,6 @@ mod inputs;
 mod laws;
 mod level_rule;
 mod level_rules;
-#[cfg(test)]
-mod level_tests;
 mod line;
 mod lines;
 mod parts;
@@ -24,8 +22,6 @@ mod replies;
 mod requests;
 mod run_rule;
 mod script;
-#[cfg(test)]
-mod script_tests;
 mod tokens;
 mod words;
 

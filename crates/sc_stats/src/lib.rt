@@ -2,8 +2,6 @@
 #![tactic(auto)]
 
 mod counters;
-#[cfg(test)]
-mod expected;
 mod figures;
 mod info;
 mod languages;
@@ -15,8 +13,6 @@ mod reasons;
 mod rows;
 mod span;
 mod store_facts;
-#[cfg(test)]
-mod tests;
 mod totals;
 mod writer;
 

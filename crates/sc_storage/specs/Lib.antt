@@ -1,4 +1,3 @@
-pub mod Basedirs
 pub mod Checks
 pub mod Lookups
 pub mod Moving

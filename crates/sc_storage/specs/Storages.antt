@@ -23,7 +23,6 @@ use Rattle.sc_model.specs.declared.level.Cause.TheVariants.{BadKey, ReadOnly as 
 use Rattle.sc_model.specs.declared.level.LevelKind.{LevelKind}
 use Rattle.sc_model.specs.declared.level.LevelKind.TheVariants.{Disk, Remote}
 use Rattle.sc_model.specs.declared.level.Policy.TheVariants.{Single}
-use Rattle.sc_model.specs.declared.level.Put.{Put}
 use Rattle.sc_model.specs.declared.level.Put.TheVariants.{Done as PutDone, Level as AtLevel, NoLevels as NoneThere, Refused as PutRefused}
 use Rattle.sc_model.specs.declared.level.Store.TheVariants.{Wrapper}
 use Rattle.sc_stats.specs.declared.counters.LevelStats.{LevelStats}
@@ -33,11 +32,12 @@ use Rattle.sc_storage.specs.Moving.{Keeps}
 use Rattle.sc_storage.specs.Preprocessor.{AsksEach, PutsPreOver}
 use Rattle.sc_storage.specs.Puts.{PutMarks, Puts, PutsDisk}
 use Rattle.sc_storage.specs.Sizes.{size_sum}
-use Rattle.sc_storage.specs.Stores.{Multilevel, counted_of, first_flag}
+use Rattle.sc_storage.specs.Stores.{Multilevel, counted_of}
 use Rattle.sc_storage.specs.declared.lookup.Hit.{Hit}
 use Rattle.sc_storage.specs.declared.storage_error.StorageError.{StorageError}
 use Rattle.sc_storage.specs.declared.storage_error.StorageError.TheVariants.{Level as LevelRefused, NoLevels, NoMemory, Refused, Unsupported}
 use Rattle.sc_store.specs.Asking.{AsksLevel, CauseBy, MarksAsked, MarksWrote, PreCauseAt, PutCause, PutsLevel, PutsPre, TellsMark, reads_key}
+use Rattle.sc_store.specs.Basedirs.{first_flag}
 use Rattle.sc_store.specs.Checking.{ChecksLevel, facts_after}
 use Rattle.sc_store.specs.Held.{HeldLevel, disk_of}
 use Rattle.sc_store.specs.Telling.{level_max, store_location, store_max, store_type}

@@ -1,11 +1,11 @@
 -- Levels as one store: what the levels hold, what they count, and their base directories.
-use Rattle.std.specs.Prelude.{◌≡◌, ◌≢◌, ℕ, Bool, false, List, [], ◌∷◌, Option, Some, None, Result, Ok, refl}
+use Rattle.std.specs.Prelude.{◌≡◌, ◌≢◌, ℕ, List, [], Option, Some, None, Result, Ok, refl}
 use Rattle.std.specs.Coded.{Coded, code_by, coded×, coded_ℕ, coded_list}
 use Rattle.sc_stats.specs.declared.counters.LevelStats.{LevelStats}
 use Rattle.sc_stats.specs.contracts.counters.LevelStats as stats_type
-use Rattle.sc_storage.specs.Basedirs.{basedirs_of}
 use Rattle.sc_storage.specs.Moving.{Counted, counted}
-use Rattle.sc_store.specs.Held.{Held, Title, held_code}
+use Rattle.sc_store.specs.Basedirs.{basedirs_of}
+use Rattle.sc_store.specs.Held.{Held, held_code}
 use Rattle.sc_store.specs.Telling.{new_counters}
 
 pub record Multilevel : Type 0 where
@@ -37,8 +37,3 @@ pub record IsNew (levels : Held) (m : Multilevel) : Type 0 where
 abbrev pub IsChain : List (List ℕ) → Result Held (List ℕ) → Option Multilevel → Type 0
 IsChain chain made None = chain ≡ []
 IsChain chain made (Some m) = (chain ≢ []) × ((levels : Held) × (made ≡ Ok levels) × IsNew levels m)
-
--- the flag of the first level
-abbrev pub first_flag : List Title → Bool
-first_flag [] = false
-first_flag (t ∷ ts) = t.given.flag

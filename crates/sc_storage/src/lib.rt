@@ -2,7 +2,6 @@
 #![tactic(auto)]
 
 mod alone;
-mod basedirs;
 mod checking;
 mod counting;
 mod disk;
@@ -22,10 +21,3 @@ pub use multilevel::MultiLevelStorage;
 pub use read_only::ReadOnlyStorage;
 pub use storage::Storage;
 pub use storage_error::StorageError;
-
-#[cfg(test)]
-mod level_tests;
-#[cfg(test)]
-mod storage_tests;
-#[cfg(test)]
-mod tests;

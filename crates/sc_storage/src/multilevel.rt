@@ -1,7 +1,6 @@
 //! Levels as one store.
 ghost use Rattle.std.specs.Prelude.{◌≡◌, ◌<◌, false, true, IfErr, IfOk, Option, length};
 ghost use Rattle.sc_model.specs.declared.level.Policy.TheVariants.{Levels as ByLevel};
-ghost use Rattle.sc_storage.specs.Basedirs.{basedirs_of};
 ghost use Rattle.sc_entry.specs.Entries.{entry as spelling};
 ghost use Rattle.sc_model.specs.Follows.{some_size};
 ghost use Rattle.sc_model.specs.Script.{is_single};
@@ -14,15 +13,15 @@ ghost use Rattle.sc_storage.specs.Moving.{Keeps};
 ghost use Rattle.sc_storage.specs.Preprocessor.{AsksEach, PutsPreOver};
 ghost use Rattle.sc_storage.specs.Puts.{Puts, WritesAt};
 ghost use Rattle.sc_storage.specs.Sizes.{size_sum};
-ghost use Rattle.sc_storage.specs.Stores.{IsChain, IsNew, counted_of, first_flag};
+ghost use Rattle.sc_storage.specs.Stores.{IsChain, IsNew, counted_of};
 ghost use Rattle.sc_store.specs.Asking.{reads_key};
+ghost use Rattle.sc_store.specs.Basedirs.{basedirs_of, first_flag};
 ghost use Rattle.sc_store.specs.Levels.{held_levels};
 ghost use Rattle.sc_store.specs.Telling.{new_counters, store_location, store_max, store_mode, store_type};
 ghost use Rattle.sc_store_config.specs.Configs.{IsCause, disk_as, remote_as, store_of};
 ghost use Rattle.sc_store_config.specs.Policies.{setting_policies};
 ghost use Rattle.sc_store_config.specs.declared.write_error_policy.WriteErrorPolicy.TheVariants as settings;
 
-use crate::basedirs::collect_basedirs;
 use crate::lookup::{Hit, ask_level, entry_of, look_up};
 use crate::{checking, preprocessor, putting, sizes};
 use sc_disk::Disk;
@@ -69,7 +68,7 @@ fn of_levels<R: Remote + Drop, D: Disk + Drop>(
     ensures counters { IfOk result (λ store. store.counters ≡ new_counters 0 levels.titles) }
     ensures basedirs { IfOk result (λ store. store.basedirs ≡ basedirs_of levels.titles) }
 {
-    let basedirs = collect_basedirs(alloc, &levels)?;
+    let basedirs = levels.all_basedirs(alloc)?;
     let counters = levels.new_counters(alloc)?;
     Ok(MultiLevelStorage {
         levels,
@@ -154,10 +153,7 @@ impl<R: Remote, D: Disk> MultiLevelStorage<R, D> {
     pub fn use_preprocessor_cache_mode(&self) -> bool
         ensures { result ≡ first_flag self.now.held.titles }
     {
-        if self.levels.len() == 0 {
-            return false;
-        }
-        self.levels.get(0).use_preprocessor_cache_mode()
+        self.levels.use_preprocessor_cache_mode()
     }
 
     /// What type the store has, in a word.

@@ -3,6 +3,7 @@ use Rattle.std.proofs.Common.{◌≡◌, ℕ, zero, suc, ◌+◌, ◌-◌, ◌^�
 use Rattle.std.proofs.Math.Seq.{take-length}
 use Rattle.std.specs.Option.{unwrap_or}
 use Rattle.sc_model.specs.declared.level.Policy.{Policy}
+use Rattle.sc_store.specs.Basedirs.{first_basedirs}
 use Rattle.sc_store.specs.Held.{AreWithin, HeldLevel, IsWithin, Room, are_unreserved, held_of, room_in}
 use Rattle.sc_store.specs.Levels.{held_level, held_levels, rooms_of}
 use Rattle.sc_model.specs.Plan.{first_policy, levels_of, reads_only, rest_policies}
@@ -54,6 +55,10 @@ none_within (level ∷ levels) none policy = absurd (omega arith)
 -- where the first level is
 pub first_located : {R D : Type 0} (levels : List (Level R D)) (level : Level R D) → 1 ≤ length levels → level ≡ get_or levels 0 level → first_location (titles_of levels) ≡ (held_level level).title.location
 first_located {R} {D} levels level some first = ap (λ (ls : List (Level R D)). first_location (titles_of ls)) (behind levels level some first)
+
+-- what base directories it was given
+pub first_given : {R D : Type 0} (levels : List (Level R D)) (level : Level R D) → 1 ≤ length levels → level ≡ get_or levels 0 level → first_basedirs (titles_of levels) ≡ (held_level level).title.given.basedirs
+first_given {R} {D} levels level some first = ap (λ (ls : List (Level R D)). first_basedirs (titles_of ls)) (behind levels level some first)
 
 -- as many as before, and one more was counted
 pub one_counted : {A : Type 0} (xs : List A) (x : A) (n total : ℕ) → 1 ≤ length xs → x ≡ get_or xs 0 x → n + length xs ≡ total → (n + 1) + length (take (length xs - 1) (drop 1 xs)) ≡ total

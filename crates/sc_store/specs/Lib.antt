@@ -1,4 +1,5 @@
 pub mod Asking
+pub mod Basedirs
 pub mod Held
 pub mod Devices
 pub mod Paths

@@ -1,6 +1,7 @@
 //! Stores of compile results: a store behind a network, and a daemon's levels of stores in order.
 #![tactic(auto)]
 
+mod basedirs;
 mod checked;
 mod disk_storage;
 mod facts;
@@ -21,6 +22,3 @@ pub use mem_remote::MemRemote;
 pub use remote::{Remote, RemoteRead, RemoteWrite};
 pub use remote_storage::RemoteStorage;
 pub use sc_disk_cache::{DiskCache, EntryError, Filling, Reservation};
-
-#[cfg(test)]
-mod tests;

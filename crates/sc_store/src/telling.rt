@@ -2,16 +2,18 @@
 ghost use Rattle.std.specs.Prelude.{◌≡◌, ◌++◌, codes, decimal, IfOk};
 ghost use Rattle.sc_model.specs.Follows as sizes;
 ghost use Rattle.sc_stats.specs.Sums.{no_level_stats};
+ghost use Rattle.sc_store.specs.Basedirs as dirs;
 ghost use Rattle.sc_store.specs.Levels.{held_level};
 ghost use Rattle.sc_store.specs.Planning.{facts_of};
 ghost use Rattle.sc_store.specs.Telling as telling;
 
+use crate::basedirs::{collect_basedirs, first_basedirs};
 use crate::level::Level;
 use crate::levels::Levels;
 use crate::remote::Remote;
 use crate::remote_storage::is_read_only;
 use sc_disk::Disk;
-use sc_entry::{CacheMode, NoMemory, Text};
+use sc_entry::{ByteText, CacheMode, Items, NoMemory, Text};
 use sc_model::Policy;
 use sc_stats::LevelStats;
 use std::alloc::Global;
@@ -145,6 +147,16 @@ fn first_location<R: Remote, D: Disk>(
     }
 }
 
+/// Whether the first level is to keep entries of the preprocessor.
+fn first_flag<R: Remote, D: Disk>(levels: &[Level<R, D>]) -> bool
+    ensures { result ≡ dirs.first_flag (telling.titles_of levels.now) }
+{
+    match levels {
+        [first, ..] => first.use_preprocessor_cache_mode(),
+        [] => false,
+    }
+}
+
 /// What the first level's store may take.
 fn first_max<R: Remote, D: Disk>(levels: &[Level<R, D>]) -> Option<u64>
     ensures { result ≡ telling.first_max (facts_of levels.now) }
@@ -190,6 +202,38 @@ impl<R: Remote, D: Disk> Levels<R, D> {
             Policy::Single => first_max(&self.levels),
             Policy::Levels(_) => some_size(max_of(&self.levels)),
         }
+    }
+
+    /// The base directories of all levels, in the order in which they first appear.
+    pub fn all_basedirs(&self, alloc: Global) -> Result<Vec<ByteText>, NoMemory>
+        ensures { IfOk result (λ basedirs. basedirs.items ≡ dirs.basedirs_of self.now.titles) }
+    {
+        let basedirs = collect_basedirs(alloc, self)?;
+        Ok(basedirs)
+    }
+
+    /// The base directories of the store: those that a store that stands alone was given, or those of all levels in the order
+    /// in which they first appear.
+    pub fn basedirs(&self, alloc: Global) -> Result<Items<ByteText>, NoMemory>
+        ensures { IfOk result (λ basedirs. basedirs ≡ dirs.store_basedirs self.now.policy self.now.titles) }
+    {
+        match &self.policy {
+            Policy::Single => {
+                let basedirs = first_basedirs(alloc, &self.levels)?;
+                Ok(basedirs)
+            }
+            Policy::Levels(_) => {
+                let basedirs = self.all_basedirs(alloc)?;
+                Ok(Items::from_vec(basedirs))
+            }
+        }
+    }
+
+    /// Whether the first level is to keep entries of the preprocessor.
+    pub fn use_preprocessor_cache_mode(&self) -> bool
+        ensures { result ≡ dirs.first_flag self.now.titles }
+    {
+        first_flag(&self.levels)
     }
 
     /// The mode of the store: read-only where there are levels and each is.

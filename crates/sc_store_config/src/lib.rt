@@ -6,8 +6,6 @@ mod config_error;
 mod disk_config;
 mod remote_config;
 mod store_config;
-#[cfg(test)]
-mod tests;
 mod unused;
 mod write_error_policy;
 

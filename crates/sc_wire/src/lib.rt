@@ -17,8 +17,6 @@ mod response;
 mod several;
 mod statistics;
 mod storage;
-#[cfg(test)]
-mod tests;
 mod wire;
 
 pub use bincode::BincodeCodec;

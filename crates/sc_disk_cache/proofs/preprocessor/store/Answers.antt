@@ -1,4 +1,4 @@
-use Rattle.std.proofs.Common.{ℕ, None, refl, ◌∙◌, subst}
+use Rattle.std.proofs.Common.{ℕ, refl, ◌∙◌, subst}
 use Rattle.sc_disk.specs.Store.{AddEntry}
 use Rattle.sc_pair.specs.Parts.{in_part}
 use Rattle.sc_pair.specs.declared.part.Part.TheVariants.{Pre}

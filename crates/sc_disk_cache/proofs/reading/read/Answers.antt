@@ -1,5 +1,5 @@
 use Rattle.std.proofs.Common.{refl, sym, ap, ◌∙◌, Some}
-use Rattle.sc_disk_cache.proofs.Looking.{gets-steady, read-hit, read-miss, unread-capacity, unread-steady}
+use Rattle.sc_disk_cache.proofs.Looking.{gets-steady, read-hit, read-miss, unread-steady}
 use Rattle.sc_disk_cache.proofs.reading.read.Goals as goal
 
 pub returns-in-Ok-clause-steady : goal.returns-in-Ok-clause-steady

@@ -1,5 +1,4 @@
-use Rattle.std.proofs.Common.{ℕ, List, Ok, sym, subst, ◌∙◌}
-use Rattle.sc_entry.specs.declared.memory.NoMemory.{NoMemory}
+use Rattle.std.proofs.Common.{ℕ, List, Ok, subst, ◌∙◌}
 use Rattle.sc_pair.specs.declared.part.Part.TheVariants.{Main}
 use Rattle.sc_disk_cache.specs.DiskStores.{held_disk}
 use Rattle.sc_disk_cache.specs.Moving.{ReadsAt}

@@ -1,4 +1,4 @@
-use Rattle.std.proofs.Common.{◌≡◌, Bool, true, refl, sym, ap, ◌∙◌, subst}
+use Rattle.std.proofs.Common.{◌≡◌, true, refl, sym, ap, ◌∙◌, subst}
 use Rattle.sc_disk_cache.specs.Marks.{Marks, Settles, fills_of, is_marked, mark_of}
 use Rattle.sc_disk_cache.specs.contracts.marks.Marks as marks
 use Rattle.sc_disk_cache.proofs.Marking.{apart_test}

@@ -1,4 +1,4 @@
-use Rattle.std.proofs.Common.{Some, refl, sym, ◌∙◌, subst}
+use Rattle.std.proofs.Common.{refl, sym, ◌∙◌, subst}
 use Rattle.sc_disk_cache.specs.Marks.{Marks, Sweeps}
 use Rattle.sc_disk_cache.specs.contracts.marks.Marks as marks
 use Rattle.sc_disk_cache.proofs.Marking.{of_key, sweeps_one}

@@ -1,0 +1,5 @@
+//! Tests of `sc_disk_cache`.
+#![tactic(auto)]
+
+#[cfg(test)]
+mod disk_cache;

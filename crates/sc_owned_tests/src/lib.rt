@@ -1,0 +1,7 @@
+//! Tests of `sc_owned` and `sc_memory`.
+#![tactic(auto)]
+
+#[cfg(test)]
+mod memory;
+#[cfg(test)]
+mod owned;

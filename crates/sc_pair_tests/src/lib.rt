@@ -1,0 +1,5 @@
+//! Tests of `sc_pair`.
+#![tactic(auto)]
+
+#[cfg(test)]
+mod pair;

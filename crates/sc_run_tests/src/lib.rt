@@ -1,0 +1,13 @@
+//! Tests of `sc_run`.
+#![tactic(auto)]
+
+#[cfg(test)]
+mod disks;
+#[cfg(test)]
+mod levels;
+#[cfg(test)]
+mod policies;
+#[cfg(test)]
+mod run;
+#[cfg(test)]
+mod stats;
