@@ -1,0 +1,316 @@
+//! Any store asked as one.
+use crate::levels::{OneLevel, Storage as Layered, disk, disk_level, remote, storage};
+use sc_disk::Disk;
+use sc_entry::{ByteText, Cache, CacheMode, CacheWrite, Items, Text};
+use sc_model::LevelPolicy;
+use sc_storage::{MultiLevelStorage, ReadOnlyStorage, Storage, StorageError};
+use sc_store::{DiskCache, DiskStorage, Level, MemRemote, RemoteStorage};
+use std::alloc::Global;
+use std::test::Fail;
+
+/// How a call ended, in words.
+fn told(alloc: Global, end: Result<(), StorageError>) -> Result<String, Fail> {
+    match end {
+        Ok(()) => Ok(String::from_str(alloc, "ok")?),
+        Err(error) => Ok(format!(in alloc; "{error}")?),
+    }
+}
+
+/// Whether a put of these bytes under `abc` is told so.
+fn put_raw_is<S: Storage>(
+    alloc: Global,
+    store: &mut S,
+    bytes: &[u8],
+    expected: &str,
+) -> Result<bool, Fail> {
+    let key = Text::from_str(alloc, "abc")?;
+    let bytes = ByteText::from_slice(alloc, bytes)?;
+    let text = told(alloc, store.put_raw(alloc, &key, bytes, 1))?;
+    Ok(text.as_str() == expected)
+}
+
+/// Whether a put of an entry under `abc` is told so.
+fn put_is<S: Storage>(alloc: Global, store: &mut S, expected: &str) -> Result<bool, Fail> {
+    let key = Text::from_str(alloc, "abc")?;
+    let entry = CacheWrite::new(alloc)?;
+    let text = told(alloc, store.put(alloc, &key, entry, 1))?;
+    Ok(text.as_str() == expected)
+}
+
+/// Whether a put of an entry under this key is done.
+fn puts<S: Storage>(alloc: Global, store: &mut S, key: &str) -> Result<bool, Fail> {
+    let key = Text::from_str(alloc, key)?;
+    let mut entry = CacheWrite::new(alloc)?;
+    entry.put_stdout(b"hi")?;
+    match store.put(alloc, &key, entry, 1) {
+        Ok(()) => Ok(true),
+        Err(_) => Ok(false),
+    }
+}
+
+/// Whether an entry is found under `abc`.
+fn hits<S: Storage>(alloc: Global, store: &mut S) -> Result<bool, Fail> {
+    let key = Text::from_str(alloc, "abc")?;
+    match store.get(alloc, &key, 2) {
+        Ok(Cache::Hit(_)) => Ok(true),
+        Ok(_) => Ok(false),
+        Err(_) => Err(Fail::new("refused")),
+    }
+}
+
+/// Whether a lookup of an entry under `abc` is refused so.
+fn refusal_is<S: Storage>(alloc: Global, store: &mut S, expected: &str) -> Result<bool, Fail> {
+    let key = Text::from_str(alloc, "abc")?;
+    match store.get(alloc, &key, 2) {
+        Ok(_) => Ok(false),
+        Err(error) => {
+            let text = told(alloc, Err(error))?;
+            Ok(text.as_str() == expected)
+        }
+    }
+}
+
+/// How many bytes stand under `abc`.
+fn raw_len<S: Storage>(alloc: Global, store: &mut S) -> Result<usize, Fail> {
+    let key = Text::from_str(alloc, "abc")?;
+    match store.get_raw(alloc, &key, 2) {
+        Ok(Some(bytes)) => Ok(bytes.len()),
+        Ok(None) => Ok(0),
+        Err(_) => Err(Fail::new("refused")),
+    }
+}
+
+/// How many bytes a lookup of an entry and of its bytes gave of these: 0 where there is no entry.
+fn get_with_raw<S: Storage>(alloc: Global, store: &mut S) -> Result<usize, Fail> {
+    let key = Text::from_str(alloc, "abc")?;
+    let (cache, bytes) = match store.get_with_raw(alloc, &key, 2) {
+        Ok(both) => both,
+        Err(_) => return Err(Fail::new("refused")),
+    };
+    let Cache::Hit(_) = cache else {
+        return Ok(0);
+    };
+    match bytes {
+        Some(bytes) => Ok(bytes.len()),
+        None => Ok(0),
+    }
+}
+
+/// How many bytes a preprocessor's entry under `abc` has, where there is one.
+fn preprocessor_len<S: Storage>(alloc: Global, store: &mut S) -> Result<Option<usize>, Fail> {
+    let key = Text::from_str(alloc, "abc")?;
+    match store.get_preprocessor_cache_entry(alloc, &key, 2) {
+        Ok(Some(bytes)) => Ok(Some(bytes.len())),
+        Ok(None) => Ok(None),
+        Err(_) => Err(Fail::new("refused")),
+    }
+}
+
+/// Whether a put of such an entry under `abc`, of two bytes, is told so.
+fn put_preprocessor_is<S: Storage>(
+    alloc: Global,
+    store: &mut S,
+    expected: &str,
+) -> Result<bool, Fail> {
+    let key = Text::from_str(alloc, "abc")?;
+    let put = store.put_preprocessor_cache_entry(alloc, &key, b"PP", 1);
+    let text = told(alloc, put)?;
+    Ok(text.as_str() == expected)
+}
+
+/// Whether a lookup of such an entry is refused.
+fn refuses_preprocessor<S: Storage>(alloc: Global, store: &mut S) -> Result<bool, Fail> {
+    let key = Text::from_str(alloc, "abc")?;
+    match store.get_preprocessor_cache_entry(alloc, &key, 2) {
+        Ok(_) => Ok(false),
+        Err(_) => Ok(true),
+    }
+}
+
+/// A disk level whose disk of the preprocessor's entries holds `P` under `abc`.
+fn preprocessor_level(alloc: Global) -> Result<OneLevel, Fail> {
+    let mut pre = disk(alloc, b"/0p", 0)?;
+    let path = Text::from_str(alloc, "a/b/c/abc")?;
+    match pre.create(&path, 1) {
+        Ok(()) => {}
+        Err(_) => return Err(Fail::new("no file")),
+    }
+    match pre.append(&path, b"P") {
+        Ok(()) => {}
+        Err(_) => return Err(Fail::new("no bytes")),
+    }
+    let main = disk(alloc, b"/0", 0)?;
+    let cache = DiskCache::new(alloc, main, pre, 100, CacheMode::ReadWrite);
+    Ok(Level::Disk(DiskStorage::new(cache, true, Items::new(alloc))))
+}
+
+/// Whether a check finds that a store is only read.
+fn is_read_only<S: Storage>(alloc: Global, store: &mut S) -> Result<bool, Fail> {
+    match store.check(alloc) {
+        Ok(CacheMode::ReadOnly) => Ok(true),
+        Ok(CacheMode::ReadWrite) => Ok(false),
+        Err(_) => Err(Fail::new("refused")),
+    }
+}
+
+/// A remote store that holds nothing. Its call of this number is refused.
+fn remote_store(
+    alloc: Global,
+    fails: u64,
+    mode: CacheMode,
+) -> Result<RemoteStorage<MemRemote>, Fail> {
+    let mut failing = Items::new(alloc);
+    failing.push(fails)?;
+    let remote = MemRemote::new(alloc, Items::new(alloc), failing)?;
+    Ok(RemoteStorage::new(alloc, remote, Items::new(alloc), mode))
+}
+
+/// Whether an entry that is put is found again, and its bytes.
+fn holds_what_was_put<S: Storage>(alloc: Global, store: &mut S) -> Result<bool, Fail> {
+    if hits(alloc, store)? || !puts(alloc, store, "abc")? || puts(alloc, store, "a")? {
+        return Ok(false);
+    }
+    let both = get_with_raw(alloc, store)?;
+    Ok(hits(alloc, store)? && both == raw_len(alloc, store)?)
+}
+
+#[test]
+fn remote_store_holds_what_was_put(rt: HostRuntime) -> Result<(), Fail> {
+    let alloc = rt.alloc();
+    let mut remote = remote_store(alloc, 0, CacheMode::ReadWrite)?;
+    assert!(rt; holds_what_was_put(alloc, &mut remote)?);
+    assert!(rt; !is_read_only(alloc, &mut remote)?);
+    Ok(())
+}
+
+#[test]
+fn levels_hold_what_was_put(rt: HostRuntime) -> Result<(), Fail> {
+    let alloc = rt.alloc();
+    let levels = vec![in alloc; disk_level(alloc, 0, CacheMode::ReadWrite)?]?;
+    let mut store = storage(alloc, levels, &[LevelPolicy::Required])?;
+    assert!(rt; holds_what_was_put(alloc, &mut store)?);
+    assert!(rt; store.multilevel_stats(alloc)?.is_some());
+    Ok(())
+}
+
+#[test]
+fn refusals_of_a_remote_store_are_told(rt: HostRuntime) -> Result<(), Fail> {
+    let alloc = rt.alloc();
+    let mut remote = remote_store(alloc, 1, CacheMode::ReadWrite)?;
+    assert!(rt; refusal_is(alloc, &mut remote, "remote fault: Other")?);
+    assert!(rt; put_raw_is(alloc, &mut remote, b"BB", "ok")?);
+    assert!(rt; refusal_is(alloc, &mut remote, "Failed to parse cache entry")?);
+    Ok(())
+}
+
+#[test]
+fn refusal_of_a_read_only_remote_store_is_told(rt: HostRuntime) -> Result<(), Fail> {
+    let alloc = rt.alloc();
+    let mut remote = remote_store(alloc, 0, CacheMode::ReadOnly)?;
+    assert!(rt; put_raw_is(alloc, &mut remote, b"BB", "storage is read-only")?);
+    Ok(())
+}
+
+#[test]
+fn refusal_of_a_disk_store_is_told(rt: HostRuntime) -> Result<(), Fail> {
+    let alloc = rt.alloc();
+    let mut disk = disk_level(alloc, 2, CacheMode::ReadWrite)?;
+    assert!(rt; put_raw_is(alloc, &mut disk, b"BB", "disk fault")?);
+    Ok(())
+}
+
+#[test]
+fn refusal_of_a_level_is_told(rt: HostRuntime) -> Result<(), Fail> {
+    let alloc = rt.alloc();
+    let levels = vec![in alloc; disk_level(alloc, 2, CacheMode::ReadWrite)?]?;
+    let mut store = MultiLevelStorage::new(alloc, levels)?;
+    let expected = "Failed to write to cache level 0: disk fault";
+    assert!(rt; put_raw_is(alloc, &mut store, b"BB", expected)?);
+    Ok(())
+}
+
+#[test]
+fn put_over_no_levels_is_refused(rt: HostRuntime) -> Result<(), Fail> {
+    let alloc = rt.alloc();
+    let mut none = storage(alloc, Vec::new(alloc), &[])?;
+    assert!(rt; put_is(alloc, &mut none, "No cache levels configured")?);
+    Ok(())
+}
+
+/// A store that is only read, over two levels of which the second holds `AAA` under `abc`.
+fn read_only_store(alloc: Global) -> Result<ReadOnlyStorage<Layered>, Fail> {
+    let mut levels = vec![in alloc; remote(alloc, b"")?]?;
+    levels.push(remote(alloc, b"AAA")?)?;
+    Ok(ReadOnlyStorage(MultiLevelStorage::new(alloc, levels)?))
+}
+
+#[test]
+fn store_that_is_only_read_takes_no_puts(rt: HostRuntime) -> Result<(), Fail> {
+    let alloc = rt.alloc();
+    let mut store = read_only_store(alloc)?;
+    let only_read = "Cannot write to read-only storage";
+    assert!(rt; put_is(alloc, &mut store, only_read)?);
+    assert!(rt; put_preprocessor_is(alloc, &mut store, only_read)?);
+    let expected = "put_raw not implemented for this storage backend";
+    assert!(rt; put_raw_is(alloc, &mut store, b"BB", expected)?);
+    Ok(())
+}
+
+#[test]
+fn store_that_is_only_read_is_looked_up(rt: HostRuntime) -> Result<(), Fail> {
+    let alloc = rt.alloc();
+    let mut store = read_only_store(alloc)?;
+    assert_eq!(rt; raw_len(alloc, &mut store)?, 3);
+    assert!(rt; is_read_only(alloc, &mut store)?);
+    Ok(())
+}
+
+#[test]
+fn store_that_is_only_read_tells_of_the_one_in_it(rt: HostRuntime) -> Result<(), Fail> {
+    let alloc = rt.alloc();
+    let store = read_only_store(alloc)?;
+    assert_eq!(rt; store.location(alloc)?.as_str(), "Multi-level (2 levels)");
+    assert!(rt; store.multilevel_stats(alloc)?.is_none());
+    assert_eq!(rt; store.0.stats().len(), 2);
+    Ok(())
+}
+
+#[test]
+fn preprocessor_entry_is_the_first_that_is_found(rt: HostRuntime) -> Result<(), Fail> {
+    let alloc = rt.alloc();
+    let mut levels = vec![in alloc; remote(alloc, b"AAA")?]?;
+    levels.push(preprocessor_level(alloc)?)?;
+    levels.push(disk_level(alloc, 1, CacheMode::ReadWrite)?)?;
+    let mut store = storage(alloc, levels, &[])?;
+    assert_eq!(rt; preprocessor_len(alloc, &mut store)?, Some(1));
+    Ok(())
+}
+
+#[test]
+fn refused_opening_is_told(rt: HostRuntime) -> Result<(), Fail> {
+    let alloc = rt.alloc();
+    let levels = vec![in alloc; disk_level(alloc, 1, CacheMode::ReadWrite)?]?;
+    let mut store = storage(alloc, levels, &[])?;
+    assert!(rt; refuses_preprocessor(alloc, &mut store)?);
+    Ok(())
+}
+
+#[test]
+fn remote_store_keeps_no_preprocessor_entries(rt: HostRuntime) -> Result<(), Fail> {
+    let alloc = rt.alloc();
+    let mut remote = remote_store(alloc, 1, CacheMode::ReadWrite)?;
+    assert_eq!(rt; preprocessor_len(alloc, &mut remote)?, None);
+    Ok(())
+}
+
+#[test]
+fn preprocessor_entry_is_put_where_it_may_be(rt: HostRuntime) -> Result<(), Fail> {
+    let alloc = rt.alloc();
+    let mut levels = vec![in alloc; disk_level(alloc, 0, CacheMode::ReadOnly)?]?;
+    levels.push(disk_level(alloc, 0, CacheMode::ReadWrite)?)?;
+    let mut store = storage(alloc, levels, &[])?;
+    assert!(rt; put_preprocessor_is(alloc, &mut store, "ok")?);
+    assert_eq!(rt; store.current_size(), Some(2));
+    assert_eq!(rt; preprocessor_len(alloc, &mut store)?, Some(2));
+    Ok(())
+}
