@@ -1,5 +1,5 @@
 -- A put of a preprocessor entry: an entry that declares nothing, its fill and its commit in one.
-use Rattle.std.proofs.Common.{◌≡◌, ◌≢◌, ◌==◌, eqb-true, eq-eqb, inl, inr, ℕ, ◌+◌, ◌<◌, ◌≤◌, Bool, true, false, bytes_eq, IfOk, OnErr, List, [], ◌∷◌, ◌++◌, length, Option, Some, None, Result, refl, sym, ap, ◌∙◌, subst, arith}
+use Rattle.std.proofs.Common.{◌≡◌, ◌≢◌, ◌==◌, eqb-true, eq-eqb, inl, inr, ℕ, ◌+◌, ◌<◌, ◌≤◌, Bool, true, false, bytes_eq, IfOk, OnErr, List, [], ◌∷◌, ◌++◌, length, Option, Some, None, Result, Ok, refl, sym, ap, ◌∙◌, subst, arith}
 use Rattle.std.proofs.lemmas.Bool.{lt-ltb}
 use Rattle.std.specs.List.{IsDistinct}
 use Rattle.std.specs.Map.{keys_of}
@@ -338,6 +338,15 @@ put_from p f r k b (WriteRefused BadKey) v u w kind early l m q h = absurd (no_s
 put_from p f r k b (WriteRefused BadEntry) v u w kind early l m q h = absurd (no_such f r (length b) BadEntry (λ x. x) h.0)
 put_from p f r k b (WriteRefused (ForReading x)) v u w kind early l m q h = absurd (no_such f r (length b) (ForReading x) (λ y. y) h.0)
 put_from p f r k b (WriteRefused (RemoteRefused x)) v u w kind early l m q h = absurd h.1
+
+-- the cause that was found is the one that is said
+pub same-refusal : {S : Type 0} (s : S) (a b : Cause) → Some a ≡ Some b → ◌≡◌ {A = Result Written NoMemory} (Ok (WriteRefused a)) (Ok (WriteRefused b)) × (s ≡ s)
+same-refusal s a b h = let same : a ≡ b = cc (h) in (ap (λ (c : Cause). Ok (WriteRefused c)) same, refl)
+
+-- the store's disks refuse to open
+pub unopened-put : (old new : DiskStore) (p : Policy) (k b : List ℕ) → early_cause p old.facts k ≡ None → Rose old.level.faults new.level.faults → Steady old new
+    → Puts_pre_disk old.facts.capacity (causes p old.facts old.reserved k (length b)) old.reserved k b (WriteRefused Io) old.level new.level
+unopened-put old new p k b early rose steady = (early, rose, unless_same (write_cause p old.facts old.reserved k (length b)) old.facts.capacity (old.reserved + length b) old.level new.level steady.main steady.pre)
 
 none_some : (c : Cause) → None ≡ Some c → ⊥
 none_some c e = cc

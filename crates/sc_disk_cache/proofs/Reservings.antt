@@ -1,12 +1,10 @@
 -- A reservation at a disk store, as the daemon's definitions have it.
-use Rattle.std.proofs.Common.{◌≡◌, ℕ, ◌+◌, ◌≤◌, ◌<◌, Bool, true, false, ◌&&◌, not, nat_lt, IfOk, OnErr, List, [], ◌∷◌, Option, Some, None, Result, Ok, Err, refl, sym, ap, ◌∙◌, subst}
+use Rattle.std.proofs.Common.{◌≡◌, ℕ, ◌+◌, ◌≤◌, ◌<◌, Bool, true, false, not, nat_lt, IfOk, OnErr, List, [], ◌∷◌, Option, Some, None, Result, Ok, Err, refl, sym, ap, ◌∙◌, subst}
 use Rattle.sc_entry.specs.Causes.{Rose}
 use Rattle.sc_entry.specs.Keys.{IsStoreKey, is_store_key}
 use Rattle.sc_entry.specs.declared.cache_mode.CacheMode.{CacheMode}
 use Rattle.sc_entry.specs.declared.memory.NoMemory.{NoMemory}
-use Rattle.sc_model.specs.Plan.{reads_only}
-use Rattle.sc_model.specs.Script.{is_single}
-use Rattle.sc_model.specs.World.{Evicts, Evicts_unless, IsRefused, Level, Reserves, causes, drop_file, drop_part, early_cause, or_cause, read_only_store, room_cause, size_of, write_cause}
+use Rattle.sc_model.specs.World.{Evicts, Evicts_unless, IsRefused, Level, Reserves, causes, drop_file, drop_part, early_cause, or_cause, read_only_store, refuses_writes, room_cause, size_of, write_cause}
 use Rattle.sc_model.specs.declared.event.Written.{Written}
 use Rattle.sc_model.specs.declared.event.Written.TheVariants.{Done as WriteDone, Refused as WriteRefused}
 use Rattle.sc_model.specs.declared.level.Cause.{Cause}
@@ -45,13 +43,13 @@ early_key false true x h = refl
 early_key false false x h = cc
 
 pub early-is-all : (p : Policy) (f : LevelFacts) (r : ℕ) (k : List ℕ) (n : ℕ) (c : Cause) → early_cause p f k ≡ Some c → write_cause p f r k n ≡ Some c
-early-is-all p f r k n c h = early_all (is_single p && reads_only f.configured) (not (is_store_key k)) (ForReading (read_only_store f f.wrapped)) c (room_cause f.kind f.capacity r n) h
+early-is-all p f r k n c h = early_all (refuses_writes p f) (not (is_store_key k)) (ForReading (read_only_store f f.wrapped)) c (room_cause f.kind f.capacity r n) h
 
 pub none-is-room : (p : Policy) (f : LevelFacts) (r : ℕ) (k : List ℕ) (n : ℕ) → early_cause p f k ≡ None → write_cause p f r k n ≡ room_cause f.kind f.capacity r n
-none-is-room p f r k n h = early_rest (is_single p && reads_only f.configured) (not (is_store_key k)) (ForReading (read_only_store f f.wrapped)) (room_cause f.kind f.capacity r n) h
+none-is-room p f r k n h = early_rest (refuses_writes p f) (not (is_store_key k)) (ForReading (read_only_store f f.wrapped)) (room_cause f.kind f.capacity r n) h
 
 pub early-good : (p : Policy) (f : LevelFacts) (k : List ℕ) → early_cause p f k ≡ None → IsStoreKey k
-early-good p f k h = early_key (is_single p && reads_only f.configured) (is_store_key k) (ForReading (read_only_store f f.wrapped)) h
+early-good p f k h = early_key (refuses_writes p f) (is_store_key k) (ForReading (read_only_store f f.wrapped)) h
 
 -- a cause that is found early
 IsEarly : Cause → Type 0
@@ -79,7 +77,7 @@ early_refused p f r k n Io v e h = absurd e
 early_refused p f r k n (RemoteRefused d) v e h = absurd e
 
 pub early-moved : (p : Policy) (f : LevelFacts) (r : ℕ) (k : List ℕ) (n : ℕ) (c : Cause) (v : Level) → early_cause p f k ≡ Some c → Reserves f.capacity (causes p f r k n) r n (WriteRefused c) v v
-early-moved p f r k n c v h = early_refused p f r k n c v (is_early (is_single p && reads_only f.configured) (not (is_store_key k)) f c h) (early-is-all p f r k n c h)
+early-moved p f r k n c v h = early_refused p f r k n c v (is_early (refuses_writes p f) (not (is_store_key k)) f c h) (early-is-all p f r k n c h)
 
 early_told : (p : Policy) (f : LevelFacts) (r : ℕ) (k : List ℕ) (n : ℕ) (c : Cause) (v : Level) → IsEarly c → write_cause p f r k n ≡ Some c → ReserveCause (causes p f r k n) (IsRefused_of c) v v
 unfolding IsEarly
@@ -92,7 +90,7 @@ early_told p f r k n Io v e h = absurd e
 early_told p f r k n (RemoteRefused d) v e h = absurd e
 
 pub early-cause : (p : Policy) (f : LevelFacts) (r : ℕ) (k : List ℕ) (n : ℕ) (c : Cause) (v : Level) → early_cause p f k ≡ Some c → ReserveCause (causes p f r k n) (IsRefused_of c) v v
-early-cause p f r k n c v h = early_told p f r k n c v (is_early (is_single p && reads_only f.configured) (not (is_store_key k)) f c h) (early-is-all p f r k n c h)
+early-cause p f r k n c v h = early_told p f r k n c v (is_early (refuses_writes p f) (not (is_store_key k)) f c h) (early-is-all p f r k n c h)
 
 -- the store's disks refuse to open
 pub unless_same : (o : Option Cause) (capacity more : ℕ) (v w : Level) → w.main ≡ v.main → w.pre ≡ v.pre → Evicts_unless o capacity more v w

@@ -12,7 +12,7 @@ use sc_disk_cache::DiskCache;
 use sc_entry::NoMemory;
 use sc_owned::Owned;
 use sc_report::LevelSize;
-use sc_store::{Level, Levels, MemRemote};
+use sc_store::{Level, Levels, MemRemote, ReadOnlyLevel, RemoteStorage};
 use std::alloc::Global;
 
 /// What a disk store holds. It need not be opened.
@@ -27,18 +27,25 @@ fn disk_size(cache: &DiskCache<MemDisk>) -> Result<LevelSize, NoMemory>
     })
 }
 
+/// What a remote store in memory holds.
+fn remote_size(store: &RemoteStorage<MemRemote>) -> LevelSize
+    ensures { store.now.told ≡ true → result ≡ size_of store.now.room.reserved store.now.level }
+{
+    let remote = store.remote();
+    LevelSize {
+        bytes: remote.size().saturating_add(store.reserved()),
+        entries: remote.len() as u64,
+    }
+}
+
 fn size_of(level: &Level<MemRemote, MemDisk>) -> Result<LevelSize, NoMemory>
     ensures { (held_level level.now).told ≡ true → IfOk result (λ size. size ≡ size_of (held_level level.now).room.reserved (held_level level.now).level) }
 {
     match level {
-        Level::Remote(store) => {
-            let remote = store.remote();
-            Ok(LevelSize {
-                bytes: remote.size().saturating_add(level.reserved()),
-                entries: remote.len() as u64,
-            })
-        }
+        Level::Remote(store) => Ok(remote_size(store)),
         Level::Disk(store) => disk_size(store.cache()),
+        Level::ReadOnly(ReadOnlyLevel::Remote(only)) => Ok(remote_size(&only.store)),
+        Level::ReadOnly(ReadOnlyLevel::Disk(only)) => disk_size(only.store.cache()),
     }
 }
 

@@ -1,5 +1,5 @@
 -- What the parts hold, and how an event of a request or a handed write moves it.
-use Rattle.std.specs.Prelude.{◌≡◌, ℕ, ◌+◌, ◌-◌, ◌^◌, min, ◌<◌, ◌≤◌, Bool, true, false, ◌&&◌, not, if◌then◌else◌, List, [], ◌∷◌, ◌++◌, length, Option, Some, None, slice_index_or, slice_set, ◌⊎◌, codes, bytes_eq, IsTrue, nat_lt}
+use Rattle.std.specs.Prelude.{◌≡◌, ℕ, ◌+◌, ◌-◌, ◌^◌, min, ◌<◌, ◌≤◌, Bool, true, false, ◌&&◌, ◌||◌, not, if◌then◌else◌, List, [], ◌∷◌, ◌++◌, length, Option, Some, None, slice_index_or, slice_set, ◌⊎◌, codes, bytes_eq, IsTrue, nat_lt}
 use Rattle.sc_entry.specs.Entries.{has_name}
 use Rattle.sc_model.specs.Devices.{Calls, MakesOn}
 use Rattle.sc_model.specs.Follows.{kind_at}
@@ -244,12 +244,17 @@ abbrev pub room_cause : LevelKind → ℕ → ℕ → ℕ → Option Cause
 room_cause Disk capacity r n = or_cause (nat_lt capacity n) FileTooLarge (or_cause (nat_lt capacity (n + r)) NoRoom None)
 room_cause Remote capacity r n = None
 
--- causes that are found before the store is opened: the mode of a single store, then the key
+-- A single store is asked for each write and refuses it where it was made to be read alone. Among levels such a level isn't asked;
+-- a read-only wrapper refuses each write, whoever asks.
+abbrev pub refuses_writes : Policy → LevelFacts → Bool
+refuses_writes p f = f.wrapped || (is_single p && reads_only f.configured)
+
+-- causes that are found before the store is opened: the mode, then the key
 abbrev pub early_cause : Policy → LevelFacts → List ℕ → Option Cause
-early_cause p f k = or_cause (is_single p && reads_only f.configured) (ForReading (read_only_store f f.wrapped)) (or_cause (not (is_store_key k)) BadKey None)
+early_cause p f k = or_cause (refuses_writes p f) (ForReading (read_only_store f f.wrapped)) (or_cause (not (is_store_key k)) BadKey None)
 
 abbrev pub write_cause : Policy → LevelFacts → ℕ → List ℕ → ℕ → Option Cause
-write_cause p f r k n = or_cause (is_single p && reads_only f.configured) (ForReading (read_only_store f f.wrapped)) (or_cause (not (is_store_key k)) BadKey (room_cause f.kind f.capacity r n))
+write_cause p f r k n = or_cause (refuses_writes p f) (ForReading (read_only_store f f.wrapped)) (or_cause (not (is_store_key k)) BadKey (room_cause f.kind f.capacity r n))
 
 -- the causes of one write: those before its store is opened, and all
 pub record Causes : Type 0 where

@@ -1,5 +1,5 @@
 -- How a state moves by what opened, filled and closed an entry at one of its disk levels.
-use Rattle.std.proofs.Common.{◌≡◌, ◌≢◌, ◌==◌, ℕ, ◌+◌, ◌≤◌, Bool, true, false, ◌&&◌, not, List, [], length, slice_set, Option, None, refl, ap, arith, sym, subst, ◌∙◌, eqb-true, eq-eqb}
+use Rattle.std.proofs.Common.{◌≡◌, ◌≢◌, ◌==◌, ℕ, ◌+◌, ◌≤◌, Bool, true, false, not, List, [], length, slice_set, Option, None, refl, ap, arith, sym, subst, ◌∙◌, eqb-true, eq-eqb}
 use Rattle.std.specs.Option.{option_map_or}
 use Rattle.sc_disk.specs.Store.{AddEntry}
 use Rattle.sc_disk_cache.specs.DiskStores.{DiskStore, OpenEntry, entry_at, entry_path}
@@ -13,9 +13,7 @@ use Rattle.sc_entry.specs.Keys.{IsStoreKey, is_store_key, make_key_path}
 use Rattle.sc_hold.specs.Holding.{Holds, IsGood, OpensNone, ReservesBy, filled_of}
 use Rattle.sc_job.specs.Setups.{setup}
 use Rattle.sc_model.specs.Follows.{kind_at}
-use Rattle.sc_model.specs.Plan.{reads_only}
-use Rattle.sc_model.specs.Script.{is_single}
-use Rattle.sc_model.specs.World.{Commits, Fills, Later, Level, Moves, Need, World, causes, or_cause, read_only_store, room_cause}
+use Rattle.sc_model.specs.World.{Commits, Fills, Later, Level, Moves, Need, World, causes, or_cause, read_only_store, refuses_writes, room_cause}
 use Rattle.sc_model.specs.declared.event.What.{What}
 use Rattle.sc_model.specs.declared.event.What.TheVariants.{Committed, Filled, Reserved}
 use Rattle.sc_model.specs.declared.event.Written.{Written}
@@ -90,7 +88,7 @@ key_good false true x rest h = refl
 key_good false false x rest h = absurd (cc)
 
 pub good_key : (p : Policy) (f : LevelFacts) (r : ℕ) (key : List ℕ) (size : ℕ) (how : Reservation) (v w : Level) → ReserveCause (causes p f r key size) how v w → IsGood how key
-good_key p f r key size (Open e) v w cause = key_good (is_single p && reads_only f.configured) (is_store_key key) (ForReading (read_only_store f f.wrapped)) (room_cause f.kind f.capacity r size) cause
+good_key p f r key size (Open e) v w cause = key_good (refuses_writes p f) (is_store_key key) (ForReading (read_only_store f f.wrapped)) (room_cause f.kind f.capacity r size) cause
 good_key p f r key size (NotReserved c) v w cause = tt
 
 -- An entry that is held is open.

@@ -1,5 +1,5 @@
 -- A put at a disk level: its reservation, its fill and its commit in one.
-use Rattle.std.proofs.Common.{◌≡◌, ◌≢◌, ◌==◌, eqb-true, eq-eqb, ℕ, ◌+◌, ◌≤◌, Bool, true, false, ◌&&◌, not, IsTrue, List, [], ◌∷◌, length, slice_set, Option, Some, None, refl, arith, subst, sym, ap, ◌∙◌, set-set, length-set, inr, Result, Ok, Err, IfOk}
+use Rattle.std.proofs.Common.{◌≡◌, ◌≢◌, ◌==◌, eqb-true, eq-eqb, ℕ, ◌+◌, ◌≤◌, Bool, true, false, not, IsTrue, List, [], ◌∷◌, length, slice_set, Option, Some, None, refl, arith, subst, sym, ap, ◌∙◌, set-set, length-set, inr, Result, Ok, Err, IfOk}
 use Rattle.std.specs.Option.{option_map_or}
 use Rattle.sc_disk.specs.Store.{AddEntry}
 use Rattle.sc_disk_cache.specs.DiskStores.{DiskStore, OpenEntry, entry_at, entry_path}
@@ -12,9 +12,8 @@ use Rattle.sc_disk_cache.specs.declared.reserving.Reservation.{Reservation}
 use Rattle.sc_disk_cache.specs.declared.reserving.Reservation.TheVariants.{Open}
 use Rattle.sc_entry.proofs.Gatherings.{rose_later}
 use Rattle.sc_entry.specs.Keys.{is_store_key, make_key_path}
-use Rattle.sc_model.specs.Plan.{level_facts, reads_only}
-use Rattle.sc_model.specs.Script.{is_single}
-use Rattle.sc_model.specs.World.{Causes, Evicts, Evicts_unless, IsFault, Later, Level, Reserves, causes, drop_part, is_later, or_cause, put_file, read_only_store, room_cause, same_maps}
+use Rattle.sc_model.specs.Plan.{level_facts}
+use Rattle.sc_model.specs.World.{Causes, Evicts, Evicts_unless, IsFault, Later, Level, Reserves, causes, drop_part, is_later, or_cause, put_file, read_only_store, refuses_writes, room_cause, same_maps}
 use Rattle.sc_model.specs.declared.event.Written.{Written}
 use Rattle.sc_model.specs.declared.event.Written.TheVariants.{Done, Refused}
 use Rattle.sc_model.specs.declared.level.Cause.{Cause}
@@ -124,7 +123,7 @@ or_early false true x rest h = absurd (cc)
 or_early false false x rest h = refl
 
 none_early : (p : Policy) (f : LevelFacts) (r : ℕ) (key : List ℕ) (size : ℕ) → (causes p f r key size).all ≡ None → (causes p f r key size).early ≡ None
-none_early p f r key size h = or_early (is_single p && reads_only f.configured) (not (is_store_key key)) (ForReading (read_only_store f f.wrapped)) (room_cause f.kind f.capacity r size) h
+none_early p f r key size h = or_early (refuses_writes p f) (not (is_store_key key)) (ForReading (read_only_store f f.wrapped)) (room_cause f.kind f.capacity r size) h
 
 evicts_to : (capacity more : ℕ) (ps : List (Bool × List ℕ)) (v u w : Level) → same_maps u w → Evicts capacity more ps v u → Evicts capacity more ps v w
 evicts_to capacity more [] v u w same h = (same.0 ∙ h.0, same.1 ∙ h.1)

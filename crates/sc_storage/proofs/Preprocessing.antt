@@ -1,5 +1,5 @@
 -- Lookups and puts of the preprocessor's entries, level by level.
-use Rattle.std.proofs.Common.{◌≡◌, ℕ, suc, ◌-◌, ◌<◌, Bool, true, List, length, Some, Result, Ok, Err, IfOk, IfErr, subst, sym}
+use Rattle.std.proofs.Common.{◌≡◌, ℕ, suc, ◌-◌, ◌<◌, Bool, true, false, List, length, Some, Result, Ok, Err, IfOk, IfErr, subst, sym}
 use Rattle.sc_disk_cache.specs.Moving.{SameEntries}
 use Rattle.sc_disk_cache.specs.Preprocessor.{PreCause, PutsPre as PutsOnDisk}
 use Rattle.sc_model.specs.Plan.{level_facts}
@@ -9,6 +9,8 @@ use Rattle.sc_model.specs.declared.event.Mode.TheVariants.{Pre}
 use Rattle.sc_model.specs.declared.event.Written.{Written}
 use Rattle.sc_model.specs.declared.event.Written.TheVariants.{Done, Refused}
 use Rattle.sc_model.specs.declared.level.Cause.{Cause}
+use Rattle.sc_model.specs.declared.level.Cause.TheVariants.{ReadOnly as ForReading}
+use Rattle.sc_model.specs.declared.level.Store.TheVariants.{Wrapper}
 use Rattle.sc_model.specs.declared.level.LevelKind.{LevelKind}
 use Rattle.sc_model.specs.declared.level.LevelKind.TheVariants.{Disk, Remote}
 use Rattle.sc_model.specs.declared.level.Policy.TheVariants.{Single}
@@ -18,7 +20,7 @@ use Rattle.sc_storage.specs.Preprocessor.{AsksFrom, GoesOn, PutsPreAt, is_miss}
 use Rattle.sc_storage.specs.Storages.{IsWritten, PrePutRefused, PutsPreAlone, PutsPreDisk}
 use Rattle.sc_storage.specs.declared.storage_error.StorageError.{StorageError}
 use Rattle.sc_storage.specs.declared.storage_error.StorageError.TheVariants.{Level as LevelRefused, NoLevels, NoMemory, Refused as NotPut, Unsupported}
-use Rattle.sc_store.specs.Asking.{AloneAt, PreCauseAt, PreCauseBy, PutsPre}
+use Rattle.sc_store.specs.Asking.{AloneAt, PreCauseAt, PreCauseBy, PreCauseOf, PutsPre}
 use Rattle.sc_store.specs.Held.{Held, HeldLevel, disk_in, disk_of, level_in, marks_in}
 
 -- a level's lookup before those that are left
@@ -32,9 +34,9 @@ turn count l next key missed first answer old between new h after is asked goes 
 -- a put at one level, by what it was answered
 pub put_at : {E : Type 0} (r : Result Written E) (l : ℕ) (key bytes : List ℕ) (old new : Held) → AloneAt l old new → Later (level_in old.levels l) (level_in new.levels l) → SameEntries (disk_in old l) (disk_in new l)
     → marks_in new.marks l ≡ marks_in old.marks l → IfOk r (λ how. PutsPre old.policy key bytes how (disk_in old l) (disk_in new l)) → IfOk r (λ how. PreCauseAt old.policy key bytes how (disk_in old l) (disk_in new l))
-    → ((level_facts old.facts l).kind ≡ Disk → (c : Cause) → early_cause old.policy (level_facts old.facts l) key ≡ Some c → (r ≡ Ok (Refused c)) × (new ≡ old)) → ((level_facts old.facts l).kind ≡ Remote → (r ≡ Ok Done) × (new ≡ old))
-    → IfOk r (λ how. PutsPreAt l key bytes how old new)
-put_at (Ok how) l key bytes old new alone later entries marks put cause early remote = record {
+    → ((level_facts old.facts l).kind ≡ Disk → (c : Cause) → early_cause old.policy (level_facts old.facts l) key ≡ Some c → (r ≡ Ok (Refused c)) × (new ≡ old)) → ((level_facts old.facts l).kind ≡ Remote → (level_facts old.facts l).wrapped ≡ false → (r ≡ Ok Done) × (new ≡ old))
+    → ((level_facts old.facts l).wrapped ≡ true → (r ≡ Ok (Refused (ForReading Wrapper))) × (new ≡ old)) → IfOk r (λ how. PutsPreAt l key bytes how old new)
+put_at (Ok how) l key bytes old new alone later entries marks put cause early remote only_read = record {
   alone = alone;
   later = later;
   entries = entries;
@@ -42,12 +44,14 @@ put_at (Ok how) l key bytes old new alone later entries marks put cause early re
   put = put;
   cause = cause;
   early = λ kind c is. let h = early kind c is in let ended = h.0 in let same : how ≡ Refused c = cc (ended) in (same, h.1);
-  remote = λ kind. let h = remote kind in let ended = h.0 in let same : how ≡ Done = cc (ended) in (same, h.1);
+  remote = λ kind bare. let h = remote kind bare in let ended = h.0 in let same : how ≡ Done = cc (ended) in (same, h.1);
+  only_read = λ wrapped. let h = only_read wrapped in let ended = h.0 in let same : how ≡ Refused (ForReading Wrapper) = cc (ended) in (same, h.1);
 }
-put_at (Err e) l key bytes old new alone later entries marks put cause early remote = tt
+put_at (Err e) l key bytes old new alone later entries marks put cause early remote only_read = tt
 
-cause_at : (kind : LevelKind) (key bytes : List ℕ) (how : Written) (old new : HeldLevel) → kind ≡ Disk → PreCause (early_cause Single old.facts key) bytes how (disk_of old) (disk_of new) → PreCauseBy kind (early_cause Single old.facts key) bytes how (disk_of old) (disk_of new)
-cause_at kind key bytes how old new is cause = subst (λ (k : LevelKind). PreCauseBy k (early_cause Single old.facts key) bytes how (disk_of old) (disk_of new)) (sym is) cause
+cause_at : (wrapped : Bool) (kind : LevelKind) (key bytes : List ℕ) (how : Written) (old new : HeldLevel) → wrapped ≡ false → kind ≡ Disk → PreCause (early_cause Single old.facts key) bytes how (disk_of old) (disk_of new) → PreCauseOf wrapped kind (early_cause Single old.facts key) bytes how (disk_of old) (disk_of new)
+cause_at wrapped kind key bytes how old new bare is cause =
+    subst (λ (w : Bool). PreCauseOf w kind (early_cause Single old.facts key) bytes how (disk_of old) (disk_of new)) (sym bare) (subst (λ (k : LevelKind). PreCauseBy k (early_cause Single old.facts key) bytes how (disk_of old) (disk_of new)) (sym is) cause)
 
 puts_at : (kind : LevelKind) (key bytes : List ℕ) (how : Written) (old new : HeldLevel) → kind ≡ Disk → PutsOnDisk Single key bytes how (disk_of old) (disk_of new) → old.told ≡ true
     → Puts_pre old.facts kind (causes Single old.facts old.room.reserved key (length bytes)) old.room.reserved key bytes how old.level new.level
@@ -55,17 +59,17 @@ puts_at kind key bytes how old new is puts told =
     subst (λ (k : LevelKind). Puts_pre old.facts k (causes Single old.facts old.room.reserved key (length bytes)) old.room.reserved key bytes how old.level new.level) (sym is) (puts told)
 
 -- a put at a disk store that stands alone
-pub put_alone : {E : Type 0} (r : Result Written E) (key bytes : List ℕ) (old new : HeldLevel) → old.facts.kind ≡ Disk → Later old.level new.level → new.marks ≡ old.marks
+pub put_alone : {E : Type 0} (r : Result Written E) (key bytes : List ℕ) (old new : HeldLevel) → old.facts.wrapped ≡ false → old.facts.kind ≡ Disk → Later old.level new.level → new.marks ≡ old.marks
     → IfOk r (λ how. PutsOnDisk Single key bytes how (disk_of old) (disk_of new)) → IfOk r (λ how. PreCause (early_cause Single old.facts key) bytes how (disk_of old) (disk_of new))
     → ((c : Cause) → early_cause Single old.facts key ≡ Some c → (r ≡ Ok (Refused c)) × (new ≡ old)) → IfOk r (λ how. PutsPreDisk key bytes how old new)
-put_alone (Ok how) key bytes old new kind later marks put cause early = record {
+put_alone (Ok how) key bytes old new bare kind later marks put cause early = record {
   later = later;
   marks = marks;
   wrote = puts_at old.facts.kind key bytes how old new kind put;
-  cause = cause_at old.facts.kind key bytes how old new kind cause;
+  cause = cause_at old.facts.wrapped old.facts.kind key bytes how old new bare kind cause;
   early = λ c is. let h = early c is in let ended = h.0 in let same : how ≡ Refused c = cc (ended) in (same, h.1);
 }
-put_alone (Err e) key bytes old new kind later marks put cause early = tt
+put_alone (Err e) key bytes old new bare kind later marks put cause early = tt
 
 -- and how it ended, as the end of the call
 pub was_put : {A : Type 0} (r : Result A StorageError) (kind : LevelKind) (key bytes : List ℕ) (how : Written) (a b : HeldLevel) → kind ≡ Disk → PutsPreDisk key bytes how a b → IfOk r (λ _. how ≡ Done) → IfOk r (λ _. PutsPreAlone kind key bytes Done a b)

@@ -6,3 +6,4 @@ pub mod Puts
 pub mod Sizes
 pub mod Storages
 pub mod Stores
+pub mod Telling

@@ -9,6 +9,8 @@ use Rattle.sc_model.specs.declared.event.Mode.TheVariants.{Pre}
 use Rattle.sc_model.specs.declared.event.Written.{Written}
 use Rattle.sc_model.specs.declared.event.Written.TheVariants.{Done, Refused}
 use Rattle.sc_model.specs.declared.level.Cause.{Cause}
+use Rattle.sc_model.specs.declared.level.Cause.TheVariants.{ReadOnly as ForReading}
+use Rattle.sc_model.specs.declared.level.Store.TheVariants.{Wrapper}
 use Rattle.sc_model.specs.declared.level.LevelKind.TheVariants.{Disk, Remote}
 use Rattle.sc_storage.specs.Lookups.{AskedAt}
 use Rattle.sc_store.specs.Asking.{AloneAt, PreCauseAt, PutsPre}
@@ -41,7 +43,8 @@ pub record PutsPreAt (l : ℕ) (key bytes : List ℕ) (how : Written) (old new :
   pub put : PutsPre old.policy key bytes how (disk_in old l) (disk_in new l)
   pub cause : PreCauseAt old.policy key bytes how (disk_in old l) (disk_in new l)
   pub early : (level_facts old.facts l).kind ≡ Disk → (c : Cause) → early_cause old.policy (level_facts old.facts l) key ≡ Some c → (how ≡ Refused c) × (new ≡ old)
-  pub remote : (level_facts old.facts l).kind ≡ Remote → (how ≡ Done) × (new ≡ old)
+  pub remote : (level_facts old.facts l).kind ≡ Remote → (level_facts old.facts l).wrapped ≡ false → (how ≡ Done) × (new ≡ old)
+  pub only_read : (level_facts old.facts l).wrapped ≡ true → (how ≡ Refused (ForReading Wrapper)) × (new ≡ old)
 
 -- It is put at each of these levels in order, whatever that comes to.
 abbrev pub PutsPreEach : List ℕ → List ℕ → List ℕ → Held → Held → Type 0

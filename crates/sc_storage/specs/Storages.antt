@@ -42,6 +42,9 @@ use Rattle.sc_store.specs.Checking.{ChecksLevel, facts_after}
 use Rattle.sc_store.specs.Held.{HeldLevel, disk_of}
 use Rattle.sc_store.specs.Telling.{level_max, store_location, store_max, store_type}
 use Rattle.sc_store.specs.declared.checked.Checked.{Checked}
+use Rattle.sc_store.specs.declared.level.Level.{Level}
+use Rattle.sc_store.specs.declared.level.Level.TheVariants.{Disk as DiskLevel, ReadOnly as OnlyRead, Remote as RemoteLevel}
+use Rattle.sc_store.specs.declared.read_only.ReadOnlyLevel.TheVariants.{Disk as DiskOnly, Remote as RemoteOnly}
 use Rattle.sc_store.specs.declared.checked.Checked.TheVariants.{Mode as Found, Refused as CheckRefused}
 
 -- A store that stands alone, levels as one store, or a store that is only read.
@@ -49,6 +52,13 @@ pub data State : Type 0 where
   Alone : (level : HeldLevel) → State
   Layered : (levels : Multilevel) → State
   Wrapped : (inner : State) → State
+
+-- a level by itself
+abbrev pub level_state : {R : Type 0} {D : Type 0} → Level R D → State
+level_state (RemoteLevel store) = Alone store
+level_state (DiskLevel store) = Alone store
+level_state (OnlyRead (RemoteOnly only)) = Wrapped (Alone only.store)
+level_state (OnlyRead (DiskOnly only)) = Wrapped (Alone only.store)
 
 -- What a store tells of itself.
 

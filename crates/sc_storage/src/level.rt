@@ -1,22 +1,23 @@
-//! A store of either kind that stands alone, asked as any store.
-ghost use Rattle.sc_storage.specs.Storages.{State};
-ghost use Rattle.sc_store.specs.Levels.{held_level};
+//! A store of any kind that stands alone, asked as any store.
+ghost use Rattle.sc_storage.specs.Storages.{level_state};
 
 use crate::storage::Storage;
 use crate::storage_error::StorageError;
 use sc_disk::Disk;
 use sc_entry::{ByteText, Cache, CacheMode, CacheWrite, GetPathResult, Items, NoMemory, Text};
 use sc_stats::LevelStats;
-use sc_store::{Level, Remote};
+use sc_store::{Level, ReadOnlyLevel, Remote};
 use std::alloc::Global;
 
-impl<R: Remote, D: Disk + Drop> Storage for Level<R, D> {
-    ghost state = { λ l. State.Alone (held_level l) };
+impl<R: Remote + Drop, D: Disk + Drop> Storage for Level<R, D> {
+    ghost state = { λ l. level_state l };
 
     fn get(&mut self, alloc: Global, key: &Text, now: u64) -> Result<Cache, StorageError> {
         match self {
             Level::Remote(store) => store.get(alloc, key, now),
             Level::Disk(store) => store.get(alloc, key, now),
+            Level::ReadOnly(ReadOnlyLevel::Remote(store)) => store.get(alloc, key, now),
+            Level::ReadOnly(ReadOnlyLevel::Disk(store)) => store.get(alloc, key, now),
         }
     }
 
@@ -29,6 +30,8 @@ impl<R: Remote, D: Disk + Drop> Storage for Level<R, D> {
         match self {
             Level::Remote(store) => store.get_with_raw(alloc, key, now),
             Level::Disk(store) => store.get_with_raw(alloc, key, now),
+            Level::ReadOnly(ReadOnlyLevel::Remote(store)) => store.get_with_raw(alloc, key, now),
+            Level::ReadOnly(ReadOnlyLevel::Disk(store)) => store.get_with_raw(alloc, key, now),
         }
     }
 
@@ -41,6 +44,8 @@ impl<R: Remote, D: Disk + Drop> Storage for Level<R, D> {
         match self {
             Level::Remote(store) => store.get_raw(alloc, key, now),
             Level::Disk(store) => store.get_raw(alloc, key, now),
+            Level::ReadOnly(ReadOnlyLevel::Remote(store)) => store.get_raw(alloc, key, now),
+            Level::ReadOnly(ReadOnlyLevel::Disk(store)) => store.get_raw(alloc, key, now),
         }
     }
 
@@ -53,6 +58,12 @@ impl<R: Remote, D: Disk + Drop> Storage for Level<R, D> {
         match self {
             Level::Remote(store) => store.get_preprocessor_cache_entry(alloc, key, now),
             Level::Disk(store) => store.get_preprocessor_cache_entry(alloc, key, now),
+            Level::ReadOnly(ReadOnlyLevel::Remote(store)) => store.get_preprocessor_cache_entry(
+                alloc, key, now,
+            ),
+            Level::ReadOnly(ReadOnlyLevel::Disk(store)) => store.get_preprocessor_cache_entry(
+                alloc, key, now,
+            ),
         }
     }
 
@@ -66,6 +77,8 @@ impl<R: Remote, D: Disk + Drop> Storage for Level<R, D> {
         match self {
             Level::Remote(store) => store.put(alloc, key, entry, now),
             Level::Disk(store) => store.put(alloc, key, entry, now),
+            Level::ReadOnly(ReadOnlyLevel::Remote(store)) => store.put(alloc, key, entry, now),
+            Level::ReadOnly(ReadOnlyLevel::Disk(store)) => store.put(alloc, key, entry, now),
         }
     }
 
@@ -79,6 +92,8 @@ impl<R: Remote, D: Disk + Drop> Storage for Level<R, D> {
         match self {
             Level::Remote(store) => store.put_raw(alloc, key, bytes, now),
             Level::Disk(store) => store.put_raw(alloc, key, bytes, now),
+            Level::ReadOnly(ReadOnlyLevel::Remote(store)) => store.put_raw(alloc, key, bytes, now),
+            Level::ReadOnly(ReadOnlyLevel::Disk(store)) => store.put_raw(alloc, key, bytes, now),
         }
     }
 
@@ -92,6 +107,12 @@ impl<R: Remote, D: Disk + Drop> Storage for Level<R, D> {
         match self {
             Level::Remote(store) => store.put_preprocessor_cache_entry(alloc, key, bytes, now),
             Level::Disk(store) => store.put_preprocessor_cache_entry(alloc, key, bytes, now),
+            Level::ReadOnly(ReadOnlyLevel::Remote(store)) => store.put_preprocessor_cache_entry(
+                alloc, key, bytes, now,
+            ),
+            Level::ReadOnly(ReadOnlyLevel::Disk(store)) => store.put_preprocessor_cache_entry(
+                alloc, key, bytes, now,
+            ),
         }
     }
 
@@ -99,6 +120,8 @@ impl<R: Remote, D: Disk + Drop> Storage for Level<R, D> {
         match self {
             Level::Remote(store) => store.get_path(alloc, key, now),
             Level::Disk(store) => store.get_path(alloc, key, now),
+            Level::ReadOnly(ReadOnlyLevel::Remote(store)) => store.get_path(alloc, key, now),
+            Level::ReadOnly(ReadOnlyLevel::Disk(store)) => store.get_path(alloc, key, now),
         }
     }
 
@@ -106,6 +129,8 @@ impl<R: Remote, D: Disk + Drop> Storage for Level<R, D> {
         match self {
             Level::Remote(store) => Storage::check(store, alloc),
             Level::Disk(store) => Storage::check(store, alloc),
+            Level::ReadOnly(ReadOnlyLevel::Remote(store)) => Storage::check(store, alloc),
+            Level::ReadOnly(ReadOnlyLevel::Disk(store)) => Storage::check(store, alloc),
         }
     }
 
@@ -122,6 +147,8 @@ impl<R: Remote, D: Disk + Drop> Storage for Level<R, D> {
         match self {
             Level::Remote(store) => store.current_size(),
             Level::Disk(store) => store.current_size(),
+            Level::ReadOnly(ReadOnlyLevel::Remote(store)) => store.current_size(),
+            Level::ReadOnly(ReadOnlyLevel::Disk(store)) => store.current_size(),
         }
     }
 

@@ -5,6 +5,7 @@ mod alone;
 mod checking;
 mod counting;
 mod disk;
+mod facts;
 mod layered;
 mod level;
 mod lookup;
@@ -17,7 +18,8 @@ mod sizes;
 mod storage;
 mod storage_error;
 
+pub use facts::StorageFacts;
 pub use multilevel::MultiLevelStorage;
-pub use read_only::ReadOnlyStorage;
+pub use sc_store::ReadOnlyStorage;
 pub use storage::Storage;
 pub use storage_error::StorageError;

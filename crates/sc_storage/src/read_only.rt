@@ -6,18 +6,15 @@ use crate::storage_error::StorageError;
 use sc_entry::{ByteText, Cache, CacheMode, CacheWrite, GetPathResult, Items, NoMemory, Text};
 use sc_model::{Cause, Store};
 use sc_stats::LevelStats;
+use sc_store::ReadOnlyStorage;
 use std::alloc::Global;
 
-/// A store that is only read: it refuses each put, and hides what its levels count. Over levels a lookup may still put a
-/// hit's bytes at the levels before it.
-#[derive(Drop)]
-pub struct ReadOnlyStorage<S: Storage>(pub S);
-
+/// It hides what the levels of its store count. Over levels a lookup may still put a hit's bytes at the levels before it.
 impl<S: Storage + Drop> Storage for ReadOnlyStorage<S> {
-    ghost state = { λ s. State.Wrapped (S.state s.0) };
+    ghost state = { λ s. State.Wrapped (S.state s.store) };
 
     fn get(&mut self, alloc: Global, key: &Text, now: u64) -> Result<Cache, StorageError> {
-        self.0.get(alloc, key, now)
+        self.store.get(alloc, key, now)
     }
 
     fn get_with_raw(
@@ -26,7 +23,7 @@ impl<S: Storage + Drop> Storage for ReadOnlyStorage<S> {
         key: &Text,
         now: u64,
     ) -> Result<(Cache, Option<ByteText>), StorageError> {
-        self.0.get_with_raw(alloc, key, now)
+        self.store.get_with_raw(alloc, key, now)
     }
 
     fn get_raw(
@@ -35,7 +32,7 @@ impl<S: Storage + Drop> Storage for ReadOnlyStorage<S> {
         key: &Text,
         now: u64,
     ) -> Result<Option<ByteText>, StorageError> {
-        self.0.get_raw(alloc, key, now)
+        self.store.get_raw(alloc, key, now)
     }
 
     fn get_preprocessor_cache_entry(
@@ -44,7 +41,7 @@ impl<S: Storage + Drop> Storage for ReadOnlyStorage<S> {
         key: &Text,
         now: u64,
     ) -> Result<Option<ByteText>, StorageError> {
-        self.0.get_preprocessor_cache_entry(alloc, key, now)
+        self.store.get_preprocessor_cache_entry(alloc, key, now)
     }
 
     fn put(
@@ -92,19 +89,19 @@ impl<S: Storage + Drop> Storage for ReadOnlyStorage<S> {
     }
 
     fn location(&self, alloc: Global) -> Result<Text, NoMemory> {
-        self.0.location(alloc)
+        self.store.location(alloc)
     }
 
     fn cache_type_name(&self) -> &str {
-        self.0.cache_type_name()
+        self.store.cache_type_name()
     }
 
     fn current_size(&self) -> Option<u64> {
-        self.0.current_size()
+        self.store.current_size()
     }
 
     fn max_size(&self) -> Option<u64> {
-        self.0.max_size()
+        self.store.max_size()
     }
 
     fn multilevel_stats(&self, _alloc: Global) -> Result<Option<Items<LevelStats>>, NoMemory> {
@@ -112,10 +109,10 @@ impl<S: Storage + Drop> Storage for ReadOnlyStorage<S> {
     }
 
     fn use_preprocessor_cache_mode(&self) -> bool {
-        self.0.use_preprocessor_cache_mode()
+        self.store.use_preprocessor_cache_mode()
     }
 
     fn basedirs(&self) -> &[ByteText] {
-        self.0.basedirs()
+        self.store.basedirs()
     }
 }

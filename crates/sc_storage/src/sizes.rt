@@ -7,7 +7,7 @@ ghost use Rattle.sc_store.specs.Levels.{held_level};
 ghost use Rattle.sc_store.specs.Telling.{known};
 
 use sc_disk::Disk;
-use sc_store::{Level, Levels, Remote};
+use sc_store::{Level, Levels, ReadOnlyLevel, Remote};
 
 /// What one level takes, as far as that is known.
 fn level_size<R: Remote, D: Disk>(level: &Level<R, D>) -> u64
@@ -21,6 +21,14 @@ fn level_size<R: Remote, D: Disk>(level: &Level<R, D>) -> u64
         Level::Disk(store) => {
             store.keeps();
             store.cache().current_size().unwrap_or(0)
+        }
+        Level::ReadOnly(ReadOnlyLevel::Remote(only)) => {
+            let _remote = only.store.kind();
+            0
+        }
+        Level::ReadOnly(ReadOnlyLevel::Disk(only)) => {
+            only.store.keeps();
+            only.store.cache().current_size().unwrap_or(0)
         }
     }
 }

@@ -3,7 +3,8 @@ use crate::levels::{OneLevel, Storage as Layered, disk, disk_level, remote, stor
 use sc_disk::Disk;
 use sc_entry::{ByteText, Cache, CacheMode, CacheWrite, Items, Text};
 use sc_model::LevelPolicy;
-use sc_storage::{MultiLevelStorage, ReadOnlyStorage, Storage, StorageError};
+use sc_stats::{ServerInfo, ServerStats};
+use sc_storage::{MultiLevelStorage, ReadOnlyStorage, Storage, StorageError, StorageFacts};
 use sc_store::{DiskCache, DiskStorage, Level, MemRemote, RemoteStorage};
 use std::alloc::Global;
 use std::test::Fail;
@@ -241,7 +242,8 @@ fn put_over_no_levels_is_refused(rt: HostRuntime) -> Result<(), Fail> {
 fn read_only_store(alloc: Global) -> Result<ReadOnlyStorage<Layered>, Fail> {
     let mut levels = vec![in alloc; remote(alloc, b"")?]?;
     levels.push(remote(alloc, b"AAA")?)?;
-    Ok(ReadOnlyStorage(MultiLevelStorage::new(alloc, levels)?))
+    let store = MultiLevelStorage::new(alloc, levels)?;
+    Ok(ReadOnlyStorage { store })
 }
 
 #[test]
@@ -271,7 +273,26 @@ fn store_that_is_only_read_tells_of_the_one_in_it(rt: HostRuntime) -> Result<(),
     let store = read_only_store(alloc)?;
     assert_eq!(rt; store.location(alloc)?.as_str(), "Multi-level (2 levels)");
     assert!(rt; store.multilevel_stats(alloc)?.is_none());
-    assert_eq!(rt; store.0.stats().len(), 2);
+    assert_eq!(rt; store.store.stats().len(), 2);
+    Ok(())
+}
+
+/// What statistics are told of a store of which nothing was counted.
+fn info_of<S: Storage>(alloc: Global, store: &S) -> Result<ServerInfo, Fail> {
+    let facts = StorageFacts::new(store);
+    Ok(ServerInfo::new(alloc, ServerStats::new(alloc), Some(&facts))?)
+}
+
+#[test]
+fn statistics_are_told_of_a_store(rt: HostRuntime) -> Result<(), Fail> {
+    let alloc = rt.alloc();
+    let store = read_only_store(alloc)?;
+    let info = info_of(alloc, &store.store)?;
+    assert_eq!(rt; info.cache_location.as_str(), "Multi-level (2 levels)");
+    assert!(rt; info.stats.multi_level.is_some());
+    let hidden = info_of(alloc, &store)?;
+    assert_eq!(rt; hidden.cache_location.as_str(), "Multi-level (2 levels)");
+    assert!(rt; hidden.stats.multi_level.is_none());
     Ok(())
 }
 

@@ -10,7 +10,7 @@ use Rattle.sc_model.specs.declared.level.Policy.{Policy}
 use Rattle.sc_entry.specs.declared.cache_mode.CacheMode.{CacheMode}
 use Rattle.sc_entry.specs.declared.cache_mode.CacheMode.TheVariants.{ReadOnly, ReadWrite}
 use Rattle.sc_model.specs.declared.level.RemoteFault.{RemoteFault}
-use Rattle.sc_store.specs.Checking.{Checks, ChecksAt, ChecksLevel, ChecksRemote, Finds, Greets, ReadsCheck, facts_after, refusal_of}
+use Rattle.sc_store.specs.Checking.{Checks, ChecksAt, ChecksBy, ChecksLevel, ChecksRemote, Finds, Greets, ReadsCheck, facts_after, refusal_of}
 use Rattle.sc_store.specs.Held.{AreWithin, Held, HeldLevel, IsWithin, Room, Title, held_of, level_in, no_room, no_title, room_in, title_in}
 use Rattle.sc_store.specs.declared.checked.Checked.{Checked}
 use Rattle.sc_store.proofs.Alone.{maps, new_at, one_tells, other_set, part_at, stays, tell_stays, within_stores}
@@ -100,13 +100,17 @@ module _ (t u : Bool) (tells : t ≡ true → u ≡ true) where
   checks_telling facts Disk unchecked answer v w h = h
   checks_telling facts Remote unchecked answer v w h = remote_telling unchecked facts.configured answer v w h
 
+  by_telling : (wrapped : Bool) (facts : LevelFacts) (unchecked : Bool) (answer : Checked) (v w : Level) → ChecksBy wrapped facts unchecked answer u v w → ChecksBy wrapped facts unchecked answer t v w
+  by_telling true facts unchecked answer v w h = h
+  by_telling false facts unchecked answer v w h = checks_telling facts facts.kind unchecked answer v w h
+
 pub checks_at : (old new : Held) (l : ℕ) (before after : HeldLevel) (answer : Checked) → Turned old new l before after → ChecksLevel answer before after → ChecksAt l answer old new
 checks_at old new l before after answer m h =
-    subst (λ (f : LevelFacts). Checks f f.kind (title_in old.titles l).given.unchecked answer old.told (level_in old.levels l) (level_in new.levels l)) (sym m.facts_were)
-    (subst (λ (t : Title). Checks before.facts before.facts.kind t.given.unchecked answer old.told (level_in old.levels l) (level_in new.levels l)) (sym m.title_was)
-    (subst (λ (v : Level). Checks before.facts before.facts.kind before.title.given.unchecked answer old.told v (level_in new.levels l)) (sym m.was)
-    (subst (λ (w : Level). Checks before.facts before.facts.kind before.title.given.unchecked answer old.told before.level w) (sym m.is)
-    (checks_telling old.told before.told m.tells before.facts before.facts.kind before.title.given.unchecked answer before.level after.level h))))
+    subst (λ (f : LevelFacts). ChecksBy f.wrapped f (title_in old.titles l).given.unchecked answer old.told (level_in old.levels l) (level_in new.levels l)) (sym m.facts_were)
+    (subst (λ (t : Title). ChecksBy before.facts.wrapped before.facts t.given.unchecked answer old.told (level_in old.levels l) (level_in new.levels l)) (sym m.title_was)
+    (subst (λ (v : Level). ChecksBy before.facts.wrapped before.facts before.title.given.unchecked answer old.told v (level_in new.levels l)) (sym m.was)
+    (subst (λ (w : Level). ChecksBy before.facts.wrapped before.facts before.title.given.unchecked answer old.told before.level w) (sym m.is)
+    (by_telling old.told before.told m.tells before.facts.wrapped before.facts before.title.given.unchecked answer before.level after.level h))))
 
 -- the levels stay within their capacities
 never : false ≡ true → ⊥

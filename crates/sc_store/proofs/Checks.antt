@@ -8,7 +8,7 @@ use Rattle.sc_model.specs.declared.level.LevelFacts.{LevelFacts}
 use Rattle.sc_model.specs.declared.level.LevelKind.{LevelKind}
 use Rattle.sc_model.specs.declared.level.LevelKind.TheVariants.{Remote}
 use Rattle.sc_model.specs.declared.level.RemoteFault.{RemoteFault}
-use Rattle.sc_store.specs.Checking.{Checks, ChecksRemote, Finds, Probes, ReadsCheck, refusal_of}
+use Rattle.sc_store.specs.Checking.{Checks, ChecksBy, ChecksRemote, Finds, Probes, ReadsCheck, refusal_of}
 use Rattle.sc_store.specs.Held.{HeldLevel}
 use Rattle.sc_store.specs.declared.checked.Checked.{Checked}
 use Rattle.sc_store.specs.declared.remote.RemoteRead.{RemoteRead}
@@ -67,9 +67,9 @@ module _ (old between : HeldLevel) (now : Level) (read : RemoteRead) (refusal : 
   ))
 
 -- the check of a remote store that isn't left out
-pub checks_probed : (old : HeldLevel) (found answer : Checked) (after now : Level) → old.facts.kind ≡ Remote → old.title.given.unchecked ≡ false → found ≡ answer → after ≡ now → Probes old.facts.configured found old.told old.level after
-    → Checks old.facts old.facts.kind old.title.given.unchecked answer old.told old.level now
-checks_probed old found answer after now kind checked is at probed =
-    subst (λ (k : LevelKind). Checks old.facts k old.title.given.unchecked answer old.told old.level now) (sym kind)
+pub checks_probed : (old : HeldLevel) (found answer : Checked) (after now : Level) → old.facts.wrapped ≡ false → old.facts.kind ≡ Remote → old.title.given.unchecked ≡ false → found ≡ answer → after ≡ now → Probes old.facts.configured found old.told old.level after
+    → ChecksBy old.facts.wrapped old.facts old.title.given.unchecked answer old.told old.level now
+checks_probed old found answer after now bare kind checked is at probed =
+    subst (λ (w : Bool). ChecksBy w old.facts old.title.given.unchecked answer old.told old.level now) (sym bare) (subst (λ (k : LevelKind). Checks old.facts k old.title.given.unchecked answer old.told old.level now) (sym kind)
     (subst (λ (b : Bool). ChecksRemote b old.facts.configured answer old.told old.level now) (sym checked)
-    (subst (λ (a : Checked). Probes old.facts.configured a old.told old.level now) is (subst (λ (v : Level). Probes old.facts.configured found old.told old.level v) at probed)))
+    (subst (λ (a : Checked). Probes old.facts.configured a old.told old.level now) is (subst (λ (v : Level). Probes old.facts.configured found old.told old.level v) at probed))))

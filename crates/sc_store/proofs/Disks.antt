@@ -1,5 +1,5 @@
 -- Calls of a disk level, as a level of levels that all tell.
-use Rattle.std.proofs.Common.{◌≡◌, ℕ, Bool, true, List, Option, Result, Ok, Err, IfErr, OnErr}
+use Rattle.std.proofs.Common.{◌≡◌, ℕ, Bool, true, false, List, Option, Result, Ok, Err, IfErr, OnErr}
 use Rattle.sc_disk.specs.Store.{AddEntry}
 use Rattle.sc_disk_cache.specs.DiskStores.{DiskStore}
 use Rattle.sc_disk_cache.specs.Entries.{ClosesEntry, CommitCause, CommitsEntry, CommitsNothing, FillsBy}
@@ -19,7 +19,7 @@ use Rattle.sc_model.specs.declared.level.Cause.TheVariants.{BadEntry, BadKey, Fi
 use Rattle.sc_model.specs.declared.level.LevelKind.{LevelKind}
 use Rattle.sc_model.specs.declared.level.LevelKind.TheVariants.{Disk, Remote}
 use Rattle.sc_model.specs.declared.level.Policy.{Policy}
-use Rattle.sc_store.specs.Asking.{PreCauseAt, PreCauseBy, PutsPre, ReservesDisk}
+use Rattle.sc_store.specs.Asking.{PreCauseAt, PreCauseBy, PreCauseOf, PutsPre, ReservesDisk}
 use Rattle.sc_store.proofs.Alone.{telling}
 
 module _ (t u : Bool) (old new : DiskStore) (tells : t ≡ true → old.told ≡ true) where
@@ -84,8 +84,12 @@ module _ (t u : Bool) (old new : DiskStore) (tells : t ≡ true → old.told ≡
   pre_cause_by_telling Disk early b how h = pre_cause_telling early b how h
   pre_cause_by_telling Remote early b how h = h
 
+  pre_cause_of_telling : (wrapped : Bool) (kind : LevelKind) (early : Option Cause) (b : List ℕ) (how : Written) → PreCauseOf wrapped kind early b how old new → PreCauseOf wrapped kind early b how (telling t old) (telling u new)
+  pre_cause_of_telling true kind early b how h = h
+  pre_cause_of_telling false kind early b how h = pre_cause_by_telling kind early b how h
+
   pub pre_cause_at_telling : (p : Policy) (k b : List ℕ) (how : Written) → PreCauseAt p k b how old new → PreCauseAt p k b how (telling t old) (telling u new)
-  pre_cause_at_telling p k b how h = pre_cause_by_telling old.facts.kind (early_cause p old.facts k) b how h
+  pre_cause_at_telling p k b how h = pre_cause_of_telling old.facts.wrapped old.facts.kind (early_cause p old.facts k) b how h
 
   pub committed_telling : (number : ℕ) (path : List ℕ) (how : Written) (a b : Marks) → (u ≡ true → new.told ≡ true) → MarksCommitted number path how a b new → MarksCommitted number path how a b (telling u new)
   committed_telling number path Done a b later h = record { marked = h.marked; kept = λ told key bytes apart is. h.kept (later told) key bytes apart is; fewer = h.fewer; none = h.none; others = h.others }

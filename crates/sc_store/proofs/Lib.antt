@@ -9,3 +9,5 @@ pub mod Behind
 pub mod Disks
 pub mod Checks
 pub mod Checking
+mod ReadOnly
+mod Modes

@@ -17,9 +17,10 @@ use Rattle.sc_model.specs.declared.event.Mode.TheVariants.{Path, Pre, Raw, Size 
 use Rattle.sc_model.specs.declared.event.Written.{Written}
 use Rattle.sc_model.specs.declared.event.Written.TheVariants.{Done as WriteDone, Refused as WriteRefused}
 use Rattle.sc_model.specs.declared.level.Cause.{Cause}
-use Rattle.sc_model.specs.declared.level.Cause.TheVariants.{BadEntry, BadKey, RemoteFault as RemoteRefused}
+use Rattle.sc_model.specs.declared.level.Cause.TheVariants.{BadEntry, BadKey, ReadOnly as ForReading, RemoteFault as RemoteRefused}
 use Rattle.sc_model.specs.declared.level.LevelKind.{LevelKind}
 use Rattle.sc_model.specs.declared.level.Policy.{Policy}
+use Rattle.sc_model.specs.declared.level.Store.TheVariants.{Wrapper}
 use Rattle.sc_model.specs.declared.level.LevelKind.TheVariants.{Disk, Remote}
 use Rattle.sc_store.specs.Held.{Held, HeldLevel, level_in, marks_in, room_in}
 use Rattle.sc_store.specs.declared.remote.RemoteRead.{RemoteRead}
@@ -137,8 +138,13 @@ abbrev pub PreCauseBy : LevelKind → Option Cause → List ℕ → Written → 
 PreCauseBy Disk early bytes how old new = PreCause early bytes how old new
 PreCauseBy Remote early bytes how old new = how ≡ WriteDone
 
+-- a level that is only read takes none
+abbrev pub PreCauseOf : Bool → LevelKind → Option Cause → List ℕ → Written → DiskStore → DiskStore → Type 0
+PreCauseOf true kind early bytes how old new = how ≡ WriteRefused (ForReading Wrapper)
+PreCauseOf false kind early bytes how old new = PreCauseBy kind early bytes how old new
+
 abbrev pub PreCauseAt : Policy → List ℕ → List ℕ → Written → DiskStore → DiskStore → Type 0
-PreCauseAt policy key bytes how old new = PreCauseBy old.facts.kind (early_cause policy old.facts key) bytes how old new
+PreCauseAt policy key bytes how old new = PreCauseOf old.facts.wrapped old.facts.kind (early_cause policy old.facts key) bytes how old new
 
 -- A reservation at a disk level that tells what it holds.
 abbrev pub ReservesDisk : Policy → List ℕ → ℕ → Reservation → DiskStore → DiskStore → Type 0

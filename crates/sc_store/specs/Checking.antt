@@ -75,8 +75,13 @@ abbrev pub Checks : LevelFacts → LevelKind → Bool → Checked → Bool → L
 Checks facts Disk unchecked answer told before now = (answer ≡ Mode facts.mode) × (now ≡ before)
 Checks facts Remote unchecked answer told before now = ChecksRemote unchecked facts.configured answer told before now
 
+-- The check of a store that is only read makes no call.
+abbrev pub ChecksBy : Bool → LevelFacts → Bool → Checked → Bool → Level → Level → Type 0
+ChecksBy true facts unchecked answer told before now = (answer ≡ Mode ReadOnly) × (now ≡ before)
+ChecksBy false facts unchecked answer told before now = Checks facts facts.kind unchecked answer told before now
+
 abbrev pub ChecksLevel : Checked → HeldLevel → HeldLevel → Type 0
-ChecksLevel answer before now = Checks before.facts before.facts.kind before.title.given.unchecked answer before.told before.level now.level
+ChecksLevel answer before now = ChecksBy before.facts.wrapped before.facts before.title.given.unchecked answer before.told before.level now.level
 
 -- the mode that holds after a check: what it found, or the one before where it was refused
 abbrev pub mode_after : CacheMode → Checked → CacheMode
@@ -89,4 +94,4 @@ facts_after facts answer = record facts { mode = mode_after facts.mode answer }
 -- The check of one level of levels.
 abbrev pub ChecksAt : ℕ → Checked → Held → Held → Type 0
 ChecksAt l answer old new =
-    Checks (level_facts old.facts l) (level_facts old.facts l).kind (title_in old.titles l).given.unchecked answer old.told (level_in old.levels l) (level_in new.levels l)
+    ChecksBy (level_facts old.facts l).wrapped (level_facts old.facts l) (title_in old.titles l).given.unchecked answer old.told (level_in old.levels l) (level_in new.levels l)

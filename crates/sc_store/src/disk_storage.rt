@@ -137,6 +137,7 @@ impl<D: Disk> DiskStorage<D> {
     /// What every disk store keeps: its files and reservations take at most its capacity.
     pub fn keeps(&self)
         ensures kind { self.now.facts.kind ≡ IsDisk }
+        ensures bare { self.now.facts.wrapped ≡ false }
         ensures within { part_size self.now.level + self.now.room.reserved ≤ self.now.facts.capacity }
     {
         self.cache.keeps();

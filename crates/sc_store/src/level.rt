@@ -9,7 +9,9 @@ ghost use Rattle.sc_disk_cache.specs.declared.filling.EntryError.TheVariants.{No
 ghost use Rattle.sc_disk_cache.specs.declared.reserving.Reservation.TheVariants.{Refused as IsNotReserved};
 ghost use Rattle.sc_entry.specs.Keys.{is_store_key as is_key};
 ghost use Rattle.sc_model.specs.World.{Later, causes, early_cause as early, same_maps};
-ghost use Rattle.sc_model.specs.declared.level.Cause.{Cause};
+ghost use Rattle.sc_model.specs.declared.level.Cause.{Cause as CauseType};
+ghost use Rattle.sc_model.specs.declared.level.Cause.TheVariants.{ReadOnly as ForReading};
+ghost use Rattle.sc_model.specs.declared.level.Store.TheVariants.{Wrapper};
 ghost use Rattle.sc_model.specs.declared.level.LevelKind.TheVariants.{Disk as IsDisk, Remote as IsRemote};
 ghost use Rattle.sc_store.specs.Asking.{AsksLevel, CauseBy, Fewer, MarksAsked, MarksWrote, PreCauseAt, PutCause, PutsLevel, PutsPre, ReservesDisk, TellsMark, fixed_answer, reads_key};
 ghost use Rattle.sc_store.specs.Checking.{ChecksLevel, facts_after};
@@ -19,19 +21,28 @@ ghost use Rattle.sc_store.specs.Telling.{level_max};
 
 use crate::checked::Checked;
 use crate::disk_storage::DiskStorage;
+use crate::read_only::ReadOnlyLevel;
 use crate::remote::Remote;
 use crate::remote_storage::RemoteStorage;
 use sc_disk::{Disk, LruDiskCacheAddEntry};
 use sc_disk_cache::{EntryError, Filling, Reservation};
 use sc_entry::{ByteText, CacheMode, NoMemory, Text};
-use sc_model::{Answer, LevelKind, Mode, Policy, Written};
+use sc_model::{Answer, Cause, LevelKind, Mode, Policy, Store, Written};
 use std::alloc::Global;
+
+/// Why a store that is only read refuses a put.
+fn only_read() -> Cause
+    ensures { result ≡ ForReading Wrapper }
+{
+    Cause::ReadOnly(Store::Wrapper)
+}
 
 /// One level of a daemon's store.
 #[derive(Drop)]
 pub enum Level<R: Remote, D: Disk> {
     Remote(RemoteStorage<R>),
     Disk(DiskStorage<D>),
+    ReadOnly(ReadOnlyLevel<R, D>),
 }
 
 impl<R: Remote, D: Disk> Level<R, D> {
@@ -42,6 +53,8 @@ impl<R: Remote, D: Disk> Level<R, D> {
         match self {
             Level::Remote(store) => store.cache_type_name(),
             Level::Disk(store) => store.cache_type_name(),
+            Level::ReadOnly(ReadOnlyLevel::Remote(only)) => only.store.cache_type_name(),
+            Level::ReadOnly(ReadOnlyLevel::Disk(only)) => only.store.cache_type_name(),
         }
     }
 
@@ -58,6 +71,14 @@ impl<R: Remote, D: Disk> Level<R, D> {
                 let text = store.location(alloc)?;
                 Ok(text)
             }
+            Level::ReadOnly(ReadOnlyLevel::Remote(only)) => {
+                let text = only.store.location(alloc)?;
+                Ok(text)
+            }
+            Level::ReadOnly(ReadOnlyLevel::Disk(only)) => {
+                let text = only.store.location(alloc)?;
+                Ok(text)
+            }
         }
     }
 
@@ -68,6 +89,8 @@ impl<R: Remote, D: Disk> Level<R, D> {
         match self {
             Level::Remote(store) => store.basedirs(),
             Level::Disk(store) => store.basedirs(),
+            Level::ReadOnly(ReadOnlyLevel::Remote(only)) => only.store.basedirs(),
+            Level::ReadOnly(ReadOnlyLevel::Disk(only)) => only.store.basedirs(),
         }
     }
 
@@ -78,6 +101,10 @@ impl<R: Remote, D: Disk> Level<R, D> {
         match self {
             Level::Remote(store) => store.use_preprocessor_cache_mode(),
             Level::Disk(store) => store.use_preprocessor_cache_mode(),
+            Level::ReadOnly(ReadOnlyLevel::Remote(only)) => only
+                .store
+                .use_preprocessor_cache_mode(),
+            Level::ReadOnly(ReadOnlyLevel::Disk(only)) => only.store.use_preprocessor_cache_mode(),
         }
     }
 
@@ -90,6 +117,11 @@ impl<R: Remote, D: Disk> Level<R, D> {
             Level::Disk(store) => {
                 store.keeps();
                 Some(store.max_size())
+            }
+            Level::ReadOnly(ReadOnlyLevel::Remote(only)) => only.store.max_size(),
+            Level::ReadOnly(ReadOnlyLevel::Disk(only)) => {
+                only.store.keeps();
+                Some(only.store.max_size())
             }
         }
     }
@@ -104,6 +136,11 @@ impl<R: Remote, D: Disk> Level<R, D> {
                 store.keeps();
                 LevelKind::Disk
             }
+            Level::ReadOnly(ReadOnlyLevel::Remote(only)) => only.store.kind(),
+            Level::ReadOnly(ReadOnlyLevel::Disk(only)) => {
+                only.store.keeps();
+                LevelKind::Disk
+            }
         }
     }
 
@@ -114,6 +151,7 @@ impl<R: Remote, D: Disk> Level<R, D> {
         match self {
             Level::Remote(store) => store.configured(),
             Level::Disk(store) => store.configured(),
+            Level::ReadOnly(_) => CacheMode::ReadOnly,
         }
     }
 
@@ -126,6 +164,10 @@ impl<R: Remote, D: Disk> Level<R, D> {
                 let _remote = store.kind();
             }
             Level::Disk(store) => store.keeps(),
+            Level::ReadOnly(ReadOnlyLevel::Remote(only)) => {
+                let _remote = only.store.kind();
+            }
+            Level::ReadOnly(ReadOnlyLevel::Disk(only)) => only.store.keeps(),
         }
     }
 
@@ -136,6 +178,8 @@ impl<R: Remote, D: Disk> Level<R, D> {
         match self {
             Level::Remote(store) => store.reserved(),
             Level::Disk(store) => store.reserved(),
+            Level::ReadOnly(ReadOnlyLevel::Remote(only)) => only.store.reserved(),
+            Level::ReadOnly(ReadOnlyLevel::Disk(only)) => only.store.reserved(),
         }
     }
 
@@ -146,12 +190,14 @@ impl<R: Remote, D: Disk> Level<R, D> {
         match self {
             Level::Remote(store) => store.mode(),
             Level::Disk(store) => store.mode(),
+            Level::ReadOnly(_) => CacheMode::ReadOnly,
         }
     }
 }
 
 impl<R: Remote, D: Disk + Drop> Level<R, D> {
     /// Looks a key up, at this moment.
+    #[tactic(auto, using(crate::proofs::ReadOnly::if_asked_read))]
     pub fn ask(
         &mut self,
         alloc: Global,
@@ -184,6 +230,16 @@ impl<R: Remote, D: Disk + Drop> Level<R, D> {
                 store.keeps();
                 answer
             }
+            Level::ReadOnly(ReadOnlyLevel::Remote(only)) => {
+                let _remote = only.store.kind();
+                only.store.ask(alloc, key, mode)
+            }
+            Level::ReadOnly(ReadOnlyLevel::Disk(only)) => {
+                only.store.keeps();
+                let answer = only.store.ask(key, mode, now);
+                only.store.keeps();
+                answer
+            }
         }
     }
 
@@ -209,6 +265,10 @@ impl<R: Remote, D: Disk + Drop> Level<R, D> {
                 store.keeps();
                 Ok(Checked::Mode(store.mode()))
             }
+            Level::ReadOnly(only) => {
+                only.keeps();
+                Ok(Checked::Mode(CacheMode::ReadOnly))
+            }
         }
     }
 
@@ -232,13 +292,17 @@ impl<R: Remote, D: Disk + Drop> Level<R, D> {
         ensures within { IsWithin (held_level self.new).facts (held_level self.new).level (held_level self.new).room }
         ensures wrote { IfOk result (λ how. PutsLevel policy.now key.now bytes.now how (held_level self.old) (held_level self.new)) }
         ensures cause { IfOk result (λ how. PutCause (early policy.now (held_level self.old).facts key.now) how (held_level self.old).level (held_level self.new).level) }
-        ensures early { (c : Cause) → early policy.now (held_level self.old).facts key.now ≡ Some c → (result ≡ Ok (Written.Refused c)) × (self.new ≡ self.old) }
+        ensures early { (c : CauseType) → early policy.now (held_level self.old).facts key.now ≡ Some c → (result ≡ Ok (Written.Refused c)) × (self.new ≡ self.old) }
     {
         match self {
             Level::Remote(store) => store.put_step(alloc, policy, key, bytes, from_run),
             Level::Disk(store) => {
                 store.keeps();
                 unreachable!()
+            }
+            Level::ReadOnly(only) => {
+                only.keeps();
+                Ok(Written::Refused(only_read()))
             }
         }
     }
@@ -264,13 +328,17 @@ impl<R: Remote, D: Disk + Drop> Level<R, D> {
         ensures kept { OnErr result (SameEntries (disk_of (held_level self.old)) (disk_of (held_level self.new))) }
         ensures evicts { OnErr result (EvictsFor size (disk_of (held_level self.old)) (disk_of (held_level self.new))) }
         ensures cause { IfOk result (λ how. ReserveCause (causes policy.now (held_level self.old).facts (held_level self.old).room.reserved key.now size) how (held_level self.old).level (held_level self.new).level) }
-        ensures early { (c : Cause) → early policy.now (held_level self.old).facts key.now ≡ Some c → (result ≡ Ok (IsNotReserved c)) × (self.new ≡ self.old) }
+        ensures early { (c : CauseType) → early policy.now (held_level self.old).facts key.now ≡ Some c → (result ≡ Ok (IsNotReserved c)) × (self.new ≡ self.old) }
     {
         match self {
             Level::Disk(store) => {
                 let how = store.reserve(policy, key, size, now);
                 store.keeps();
                 how
+            }
+            Level::ReadOnly(only) => {
+                only.keeps();
+                Ok(Reservation::Refused(only_read()))
             }
             Level::Remote(store) => {
                 let _remote = store.kind();
@@ -281,6 +349,7 @@ impl<R: Remote, D: Disk + Drop> Level<R, D> {
 
     /// Adds bytes behind those that an open entry of a disk level was filled with. The first fill marks the entry where a
     /// local run made its bytes, and every further one clears that mark. A refusal closes the entry.
+    #[tactic(auto, using(crate::proofs::ReadOnly::none_open_read))]
     pub fn fill(
         &mut self,
         entry: LruDiskCacheAddEntry,
@@ -307,6 +376,10 @@ impl<R: Remote, D: Disk + Drop> Level<R, D> {
                 store.keeps();
                 how
             }
+            Level::ReadOnly(only) => {
+                only.keeps();
+                Err(EntryError::NotOpen)
+            }
             Level::Remote(store) => {
                 let _remote = store.kind();
                 unreachable!()
@@ -316,6 +389,7 @@ impl<R: Remote, D: Disk + Drop> Level<R, D> {
 
     /// Puts an open entry's file of a disk level in its key's place, and closes the entry, also by a refusal. The key gets the
     /// mark of the entry.
+    #[tactic(auto, using(crate::proofs::ReadOnly::none_open_read))]
     pub fn commit(&mut self, entry: LruDiskCacheAddEntry, now: u64) -> Result<Written, EntryError>
         requires { (held_level self.old).facts.kind ≡ IsDisk }
         ensures title { (held_level self.new).title ≡ (held_level self.old).title }
@@ -337,6 +411,10 @@ impl<R: Remote, D: Disk + Drop> Level<R, D> {
                 let how = store.commit(entry, now);
                 store.keeps();
                 how
+            }
+            Level::ReadOnly(only) => {
+                only.keeps();
+                Err(EntryError::NotOpen)
             }
             Level::Remote(store) => {
                 let _remote = store.kind();
@@ -363,8 +441,9 @@ impl<R: Remote, D: Disk + Drop> Level<R, D> {
         ensures put { IfOk result (λ how. PutsPre policy.now key.now bytes.now how (disk_of (held_level self.old)) (disk_of (held_level self.new))) }
         ensures evicts { OnErr result (EvictsFor (length bytes.now) (disk_of (held_level self.old)) (disk_of (held_level self.new))) }
         ensures cause { IfOk result (λ how. PreCauseAt policy.now key.now bytes.now how (disk_of (held_level self.old)) (disk_of (held_level self.new))) }
-        ensures early { (held_level self.old).facts.kind ≡ IsDisk → (c : Cause) → early policy.now (held_level self.old).facts key.now ≡ Some c → (result ≡ Ok (Written.Refused c)) × (self.new ≡ self.old) }
-        ensures remote { (held_level self.old).facts.kind ≡ IsRemote → (result ≡ Ok Written.Done) × (self.new ≡ self.old) }
+        ensures early { (held_level self.old).facts.kind ≡ IsDisk → (c : CauseType) → early policy.now (held_level self.old).facts key.now ≡ Some c → (result ≡ Ok (Written.Refused c)) × (self.new ≡ self.old) }
+        ensures remote { (held_level self.old).facts.kind ≡ IsRemote → (held_level self.old).facts.wrapped ≡ false → (result ≡ Ok Written.Done) × (self.new ≡ self.old) }
+        ensures only_read { (held_level self.old).facts.wrapped ≡ true → (result ≡ Ok (Written.Refused (ForReading Wrapper))) × (self.new ≡ self.old) }
     {
         match self {
             Level::Disk(store) => {
@@ -376,6 +455,10 @@ impl<R: Remote, D: Disk + Drop> Level<R, D> {
             Level::Remote(store) => {
                 let _remote = store.kind();
                 Ok(Written::Done)
+            }
+            Level::ReadOnly(only) => {
+                only.keeps();
+                Ok(Written::Refused(only_read()))
             }
         }
     }

@@ -10,6 +10,8 @@ ghost use Rattle.sc_entry.specs.Keys.{is_store_key as is_key};
 ghost use Rattle.sc_model.specs.Plan.{level_facts};
 ghost use Rattle.sc_model.specs.World.{Later, causes, early_cause as early, same_maps};
 ghost use Rattle.sc_model.specs.declared.level.Cause.{Cause};
+ghost use Rattle.sc_model.specs.declared.level.Cause.TheVariants.{ReadOnly as ForReading};
+ghost use Rattle.sc_model.specs.declared.level.Store.TheVariants.{Wrapper};
 ghost use Rattle.sc_model.specs.declared.level.Policy.{Policy as PolicyType};
 ghost use Rattle.sc_model.specs.declared.level.LevelKind.TheVariants.{Disk as IsDisk, Remote as IsRemote};
 ghost use Rattle.sc_store.specs.Asking.{AloneAt, AsksAt, CauseBy, Fewer, MarksAsked, MarksWrote, PreCauseAt, PutCause, PutsAt, PutsPre, ReservesDisk, TellsMark, fixed_answer, reads_key};
@@ -317,7 +319,8 @@ impl<R: Remote, D: Disk + Drop> Levels<R, D> {
         ensures evicts { OnErr result (EvictsFor (length bytes.now) (disk_in self.old level) (disk_in self.new level)) }
         ensures cause { IfOk result (λ how. PreCauseAt self.old.policy key.now bytes.now how (disk_in self.old level) (disk_in self.new level)) }
         ensures early { (level_facts self.old.facts level).kind ≡ IsDisk → (c : Cause) → early self.old.policy (level_facts self.old.facts level) key.now ≡ Some c → (result ≡ Ok (Written.Refused c)) × (self.new ≡ self.old) }
-        ensures remote { (level_facts self.old.facts level).kind ≡ IsRemote → (result ≡ Ok Written.Done) × (self.new ≡ self.old) }
+        ensures remote { (level_facts self.old.facts level).kind ≡ IsRemote → (level_facts self.old.facts level).wrapped ≡ false → (result ≡ Ok Written.Done) × (self.new ≡ self.old) }
+        ensures only_read { (level_facts self.old.facts level).wrapped ≡ true → (result ≡ Ok (Written.Refused (ForReading Wrapper))) × (self.new ≡ self.old) }
     {
         self.levels[level].put_pre(&self.policy, key, bytes, now)
     }

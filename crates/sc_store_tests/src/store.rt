@@ -3,7 +3,8 @@ use sc_disk_cache::{DiskCache, Filling, Reservation};
 use sc_entry::{ByteText, CacheMode, Calls, Items, Text};
 use sc_model::{Answer, Cause, LevelKind, Mode, Policy, RemoteFault, Store, Written};
 use sc_store::{
-    Checked, DiskStorage, Level, Levels, MemRemote, Remote, RemoteRead, RemoteStorage, RemoteWrite,
+    Checked, DiskStorage, Level, Levels, MemRemote, ReadOnlyLevel, ReadOnlyStorage, Remote,
+    RemoteRead, RemoteStorage, RemoteWrite,
 };
 use std::alloc::Global;
 use std::collections::BTreeMap;
@@ -63,6 +64,7 @@ fn told_written(how: Written) -> &'static str {
         Written::Done => "done",
         Written::Refused(Cause::BadKey) => "bad key",
         Written::Refused(Cause::ReadOnly(Store::Remote)) => "read-only",
+        Written::Refused(Cause::ReadOnly(Store::Wrapper)) => "only read",
         Written::Refused(Cause::RemoteFault(_)) => "remote fault",
         Written::Refused(_) => "another",
     }
@@ -220,6 +222,7 @@ fn check(
     match levels.get(0) {
         Level::Remote(store) => Ok((found, mode, store.remote().len())),
         Level::Disk(_) => Ok((found, mode, 0)),
+        Level::ReadOnly(_) => Ok((found, mode, 0)),
     }
 }
 
@@ -320,6 +323,29 @@ fn single_read_only(rt: HostRuntime) -> Result<(), Fail> {
     Ok(())
 }
 
+/// A level that is only read, over a store that can be written and holds the entry under `abc`.
+fn read_only_level(alloc: Global) -> Result<Levels<MemRemote, MemDisk>, Fail> {
+    let store = RemoteStorage::new(
+        alloc,
+        small_remote(alloc, 0)?,
+        Items::new(alloc),
+        CacheMode::ReadWrite,
+    );
+    let level = Level::ReadOnly(ReadOnlyLevel::Remote(ReadOnlyStorage { store }));
+    let levels = vec![in alloc; level]?;
+    Ok(Levels::new(levels, Policy::Levels(Items::new(alloc))))
+}
+
+#[test]
+fn level_that_is_only_read_takes_no_put(rt: HostRuntime) -> Result<(), Fail> {
+    let alloc = rt.alloc();
+    let mut levels = read_only_level(alloc)?;
+    assert_eq!(rt; put(alloc, &mut levels, 0, "abc", true)?, "only read");
+    let found = ask(alloc, &mut levels, 0, "abc", Mode::Whole)?;
+    assert_eq!(rt; told_answer(&found), ENTRY);
+    Ok(())
+}
+
 #[test]
 fn remote_tells_its_size(rt: HostRuntime) -> Result<(), Fail> {
     let remote = small_remote(rt.alloc(), 0)?;
@@ -337,6 +363,7 @@ fn level_shows_its_remote(rt: HostRuntime) -> Result<(), Fail> {
     let held = match levels.get(1) {
         Level::Remote(store) => store.remote().len(),
         Level::Disk(_) => 0,
+        Level::ReadOnly(_) => 0,
     };
     assert_eq!(rt; held, 2);
     Ok(())

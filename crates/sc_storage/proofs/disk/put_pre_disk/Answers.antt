@@ -4,4 +4,4 @@ use Rattle.sc_storage.proofs.disk.put_pre_disk.Goals as goal
 pub returns-clause-wrote : goal.returns-clause-wrote
 returns-clause-wrote g c =
     let e = c.put_pre.ensures in
-    put_alone c.put_pre.result c.args.key.now c.args.bytes.now c.args.store.now c.put_pre.new.self c.keeps.ensures.kind e.stays.later e.marks e.put e.cause e.early
+    put_alone c.put_pre.result c.args.key.now c.args.bytes.now c.args.store.now c.put_pre.new.self c.keeps.ensures.bare c.keeps.ensures.kind e.stays.later e.marks e.put e.cause e.early

@@ -8,4 +8,4 @@ returns-clause-keeps g c = keeps_alone c.args.level c.args.levels.now c.put_pre_
 pub returns-clause-wrote : goal.returns-clause-wrote
 returns-clause-wrote g c =
     let e = c.put_pre_step.ensures in
-    put_at c.put_pre_step.result c.args.level c.args.key.now c.args.bytes.now c.args.levels.now c.put_pre_step.new.self e.alone e.later e.entries e.marks e.put e.cause e.early e.remote
+    put_at c.put_pre_step.result c.args.level c.args.key.now c.args.bytes.now c.args.levels.now c.put_pre_step.new.self e.alone e.later e.entries e.marks e.put e.cause e.early e.remote e.only_read

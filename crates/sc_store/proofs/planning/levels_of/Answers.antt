@@ -3,6 +3,7 @@ use Rattle.sc_model.specs.Plan.{reads_only}
 use Rattle.sc_store.specs.Levels.{held_level}
 use Rattle.sc_store.specs.Planning.{test_of}
 use Rattle.sc_store.proofs.Behind.{levels_more, one_counted}
+use Rattle.sc_store.proofs.Modes.{all_taken}
 use Rattle.sc_store.proofs.planning.levels_of.Goals as goal
 use Rattle.sc_store.proofs.planning.levels_of.Goals.{then-is_taken+in_ok-push_back, else-is_taken}
 
@@ -20,3 +21,6 @@ loop-left-preserved g c =
       ]),
       one_counted c.loop-left.left.now c.level-item.result c.loop-left.number _ c.in-len1-up.len_at_least c.level-item.is c.loop-left.invariant.1,
     )
+
+pub returns : goal.returns
+returns g c = all_taken (test_of c.args.which) c.loop-left.number c.loop-left.policies.now c.loop-left.left.now c.loop-left.found _ c.in_default.len_below c.loop-left.invariant.0

@@ -1,9 +1,18 @@
 use Rattle.std.proofs.Common.{sym, ◌∙◌}
 use Rattle.sc_disk_cache.specs.DiskStores.{held_disk}
 use Rattle.sc_disk_cache.proofs.Askings.{disk-kind}
-use Rattle.sc_disk_cache.proofs.Preprocessing.{put-cause, put-evicts, put-opened}
+use Rattle.sc_disk_cache.proofs.Preprocessing.{put-cause, put-evicts, put-opened, same-refusal, unopened-put}
 use Rattle.sc_disk_cache.proofs.Reservings.{early-held}
 use Rattle.sc_disk_cache.proofs.disk_cache.DiskCache.put_pre.Goals as goal
+
+pub returns-in-Some-clause-early : goal.returns-in-Some-clause-early
+returns-in-Some-clause-early g c cause is = let s = c.args.self.now in
+    same-refusal s c.in-Some.cause cause (sym c.in-Some.is ∙ c.early_cause.ensures ∙ sym (early-held s.mode s.pair.max_size s.pair.opened s.pair.disks c.args.policy.now c.args.key.now) ∙ is)
+
+pub returns-then-not-branch-clause-put : goal.returns-then-not-branch-clause-put
+returns-then-not-branch-clause-put g c told = let s = c.args.self.now in
+    unopened-put (held_disk s) (held_disk c.open.new.self) c.args.policy.now c.args.key.now c.args.bytes.now
+    (early-held s.mode s.pair.max_size s.pair.opened s.pair.disks c.args.policy.now c.args.key.now ∙ sym c.early_cause.ensures ∙ c.in_default.is) ((c.in_ok-open.ensures.fault c.if-not-branch.true).0) c.in_ok-open.ensures.steady
 
 pub returns-clause-put : goal.returns-clause-put
 returns-clause-put g c = let s = c.args.self.now in

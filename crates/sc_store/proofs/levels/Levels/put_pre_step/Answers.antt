@@ -38,8 +38,11 @@ returns g c =
       early = λ kind cause is.
           let h = e.early (ap (λ f. f.kind) (sym m.facts_were) ∙ kind) cause (ap (λ p. early_cause p before.facts key) by ∙ ap (λ f. early_cause old.policy f key) (sym m.facts_were) ∙ is) in
           (h.0, unmoved held_level old policy stores l store later c.self.view_is c.requires here h.1);
-      remote = λ kind.
-          let h = e.remote (ap (λ f. f.kind) (sym m.facts_were) ∙ kind) in
+      remote = λ kind bare.
+          let h = e.remote (ap (λ f. f.kind) (sym m.facts_were) ∙ kind) (ap (λ f. f.wrapped) (sym m.facts_were) ∙ bare) in
+          (h.0, unmoved held_level old policy stores l store later c.self.view_is c.requires here h.1);
+      only_read = λ wrapped.
+          let h = e.only_read (ap (λ f. f.wrapped) (sym m.facts_were) ∙ wrapped) in
           (h.0, unmoved held_level old policy stores l store later c.self.view_is c.requires here h.1);
     }
 

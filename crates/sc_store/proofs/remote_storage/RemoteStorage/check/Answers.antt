@@ -9,4 +9,4 @@ returns-in-Mode-clause-checked g c =
     let view = sym c.self.view_is in
     let after = sym c.self-2.view_is in
     checks_probed c.args.self.now c.in_ok-found.found (Mode c.in-Mode.mode) c.probe.new.self.level _
-    (ap (λ (h : HeldLevel). h.facts.kind) view) (ap (λ (h : HeldLevel). h.title.given.unchecked) view ∙ c.if-self.false) c.in-Mode.is (ap (λ (h : HeldLevel). h.level) after) c.in_ok-found.ensures.found
+    (ap (λ (h : HeldLevel). h.facts.wrapped) view) (ap (λ (h : HeldLevel). h.facts.kind) view) (ap (λ (h : HeldLevel). h.title.given.unchecked) view ∙ c.if-self.false) c.in-Mode.is (ap (λ (h : HeldLevel). h.level) after) c.in_ok-found.ensures.found

@@ -1,0 +1,35 @@
+//! A store that is only read.
+ghost use Rattle.sc_store.specs.Held.{IsWithin};
+ghost use Rattle.sc_store.specs.Levels.{held_read_only};
+
+use crate::disk_storage::DiskStorage;
+use crate::remote::Remote;
+use crate::remote_storage::RemoteStorage;
+use sc_disk::Disk;
+
+/// A store that is only read: it refuses each put.
+#[derive(Drop)]
+pub struct ReadOnlyStorage<S> {
+    pub store: S,
+}
+
+/// The store of a level that is only read.
+#[derive(Drop)]
+pub enum ReadOnlyLevel<R: Remote, D: Disk> {
+    Remote(ReadOnlyStorage<RemoteStorage<R>>),
+    Disk(ReadOnlyStorage<DiskStorage<D>>),
+}
+
+impl<R: Remote, D: Disk> ReadOnlyLevel<R, D> {
+    /// What it keeps: a disk store's files and reservations take at most its capacity.
+    pub(crate) fn keeps(&self)
+        ensures { IsWithin (held_read_only self.now).facts (held_read_only self.now).level (held_read_only self.now).room }
+    {
+        match self {
+            ReadOnlyLevel::Remote(only) => {
+                let _remote = only.store.kind();
+            }
+            ReadOnlyLevel::Disk(only) => only.store.keeps(),
+        }
+    }
+}
