@@ -43,12 +43,21 @@ pub(crate) fn disk(alloc: Global, root: &[u8], fails: u64) -> Result<MemDisk, Fa
     ))
 }
 
-/// A disk level of 100 bytes, whose main disk refuses the call of this number.
-pub(crate) fn disk_level(alloc: Global, fails: u64, mode: CacheMode) -> Result<OneLevel, Fail> {
+/// A disk store of 100 bytes, whose main disk refuses the call of this number.
+pub(crate) fn disk_store(
+    alloc: Global,
+    fails: u64,
+    mode: CacheMode,
+) -> Result<DiskStorage<MemDisk>, Fail> {
     let main = disk(alloc, b"/0", fails)?;
     let pre = disk(alloc, b"/0p", 0)?;
     let cache = DiskCache::new(alloc, main, pre, 100, mode);
-    Ok(Level::Disk(DiskStorage::new(cache, true, Items::new(alloc))))
+    Ok(DiskStorage::new(cache, true, Items::new(alloc)))
+}
+
+/// The same as a level.
+pub(crate) fn disk_level(alloc: Global, fails: u64, mode: CacheMode) -> Result<OneLevel, Fail> {
+    Ok(Level::Disk(disk_store(alloc, fails, mode)?))
 }
 
 /// These levels, with these policies.

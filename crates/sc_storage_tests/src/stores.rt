@@ -1,5 +1,5 @@
 //! Any store asked as one.
-use crate::levels::{OneLevel, Storage as Layered, disk, disk_level, remote, storage};
+use crate::levels::{OneLevel, Storage as Layered, disk, disk_level, disk_store, remote, storage};
 use sc_disk::Disk;
 use sc_entry::{ByteText, Cache, CacheMode, CacheWrite, Items, Text};
 use sc_model::LevelPolicy;
@@ -215,7 +215,7 @@ fn refusal_of_a_read_only_remote_store_is_told(rt: HostRuntime) -> Result<(), Fa
 #[test]
 fn refusal_of_a_disk_store_is_told(rt: HostRuntime) -> Result<(), Fail> {
     let alloc = rt.alloc();
-    let mut disk = disk_level(alloc, 2, CacheMode::ReadWrite)?;
+    let mut disk = disk_store(alloc, 2, CacheMode::ReadWrite)?;
     assert!(rt; put_raw_is(alloc, &mut disk, b"BB", "disk fault")?);
     Ok(())
 }
