@@ -60,6 +60,9 @@ some-aside (Touched path now) f q a h = some_with f path _ q h
 some-aside (Moved from to) f q a h = absurd a
 some-aside (Gone path) f q a h = absurd a
 
+pub some-touched : (f : DiskFiles) (path : List ℕ) (now : ℕ) (q : List ℕ) → is_some (disk_file_at f q) ≡ true → is_some (disk_file_at (change (Touched path now) f) q) ≡ true
+some-touched f path now q h = some_with f path _ q h
+
 pub HasFiles-aside : (d : Bool) (x : Change) (es : Index) (slots : Slots) (f : DiskFiles) → IsAside x → HasFiles d es slots f → HasFiles d es slots (change x f)
 HasFiles-aside d x es slots f a h = record {
   agrees = λ q t. ap (option_map size) (at-aside x f q a t) ∙ h.agrees q t;

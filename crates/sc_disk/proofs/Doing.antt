@@ -1,8 +1,9 @@
 -- Changes of a disk one after another.
 use Rattle.std.proofs.Common.{◌≡◌, List, [], ◌∷◌, ◌++◌, Option, Some, None, option_map, refl, sym, ap, ◌∙◌, subst, arith, append_assoc}
 use Rattle.sc_entry.specs.Causes.{IfTold}
-use Rattle.sc_disk.specs.Disks.{DiskFiles, DiskRecord, DiskState, Does, change, did_all, files_now, replay}
+use Rattle.sc_disk.specs.Disks.{Changes, DiskFiles, DiskRecord, DiskState, Does, change, did_all, files_now, replay}
 use Rattle.sc_disk.specs.declared.change.Change.{Change}
+use Rattle.sc_disk.proofs.Devices.{makes_counts, makes_on_then, unmade}
 
 did-none : (a : Option DiskRecord) → a ≡ option_map (did_all []) a
 did-none None = refl
@@ -13,10 +14,27 @@ did-after None b c xs ys p q = q ∙ ap (option_map (did_all ys)) p
 did-after (Some r) b c xs ys p q = q ∙ ap (option_map (did_all ys)) p ∙ ap (λ (l : List Change). Some (record { outside = r.outside; first = r.first; done = l })) (sym (append_assoc ys xs r.done))
 
 pub does-none : (d : DiskState) → Does [] d d
-does-none d = record { told = did-none d.told; faults = omega arith; root = refl; divided = refl }
+does-none d = record { told = did-none d.told; faults = omega arith; calls = unmade d.calls d.faults; root = refl; divided = refl; letters = refl }
 
 pub does-after : (a b c : DiskState) (xs ys : List Change) → Does xs a b → Does ys b c → Does (ys ++ xs) a c
-does-after a b c xs ys p q = record { told = did-after a.told b.told c.told xs ys p.told q.told; faults = omega (arith, p.faults, q.faults); root = q.root ∙ p.root; divided = q.divided ∙ p.divided }
+does-after a b c xs ys p q = record {
+  told = did-after a.told b.told c.told xs ys p.told q.told;
+  faults = omega (arith, p.faults, q.faults);
+  calls = makes_on_then a.calls b.calls c.calls a.faults b.faults c.faults p.faults q.faults p.calls q.calls;
+  root = q.root ∙ p.root;
+  divided = q.divided ∙ p.divided;
+  letters = q.letters ∙ p.letters;
+}
+
+pub changes-of : (a b : DiskState) (xs : List Change) → Does xs a b → Changes xs a b
+changes-of a b xs p = record { told = p.told; faults = p.faults; calls = makes_counts a.calls b.calls a.faults b.faults p.calls; root = p.root; divided = p.divided; letters = p.letters }
+
+-- the same disk, which tells no calls
+abbrev pub mute : DiskState → DiskState
+mute d = record d { calls = None }
+
+pub does-muted : (a b : DiskState) (xs : List Change) → Changes xs a b → Does xs (mute a) (mute b)
+does-muted a b xs p = record { told = p.told; faults = p.faults; calls = refl; root = p.root; divided = p.divided; letters = p.letters }
 
 pub does-then : (a b c : DiskState) (xs : List Change) (x : Change) → Does xs a b → Does (x ∷ []) b c → Does (x ∷ xs) a c
 does-then a b c xs x p q = does-after a b c xs (x ∷ []) p q

@@ -15,7 +15,7 @@ use Rattle.sc_disk.specs.declared.change.Change.{Change}
 use Rattle.sc_disk.specs.declared.change.Change.TheVariants.{Made, Added, Touched, Moved, Gone}
 use Rattle.sc_disk.specs.declared.pending.Pending.{Pending}
 use Rattle.sc_disk.proofs.Changing.{IsAside, Slots, size, some-aside, HasFiles-aside, HasFiles-discarded, HasFiles-first, HasFiles-removed, HasFiles-settled, HasFiles-touched, HasFiles-used, AreKeys-filed, AreKeys-first, AreKeys-removed}
-use Rattle.sc_disk.proofs.Doing.{told-after, told-still, told-both, told-map}
+use Rattle.sc_disk.proofs.Doing.{does-muted, mute, told-after, told-both, told-map, told-still}
 use Rattle.sc_disk.proofs.Files.{at-insert, self_path}
 use Rattle.sc_disk.proofs.Pairs.{Index, lookup-touched, total-filed, total-removed}
 use Rattle.sc_disk.proofs.Temporaries.{temporary_is}
@@ -53,9 +53,18 @@ pub Keeps-part : (es : Index) (b : ℕ) (slots : Slots) (h c : ℕ) (old new : D
 Keeps-part es b slots h c old new path bytes temp (inl same) k = Keeps-still es b slots h c old new same k
 Keeps-part es b slots h c old new path bytes temp (inr part) k = Keeps-aside es b slots h c old new (Added path (take part.0 bytes)) temp part.1 k
 
+-- what a store keeps is no matter of its disk's calls
+muted : (es : Index) (b : ℕ) (slots : Slots) (h c : ℕ) (d : DiskState) → Keeps es b slots h c d → Keeps es b slots h c (mute d)
+muted es b slots h c d k = record { reserved = k.reserved; limit = k.limit; fits = k.fits; keys = k.keys; opened = k.opened; files = k.files }
+
+unmuted : (es : Index) (b : ℕ) (slots : Slots) (h c : ℕ) (d : DiskState) → Keeps es b slots h c (mute d) → Keeps es b slots h c d
+unmuted es b slots h c d k = record { reserved = k.reserved; limit = k.limit; fits = k.fits; keys = k.keys; opened = k.opened; files = k.files }
+
 pub Keeps-adopted : (es : Index) (b : ℕ) (slots : Slots) (h c : ℕ) (old new : DiskState) (outside path : List ℕ) → is_temporary_path path ≡ true → AdoptsPart outside path old new → Keeps es b slots h c old → Keeps es b slots h c new
-Keeps-adopted es b slots h c old new outside path temp (inl same) k = Keeps-still es b slots h c old new same k
-Keeps-adopted es b slots h c old new outside path temp (inr part) k = Keeps-part es b slots h c old new path part.0 temp part.2 k
+Keeps-adopted es b slots h c old new outside path temp (inl same) k = unmuted es b slots h c new (Keeps-still es b slots h c (mute old) (mute new) (does-muted old new [] same) (muted es b slots h c old k))
+Keeps-adopted es b slots h c old new outside path temp (inr (bytes, there, inl same)) k = unmuted es b slots h c new (Keeps-still es b slots h c (mute old) (mute new) (does-muted old new [] same) (muted es b slots h c old k))
+Keeps-adopted es b slots h c old new outside path temp (inr (bytes, there, inr part)) k =
+    unmuted es b slots h c new (Keeps-aside es b slots h c (mute old) (mute new) (Added path (take part.0 bytes)) temp (does-muted old new (Added path (take part.0 bytes) ∷ []) part.1) (muted es b slots h c old k))
 
 -- the first file went, and its pair
 pub Keeps-first : (es fs : Index) (b b2 : ℕ) (slots : Slots) (h c : ℕ) (old new : DiskState) (e : List ℕ × ℕ) → Some e ≡ slice_get es 0 → IsDistinct bytes_eq (keys_of es) → fs ≡ drop 1 es → b2 ≡ b

@@ -20,7 +20,7 @@ use Rattle.std.specs.declared.cmp.Ordering.TheVariants.{Less, Equal, Greater}
 use Rattle.sc_entry.specs.Causes.{IfTold}
 use Rattle.sc_lru.proofs.Measures.{suffix_within-fits, suffix_within-over, total-cons, total-push}
 use Rattle.sc_lru.specs.LruCache.{suffix_within, total}
-use Rattle.sc_disk.specs.Disks.{DiskFiles, DiskRecord, DiskState, Does, IsListing, change, disk_file_at, files_now, listing, replay}
+use Rattle.sc_disk.specs.Disks.{ArePlaced, DiskFiles, DiskRecord, DiskState, Does, IsListing, change, disk_file_at, files_now, has_place, listing, replay}
 use Rattle.sc_disk.specs.Names.{is_temporary_path}
 use Rattle.sc_disk.specs.Opening.{Begins, Follows, Indexes, IsReopened, RefusesOpening, Reopens, dropped_of, is_kept, kept_of, pair_of, pairs_of, paths_of, use_cmp}
 use Rattle.sc_disk.specs.Store.{AreKeys, HasFiles, Keeps, Needed, NoStray, filed, firsts, gone, size_of}
@@ -34,6 +34,7 @@ use Rattle.sc_disk.proofs.Doing.{does-after, replay-append, told-all, told-map}
 use Rattle.sc_disk.proofs.Evictions.{gone-append}
 use Rattle.sc_disk.proofs.Files.{at-removed, same_path}
 use Rattle.sc_disk.proofs.Names.{both, not-true}
+use Rattle.sc_disk.proofs.Places.{placed-filtered}
 use Rattle.sc_disk.proofs.Pairs.{Index, lookup-later, removed-none}
 
 -- the files are these, of these sizes, and no others
@@ -371,6 +372,11 @@ good_kept capacity (x ∷ all) = good_first capacity x (kept_of capacity all) (i
 pub good_sorted : (capacity : ℕ) (all kept order : List Listed) → kept ≡ kept_of capacity all → IsPermutation kept order → AllByRecursion (λ e. is_kept capacity e ≡ true) order
 good_sorted capacity all kept order is p = recursion_from_All (λ e. is_kept capacity e ≡ true) order
     (All-permutation (λ e. is_kept capacity e ≡ true) kept order p (All-from_recursion (λ e. is_kept capacity e ≡ true) kept (subst (AllByRecursion (λ e. is_kept capacity e ≡ true)) (sym is) (good_kept capacity all))))
+
+-- the disk has places for those that are kept
+pub placed_sorted : (capacity : ℕ) (all kept order : List Listed) (d : DiskState) → kept ≡ kept_of capacity all → IsPermutation kept order → ArePlaced all d → ArePlaced order d
+placed_sorted capacity all kept order d is p h = recursion_from_All (λ e. has_place d e.path ≡ true) order
+    (All-permutation (λ e. has_place d e.path ≡ true) kept order p (All-from_recursion (λ e. has_place d e.path ≡ true) kept (subst (λ (l : List Listed). ArePlaced l d) (sym is) (placed-filtered d (is_kept capacity) all h))))
 
 -- The whole opening, of a disk that tells.
 files_dropped : (capacity : ℕ) (front : Index) (all : List Listed) (f : DiskFiles) → AreFiles (front ++ pairs_of all) f → AreFiles (front ++ pairs_of (kept_of capacity all)) (replay f (gone (paths_of (dropped_of capacity all))))

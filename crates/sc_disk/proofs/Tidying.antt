@@ -12,7 +12,7 @@ use Rattle.sc_disk.specs.declared.change.Change.TheVariants.{Made, Added, Touche
 use Rattle.sc_disk.specs.declared.disk_file.DiskFile.{DiskFile}
 use Rattle.sc_disk.specs.declared.pending.Pending.{Pending}
 use Rattle.sc_disk.proofs.Changing.{Slots, at-with}
-use Rattle.sc_disk.proofs.Doing.{told-all}
+use Rattle.sc_disk.proofs.Doing.{does-muted, mute, told-all}
 use Rattle.sc_disk.proofs.Files.{at-insert, at-removed, same_path, self_path}
 use Rattle.sc_disk.proofs.Keeping.{by_place, no_entry}
 use Rattle.sc_disk.proofs.Temporaries.{apart-back, temporary_is}
@@ -80,8 +80,9 @@ tidy-part slots old new path bytes (inl same) h = tidy-quiet slots old new [] tt
 tidy-part slots old new path bytes (inr part) h = tidy-quiet slots old new (Added path (take part.0 bytes) ∷ []) (tt, tt) part.1 h
 
 pub tidy-adopted : (slots : Slots) (old new : DiskState) (outside path : List ℕ) → AdoptsPart outside path old new → Tidy slots old → Tidy slots new
-tidy-adopted slots old new outside path (inl same) h = tidy-quiet slots old new [] tt same h
-tidy-adopted slots old new outside path (inr part) h = tidy-part slots old new path part.0 part.2 h
+tidy-adopted slots old new outside path (inl same) h = tidy-quiet slots (mute old) (mute new) [] tt (does-muted old new [] same) h
+tidy-adopted slots old new outside path (inr (bytes, there, inl same)) h = tidy-quiet slots (mute old) (mute new) [] tt (does-muted old new [] same) h
+tidy-adopted slots old new outside path (inr (bytes, there, inr part)) h = tidy-quiet slots (mute old) (mute new) (Added path (take part.0 bytes) ∷ []) (tt, tt) (does-muted old new (Added path (take part.0 bytes) ∷ []) part.1) h
 
 stray-made : (v : Bool) (old new : Slab Pending) (n : ℕ) (e : Pending) (t : List ℕ) (now : ℕ) (f : DiskFiles) → t ≡ temporary v e.key n → get old n ≡ None → Updates old new n (Some e) → NoStray v old.slots f → NoStray v new.slots (change (Made t now) f)
 stray-made v old new n e t now f at free u h = λ q temp some. by q temp (bytes_eq q t) refl (ap is_some (sym (at-insert f t (disk_file now []) q)) ∙ some)

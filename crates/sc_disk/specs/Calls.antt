@@ -1,10 +1,10 @@
 -- What each call of a store of files does.
-use Rattle.std.specs.Prelude.{◌≡◌, ◌⊎◌, ℕ, ◌+◌, ◌-◌, ◌<◌, ◌≤◌, max, Bool, true, false, is_some, bytes_eq, List, [], ◌∷◌, ◌++◌, drop}
+use Rattle.std.specs.Prelude.{◌≡◌, ◌⊎◌, ℕ, ◌+◌, ◌-◌, ◌<◌, ◌≤◌, ◌&&◌, max, Bool, true, false, is_some, bytes_eq, List, [], ◌∷◌, ◌++◌, drop}
 use Rattle.std.specs.Map.{lookup, remove_entry}
 use Rattle.sc_entry.specs.Causes.{Rose}
 use Rattle.sc_entry.specs.Keys.{is_file_key}
 use Rattle.sc_lru.specs.Order.{touched}
-use Rattle.sc_disk.specs.Disks.{Does, HasBytes, IsSize}
+use Rattle.sc_disk.specs.Disks.{Does, HasBytes, IsSize, has_place}
 use Rattle.sc_disk.specs.Refusals.{AddCause, GetCause}
 use Rattle.sc_disk.specs.Store.{AddEntry, Alters, Fits, IsTidy, Needed, Opened, Store, declared_at, filed, firsts, gone, others, reserved, temporary_of}
 use Rattle.sc_disk.specs.declared.change.Change.{Change}
@@ -46,7 +46,7 @@ pub record Prepares (e : AddEntry) (k : List ℕ) (size now n : ℕ) (old new : 
 
 -- no entry is opened
 pub record RefusesAdd (refused : Error) (k : List ℕ) (size n : ℕ) (old new : Store) : Type 0 where
-  pub cause : AddCause (is_file_key k) size (reserved old) old.capacity old.disk.faults new.disk.faults refused
+  pub cause : AddCause (is_file_key k && has_place old.disk k) size (reserved old) old.capacity old.disk.faults new.disk.faults refused
   pub none : EvictsNone refused n
   pub evicted : Needed (old.capacity - (reserved old + size)) n old.index
   pub index : new.index ≡ drop n old.index

@@ -3,6 +3,8 @@ use Rattle.std.specs.Prelude.{ℕ, Bool, List, Option, refl}
 use Rattle.std.specs.Coded.{Coded, code_by, coded×, coded_ℕ, coded_bool, coded_list, coded_option}
 use Rattle.std.specs.FinMap as map
 use Rattle.slab.specs.Slab.{Slab, slab_code}
+use Rattle.sc_entry.specs.contracts.calls.Calls as calls_type
+use Rattle.sc_entry.specs.declared.calls.Calls.{Calls}
 use Rattle.sc_disk.specs.Disks.{DiskFiles, DiskRecord, DiskState, OutsideFiles}
 use Rattle.sc_disk.specs.Memory.{disk_files_code}
 use Rattle.sc_disk.specs.Store.{Store, store}
@@ -22,10 +24,10 @@ disk_record_code = code_by (OutsideFiles × (DiskFiles × List Change))
     (λ _. refl)
 
 abbrev pub disk_state_code : Coded DiskState
-disk_state_code = code_by (Option DiskRecord × (ℕ × (List ℕ × Bool)))
-    (coded× (coded_option disk_record_code) (coded× coded_ℕ (coded× (coded_list coded_ℕ) coded_bool)))
-    (λ d. (d.told, (d.faults, (d.root, d.divided))))
-    (λ p. record { told = p.0; faults = p.1.0; root = p.1.1.0; divided = p.1.1.1 })
+disk_state_code = code_by (Option DiskRecord × (ℕ × (Option Calls × (List ℕ × (Bool × List ℕ)))))
+    (coded× (coded_option disk_record_code) (coded× coded_ℕ (coded× (coded_option calls_type.the_row.coded) (coded× (coded_list coded_ℕ) (coded× coded_bool (coded_list coded_ℕ))))))
+    (λ d. (d.told, (d.faults, (d.calls, (d.root, (d.divided, d.letters))))))
+    (λ p. record { told = p.0; faults = p.1.0; calls = p.1.1.0; root = p.1.1.1.0; divided = p.1.1.1.1.0; letters = p.1.1.1.1.1 })
     (λ _. refl)
 
 abbrev pub store_code : Coded Store

@@ -1,5 +1,6 @@
 pub mod Calls
 pub mod Codes
+pub mod Devices
 pub mod Disks
 pub mod Inserting
 pub mod Memory

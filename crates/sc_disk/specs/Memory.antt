@@ -1,5 +1,5 @@
 -- What a disk in memory holds and tells.
-use Rattle.std.specs.Prelude.{◌≡◌, ℕ, ◌≤◌, Bool, true, false, ◌||◌, List, ◌++◌, Some, is_some, not, Result, Ok, Err}
+use Rattle.std.specs.Prelude.{◌≡◌, ℕ, ◌≤◌, Bool, true, false, ◌||◌, List, [], ◌++◌, Some, is_some, not, Result, Ok, Err}
 use Rattle.std.specs.Coded.{Coded, coded_ℕ, coded_list}
 use Rattle.std.specs.FinMap as map
 use Rattle.sc_entry.specs.Failing.{fails_at, faults_after, one_more}
@@ -34,9 +34,9 @@ memory root outside done calls = record { root = root; outside = outside; done =
 abbrev pub held_files : Memory → DiskFiles
 held_files m = replay no_disk_files m.done
 
--- what it tells: it had no file at first, and it isn't divided
+-- what it tells: it had no file at first and tells its calls, and it isn't divided
 abbrev pub memory_state : Memory → DiskState
-memory_state m = record { told = Some (record { outside = outside_of m.outside; first = no_disk_files; done = m.done }); faults = m.calls.faults; root = m.root; divided = false }
+memory_state m = record { told = Some (record { outside = outside_of m.outside; first = no_disk_files; done = m.done }); faults = m.calls.faults; calls = Some m.calls; root = m.root; divided = false; letters = [] }
 
 -- no file stands at the path
 abbrev pub lacks : Memory → List ℕ → Bool

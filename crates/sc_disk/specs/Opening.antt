@@ -1,13 +1,13 @@
 -- What an opening makes of a disk's files.
-use Rattle.std.specs.Prelude.{◌≡◌, ◌⊎◌, ℕ, ◌-◌, ◌≤◌, Bool, not, ◌&&◌, nat_le, List, ◌++◌, length, drop, map as each}
-use Rattle.std.specs.List.{filter}
+use Rattle.std.specs.Prelude.{◌≡◌, ◌⊎◌, ℕ, ◌-◌, ◌≤◌, Bool, true, not, ◌&&◌, nat_le, List, ◌++◌, length, drop, map as each}
+use Rattle.std.specs.List.{AllByRecursion, filter}
 use Rattle.std.specs.List.Sorted.{IsPermutation, IsSorted}
 use Rattle.std.specs.Ordering.{nat_cmp, ordering_then}
 use Rattle.std.specs.Cmp.Lexicographic.{slice_cmp}
 use Rattle.std.specs.declared.cmp.Ordering.{Ordering}
 use Rattle.sc_entry.specs.Causes.{IfTold}
 use Rattle.sc_lru.specs.LruCache.{suffix_within}
-use Rattle.sc_disk.specs.Disks.{DiskFiles, DiskState, Does, files_now, listing}
+use Rattle.sc_disk.specs.Disks.{DiskFiles, DiskState, Does, files_now, has_place, listing}
 use Rattle.sc_disk.specs.Names.{is_temporary_path}
 use Rattle.sc_disk.specs.Store.{Fits, Needed, filed, firsts, gone, size_of}
 use Rattle.sc_disk.specs.declared.disk.Listed.{Listed}
@@ -35,6 +35,10 @@ pair_of e = (e.path, e.size)
 -- each path with its size
 abbrev pub pairs_of : List Listed → List (List ℕ × ℕ)
 pairs_of files = each pair_of files
+
+-- the disk has a place for each key
+abbrev pub HavePlaces : List (List ℕ × ℕ) → DiskState → Type 0
+HavePlaces index d = AllByRecursion (λ e. has_place d e.0 ≡ true) index
 
 -- the files that an opening keeps, in the order of their use
 pub record IsUseOrder (capacity : ℕ) (files : DiskFiles) (order : List Listed) : Type 0 where

@@ -7,7 +7,7 @@ use Rattle.slab.specs.Slab.{Slab, Updates, get}
 use mathlib.Core.Bool.{beq}
 use Rattle.sc_entry.specs.Causes.{IfTold}
 use Rattle.sc_lru.specs.LruCache.{total}
-use Rattle.sc_disk.specs.Disks.{DiskFiles, DiskState, Does, disk_file_at, files_now}
+use Rattle.sc_disk.specs.Disks.{DiskFiles, DiskState, Does, IsHeld, disk_file_at, files_now}
 use Rattle.sc_disk.specs.Names.{is_temporary_path, temporary}
 use Rattle.sc_disk.specs.declared.change.Change.{Change}
 use Rattle.sc_disk.specs.declared.change.Change.TheVariants.{Made, Gone}
@@ -187,4 +187,5 @@ pub record Closes (e : AddEntry) (p : Pending) (old new : Store) : Type 0 where
   pub spare : old.spare ≤ new.spare
   pub capacity : new.capacity ≡ old.capacity
   pub disk : new.disk ≡ old.disk
+  pub held : IsHeld (temporary_of e) new.disk
   pub fits : indexed new + (reserved new + p.size) ≤ new.capacity

@@ -16,7 +16,8 @@ pub struct LruDiskCacheAddEntry {
 }
 
 impl Model for LruDiskCacheAddEntry {
-    ghost use Rattle.std.specs.Prelude.{◌≡◌, ◌<◌, ◌^◌};
+    ghost use Rattle.std.specs.Prelude.{◌≡◌, ◌<◌, ◌^◌, is_some, true};
+    ghost use Rattle.sc_disk.specs.Disks.{device_of};
     ghost use Rattle.sc_disk.specs.Names.{temporary};
     ghost use Rattle.sc_disk.specs.Store.{AddEntry, add_entry};
 
@@ -24,7 +25,7 @@ impl Model for LruDiskCacheAddEntry {
 
     ghost view = { λ e. add_entry e.number e.key e.divided };
 
-    ghost invariant = { λ e. (e.path ≡ temporary e.divided e.key e.number) × (e.number < 2 ^ 64) };
+    ghost invariant = { λ e. (e.path ≡ temporary e.divided e.key e.number) × (e.number < 2 ^ 64) × (e.divided ≡ true → is_some (device_of e.key) ≡ true) };
 }
 
 impl LruDiskCacheAddEntry {

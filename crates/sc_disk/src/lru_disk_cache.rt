@@ -1,8 +1,9 @@
 //! A store of files in the order of their use.
-ghost use Rattle.std.specs.Prelude.{◌≡◌, ◌⊎◌, Bool, false, true, ℕ, ◌+◌, ◌-◌, ◌<◌, ◌≤◌, ◌↔◌, ◌∷◌, ◌++◌, [], Some, None, IfOk, OnOk, OnErr, IfErr, IsTrue, length, drop, is_some, bytes_eq};
+ghost use Rattle.std.specs.Prelude.{◌≡◌, ◌⊎◌, Bool, false, true, ℕ, ◌+◌, ◌-◌, ◌<◌, ◌≤◌, ◌&&◌, ◌↔◌, ◌∷◌, ◌++◌, [], Some, None, IfOk, OnOk, OnErr, IfErr, IsTrue, length, drop, is_some, bytes_eq};
 ghost use Rattle.std.specs.Map.{lookup};
 ghost use Rattle.sc_lru.specs.LruCache.{suffix_within, total};
-ghost use Rattle.sc_disk.specs.Disks.{Does, DoesPart, DiskCause, IsSize};
+ghost use Rattle.sc_entry.specs.Keys.{is_file_key as is_file_key_spec};
+ghost use Rattle.sc_disk.specs.Disks.{DiskCause, Does, DoesPart, IsHeld, IsSize, has_place};
 ghost use Rattle.sc_disk.specs.Calls.{Prepares, RefusesAdd, CommitCause, Commits, Places, RefusesCommit, RefusesPlace, Settles, Undoes, touched_by};
 ghost use Rattle.sc_lru.specs.Order.{touched};
 ghost use Rattle.sc_disk.specs.Store.{Store, Evicts, Needed, Fits, Alters, Opens, Closes, Closed, IsOpen, IsTidy, indexed, reserved, size_of, is_open, temporary_of};
@@ -169,6 +170,7 @@ impl<D: Disk> LruDiskCache<D> {
     pub(crate) fn use_key(&mut self, key: &FileKey) -> bool
         ensures index { self.new.index ≡ touched (bytes_eq key.now) self.old.index }
         ensures found { result ≡ is_some (lookup (bytes_eq key.now) self.old.index) }
+        ensures held { is_temporary_path key.now ≡ false → result ≡ true → IsHeld key.now self.new.disk }
         ensures pending { self.new.pending ≡ self.old.pending }
         ensures capacity { self.new.capacity ≡ self.old.capacity }
         ensures disk { self.new.disk ≡ self.old.disk }
@@ -184,6 +186,15 @@ impl<D: Disk> LruDiskCache<D> {
         ensures { result + reserved self.now ≡ self.now.capacity }
     {
         self.capacity - self.held
+    }
+
+    // Whether a text is a file key that the disk has a place for.
+    fn is_key(&self, key: &FileKey) -> bool
+        ensures both { result ≡ (is_file_key_spec key.now && has_place self.now.disk key.now) }
+        ensures key { result ≡ true → is_file_key_spec key.now ≡ true }
+        ensures placed { result ≡ true → has_place self.now.disk key.now ≡ true }
+    {
+        is_file_key(key.as_text()) && self.disk.has_place(key.as_text())
     }
 
     // Takes the memory of one more open entry.
@@ -206,6 +217,7 @@ impl<D: Disk> LruDiskCache<D> {
         now: u64,
     ) -> Result<LruDiskCacheAddEntry, Error>
         requires key { is_temporary_path key.now ≡ false }
+        requires placed { has_place self.old.disk key.now ≡ true }
         requires room { indexed self.old + (reserved self.old + size) ≤ self.old.capacity }
         requires slot { HasRoomFor self.old.pending 1 }
         ensures ok { IfOk result (λ e. Opens e key.now size now self.old self.new) }
@@ -244,7 +256,8 @@ impl<D: Disk> LruDiskCache<D> {
 
     // Removes the temporary of an entry that was closed.
     fn discard(&mut self, entry: &LruDiskCacheAddEntry) -> Result<(), DiskError>
-        requires { get self.old.pending entry.now.number ≡ None }
+        requires closed { get self.old.pending entry.now.number ≡ None }
+        requires held { IsHeld (temporary_of entry.now) self.old.disk }
         ensures ok { OnOk result (Alters (Gone (temporary_of entry.now) ∷ []) self.old self.new) }
         ensures err { OnErr result (Alters [] self.old self.new) }
         ensures cause { DiskCause self.old.disk self.new.disk result }
@@ -259,8 +272,8 @@ impl<D: Disk> LruDiskCache<D> {
     /// Opens an entry for a key: evicts until its size fits beside what is indexed and reserved, creates its temporary, and
     /// reserves the size.
     ///
-    /// A text that is no file key is refused first, then a size over the capacity, then one that doesn't fit beside the open
-    /// reservations; these evict nothing. Where an eviction's removal fails, that file stays indexed.
+    /// A text that is no file key, or has no place on the disk, is refused first, then a size over the capacity, then one that
+    /// doesn't fit beside the open reservations; these evict nothing. Where an eviction's removal fails, that file stays indexed.
     pub fn prepare_add(
         &mut self,
         key: &FileKey,
@@ -272,7 +285,7 @@ impl<D: Disk> LruDiskCache<D> {
         ensures err { IfErr result (λ refused. (n : ℕ) × RefusesAdd refused key.now size n self.old self.new) }
         ensures tidy { IsTidy self.old → IsTidy self.new }
     {
-        if !is_file_key(key.as_text()) {
+        if !self.is_key(key) {
             return Err(Error::BadKey);
         }
         if size > self.capacity {
@@ -324,6 +337,7 @@ impl<D: Disk> LruDiskCache<D> {
 impl<D: Disk> LruDiskCache<D> {
     // The size of a temporary, where it fits beside what is reserved.
     fn measure(&mut self, entry: &LruDiskCacheAddEntry) -> Result<u64, Error>
+        requires { IsHeld (temporary_of entry.now) self.old.disk }
         ensures size { IfOk result (λ r. IsSize (temporary_of entry.now) r self.old.disk) }
         ensures fits { IfOk result (λ r. r + reserved self.old ≤ self.old.capacity) }
         ensures cause { IfErr result (λ refused. CommitCause refused (temporary_of entry.now) (reserved self.old) self.old self.new.disk.faults) }
@@ -359,11 +373,14 @@ impl<D: Disk> LruDiskCache<D> {
     ) -> Result<(), Error>
         requires closed { get self.old.pending entry.now.number ≡ None }
         requires key { is_temporary_path key ≡ false }
+        requires same_key { key ≡ entry.now.key }
+        requires divided { entry.now.divided ≡ self.old.disk.divided }
         requires spare { 0 < self.old.spare }
         requires room { indexed self.old + (reserved self.old + size) ≤ self.old.capacity }
         requires size { IsSize (temporary_of entry.now) size self.old.disk }
         ensures ok { OnOk result (Settles entry.now key size now self.old self.new) }
         ensures err { OnErr result ((touches : Bool) × Alters (touched_by touches (temporary_of entry.now) now) self.old self.new) }
+        ensures held { OnErr result (IsHeld (temporary_of entry.now) self.new.disk) }
         ensures cause { IfErr result (DiskRefusal self.old.disk.faults self.new.disk.faults) }
     {
         let _distinct = self.index.len();
@@ -387,9 +404,13 @@ impl<D: Disk> LruDiskCache<D> {
     ) -> Result<(), Error>
         requires closed { get self.old.pending entry.now.number ≡ None }
         requires key { is_temporary_path pending.key ≡ false }
+        requires same_key { pending.key ≡ entry.now.key }
+        requires divided { entry.now.divided ≡ self.old.disk.divided }
+        requires held { IsHeld (temporary_of entry.now) self.old.disk }
         requires room { indexed self.old + (reserved self.old + pending.size) ≤ self.old.capacity }
         ensures ok { OnOk result ((r : ℕ) × (n : ℕ) × Places entry.now pending r now n self.old self.new) }
         ensures err { IfErr result (λ refused. (n : ℕ) × (touches : Bool) × RefusesPlace refused entry.now pending now n touches self.old self.new) }
+        ensures held { OnErr result (IsHeld (temporary_of entry.now) self.new.disk) }
     {
         let size = self.measure(entry)?;
         self.reserve_pair()?;
@@ -418,7 +439,8 @@ impl<D: Disk> LruDiskCache<D> {
 
     // Removes the temporary of an entry that isn't committed. Want of memory takes the place of the cause.
     pub(crate) fn undo(&mut self, entry: &LruDiskCacheAddEntry, refused: Error) -> Error
-        requires { get self.old.pending entry.now.number ≡ None }
+        requires closed { get self.old.pending entry.now.number ≡ None }
+        requires held { IsHeld (temporary_of entry.now) self.old.disk }
         ensures { (removes : Bool) × Undoes refused result removes entry.now self.old self.new }
     {
         match self.discard(entry) {

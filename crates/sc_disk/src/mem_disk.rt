@@ -1,7 +1,8 @@
 ghost use Rattle.std.specs.Prelude.{◌≡◌, ◌∷◌, ◌++◌, [], ◌||◌, Some, IfOk, OnOk, OnErr, true, false};
 ghost use Rattle.std.specs.Option.{option_copied, option_map};
 ghost use Rattle.sc_disk.specs.declared.change.Change.TheVariants.{Made, Added, Touched, Moved, Gone};
-ghost use Rattle.sc_disk.specs.Disks.{Does, DoesPart, DiskCause, IsSize, HasBytes, IsListing, Adopts, AdoptsPart, change, disk_file, disk_file_at, outside_file_at, with_disk_file};
+ghost use Rattle.sc_disk.specs.Devices.{CountsOn, MakesOn};
+ghost use Rattle.sc_disk.specs.Disks.{Adopts, AdoptsPart, ArePlaced, Changes, ChangesPart, DiskCause, Does, DoesPart, HasBytes, IsHeld, IsListing, IsOneDevice, IsSize, change, disk_file, disk_file_at, has_place, outside_file_at, with_disk_file};
 ghost use Rattle.sc_disk.specs.Memory.{Alters, Answers, Counts, held_files, lacks, lacks_outside, memory, memory_state, outside_of, with_changes};
 
 use crate::change::Change;
@@ -100,8 +101,12 @@ impl MemDisk {
     // Counts a call, and says whether it is refused.
     fn refuses(&mut self, absent: bool) -> bool
         ensures counted { Counts absent self.old.calls self.new.calls result }
+        ensures counts { CountsOn (Some self.old.calls) (Some self.new.calls) self.old.calls.faults self.new.calls.faults }
+        ensures present { absent ≡ false → MakesOn (Some self.old.calls) (Some self.new.calls) self.old.calls.faults self.new.calls.faults }
+        ensures passes { result ≡ false → MakesOn (Some self.old.calls) (Some self.new.calls) self.old.calls.faults self.new.calls.faults }
         ensures alters { Alters [] self.old self.new }
     {
+        let _made = self.calls.made();
         if self.calls.fails_next() {
             return true;
         }
@@ -226,9 +231,15 @@ impl Disk for MemDisk {
         false
     }
 
+    fn has_place(&self, _path: &Text) -> bool {
+        let _undivided = &self.root;
+        true
+    }
+
     fn list(&mut self) -> Result<Items<Listed>, DiskError>
         ensures same { Does [] (memory_state self.old) (memory_state self.new) }
         ensures listed { IfOk result (λ all. IsListing all (memory_state self.old)) }
+        ensures placed { IfOk result (λ all. ArePlaced all (memory_state self.old)) }
         ensures cause { DiskCause (memory_state self.old) (memory_state self.new) result }
         ensures answers { Answers (false) self.old self.new result }
     {
@@ -241,7 +252,8 @@ impl Disk for MemDisk {
 
     fn create(&mut self, path: &Text, now: u64) -> Result<(), DiskError>
         ensures ok { OnOk result (Does (Made path.now now ∷ []) (memory_state self.old) (memory_state self.new)) }
-        ensures err { OnErr result (Does [] (memory_state self.old) (memory_state self.new)) }
+        ensures err { OnErr result (Changes [] (memory_state self.old) (memory_state self.new)) }
+        ensures placed { has_place (memory_state self.old) path.now ≡ true → OnErr result (Does [] (memory_state self.old) (memory_state self.new)) }
         ensures cause { DiskCause (memory_state self.old) (memory_state self.new) result }
         ensures answers { Answers (false) self.old self.new result }
     {
@@ -254,7 +266,8 @@ impl Disk for MemDisk {
 
     fn append(&mut self, path: &Text, bytes: &[u8]) -> Result<(), DiskError>
         ensures ok { OnOk result (Does (Added path.now bytes.now ∷ []) (memory_state self.old) (memory_state self.new)) }
-        ensures err { OnErr result (DoesPart path.now bytes.now (memory_state self.old) (memory_state self.new)) }
+        ensures err { OnErr result (ChangesPart path.now bytes.now (memory_state self.old) (memory_state self.new)) }
+        ensures held { IsHeld path.now (memory_state self.old) → OnErr result (DoesPart path.now bytes.now (memory_state self.old) (memory_state self.new)) }
         ensures cause { DiskCause (memory_state self.old) (memory_state self.new) result }
         ensures answers { Answers (lacks self.old path.now) self.old self.new result }
     {
@@ -282,7 +295,9 @@ impl Disk for MemDisk {
     }
 
     fn len(&mut self, path: &Text) -> Result<u64, DiskError>
-        ensures same { Does [] (memory_state self.old) (memory_state self.new) }
+        ensures same { Changes [] (memory_state self.old) (memory_state self.new) }
+        ensures ok { OnOk result (Does [] (memory_state self.old) (memory_state self.new)) }
+        ensures held { IsHeld path.now (memory_state self.old) → OnErr result (Does [] (memory_state self.old) (memory_state self.new)) }
         ensures size { IfOk result (λ n. IsSize path.now n (memory_state self.old)) }
         ensures cause { DiskCause (memory_state self.old) (memory_state self.new) result }
         ensures answers { Answers (lacks self.old path.now) self.old self.new result }
@@ -298,7 +313,9 @@ impl Disk for MemDisk {
     }
 
     fn read(&mut self, path: &Text) -> Result<ByteText, DiskError>
-        ensures same { Does [] (memory_state self.old) (memory_state self.new) }
+        ensures same { Changes [] (memory_state self.old) (memory_state self.new) }
+        ensures ok { OnOk result (Does [] (memory_state self.old) (memory_state self.new)) }
+        ensures held { IsHeld path.now (memory_state self.old) → OnErr result (Does [] (memory_state self.old) (memory_state self.new)) }
         ensures bytes { IfOk result (λ bytes. HasBytes path.now bytes (memory_state self.old)) }
         ensures cause { DiskCause (memory_state self.old) (memory_state self.new) result }
         ensures answers { Answers (lacks self.old path.now) self.old self.new result }
@@ -318,7 +335,8 @@ impl Disk for MemDisk {
 
     fn rename(&mut self, from: &Text, to: &Text) -> Result<(), DiskError>
         ensures ok { OnOk result (Does (Moved from.now to.now ∷ []) (memory_state self.old) (memory_state self.new)) }
-        ensures err { OnErr result (Does [] (memory_state self.old) (memory_state self.new)) }
+        ensures err { OnErr result (Changes [] (memory_state self.old) (memory_state self.new)) }
+        ensures held { IsHeld from.now (memory_state self.old) → IsOneDevice from.now to.now (memory_state self.old) → OnErr result (Does [] (memory_state self.old) (memory_state self.new)) }
         ensures cause { DiskCause (memory_state self.old) (memory_state self.new) result }
         ensures answers { Answers (lacks self.old from.now) self.old self.new result }
     {
@@ -332,7 +350,9 @@ impl Disk for MemDisk {
 
     fn remove(&mut self, path: &Text) -> Result<(), DiskError>
         ensures ok { OnOk result (Does (Gone path.now ∷ []) (memory_state self.old) (memory_state self.new)) }
-        ensures err { OnErr result (Does [] (memory_state self.old) (memory_state self.new)) }
+        ensures err { OnErr result (Changes [] (memory_state self.old) (memory_state self.new)) }
+        ensures placed { has_place (memory_state self.old) path.now ≡ true → OnErr result (Does [] (memory_state self.old) (memory_state self.new)) }
+        ensures held { IsHeld path.now (memory_state self.old) → OnErr result (Does [] (memory_state self.old) (memory_state self.new)) }
         ensures cause { DiskCause (memory_state self.old) (memory_state self.new) result }
         ensures answers { Answers (false) self.old self.new result }
     {
@@ -345,7 +365,8 @@ impl Disk for MemDisk {
 
     fn touch(&mut self, path: &Text, now: u64) -> Result<(), DiskError>
         ensures ok { OnOk result (Does (Touched path.now now ∷ []) (memory_state self.old) (memory_state self.new)) }
-        ensures err { OnErr result (Does [] (memory_state self.old) (memory_state self.new)) }
+        ensures err { OnErr result (Changes [] (memory_state self.old) (memory_state self.new)) }
+        ensures held { IsHeld path.now (memory_state self.old) → OnErr result (Does [] (memory_state self.old) (memory_state self.new)) }
         ensures cause { DiskCause (memory_state self.old) (memory_state self.new) result }
         ensures answers { Answers (lacks self.old path.now) self.old self.new result }
     {

@@ -4,8 +4,8 @@ ghost use Rattle.std.specs.List.{AllByRecursion, IsDistinct};
 ghost use Rattle.std.specs.Map.{keys_of};
 ghost use Rattle.sc_entry.specs.Causes.{IfTold};
 ghost use Rattle.sc_lru.specs.LruCache.{total};
-ghost use Rattle.sc_disk.specs.Disks.{Does, DiskCause, files_now};
-ghost use Rattle.sc_disk.specs.Opening.{Admits, Drops, Follows, IsReopened, RefusesOpening, Reopens, dropped_of, is_kept, kept_of, pairs_of, paths_of};
+ghost use Rattle.sc_disk.specs.Disks.{ArePlaced, DiskCause, Does, files_now};
+ghost use Rattle.sc_disk.specs.Opening.{Admits, Drops, Follows, HavePlaces, IsReopened, RefusesOpening, Reopens, dropped_of, is_kept, kept_of, pairs_of, paths_of};
 ghost use Rattle.sc_disk.specs.Refusals.{DiskRefusal};
 ghost use Rattle.sc_disk.specs.Store.{AreKeys, IsTidy, Needed, firsts, gone, size_of};
 
@@ -42,6 +42,7 @@ fn keep_files<D: Disk>(
     capacity: u64,
     all: Vec<Listed>,
 ) -> Result<Vec<Listed>, Error>
+    requires { ArePlaced all.items (D.state disk.old) }
     ensures kept { IfOk result (λ kept. kept.items ≡ kept_of capacity all.items) }
     ensures ok { OnOk result (Does (gone (paths_of (dropped_of capacity all.items))) (D.state disk.old) (D.state disk.new)) }
     ensures err { OnErr result ((removed : List (List ℕ)) × (rest : List (List ℕ)) × (removed ++ rest ≡ paths_of (dropped_of capacity all.items)) × Does (gone removed) (D.state disk.old) (D.state disk.new)) }
@@ -60,6 +61,7 @@ fn keep_files<D: Disk>(
 
 // Removes the least recently used file, and then its pair.
 fn evict_first<D: Disk>(disk: &mut D, index: &mut Index) -> Result<(), DiskError>
+    requires { HavePlaces index.old.entries (D.state disk.old) }
     ensures ok { OnOk result (Drops 1 index.old.entries index.new.entries (D.state disk.old) (D.state disk.new)) }
     ensures err { OnErr result (Drops 0 index.old.entries index.new.entries (D.state disk.old) (D.state disk.new)) }
     ensures capacity { index.new.capacity ≡ index.old.capacity }
@@ -75,6 +77,7 @@ fn evict_first<D: Disk>(disk: &mut D, index: &mut Index) -> Result<(), DiskError
 
 // Evicts until the indexed files take at most `limit`.
 fn evict_until<D: Disk>(disk: &mut D, index: &mut Index, limit: u64) -> Result<(), DiskError>
+    requires { HavePlaces index.old.entries (D.state disk.old) }
     ensures drops { (n : ℕ) × Drops n index.old.entries index.new.entries (D.state disk.old) (D.state disk.new) × Needed limit n index.old.entries }
     ensures within { OnOk result (total size_of index.new.entries ≤ limit) }
     ensures capacity { index.new.capacity ≡ index.old.capacity }
@@ -88,7 +91,8 @@ fn evict_until<D: Disk>(disk: &mut D, index: &mut Index, limit: u64) -> Result<(
 
 // Indexes a file behind the others, and evicts until they fit beside it.
 fn admit<D: Disk>(disk: &mut D, index: &mut Index, file: Listed) -> Result<(), Error>
-    requires { file.size ≤ index.old.capacity }
+    requires size { file.size ≤ index.old.capacity }
+    requires placed { HavePlaces index.old.entries (D.state disk.old) }
     ensures ok { OnOk result ((n : ℕ) × Admits file index.old.capacity n index.old.entries index.new.entries (D.state disk.old) (D.state disk.new)) }
     ensures err { OnErr result ((n : ℕ) × Needed (index.old.capacity - file.size) n index.old.entries × Does (gone (firsts n index.old.entries)) (D.state disk.old) (D.state disk.new)) }
     ensures capacity { index.new.capacity ≡ index.old.capacity }
@@ -107,7 +111,8 @@ fn index_files<D: Disk>(
     capacity: u64,
     files: Vec<Listed>,
 ) -> Result<Index, Error>
-    requires { AllByRecursion (λ e. is_kept capacity e ≡ true) files.items }
+    requires kept { AllByRecursion (λ e. is_kept capacity e ≡ true) files.items }
+    requires placed { ArePlaced files.items (D.state disk.old) }
     ensures ok { IfOk result (λ index. (removed : List (List ℕ)) × Does (gone removed) (D.state disk.old) (D.state disk.new) × (IsDistinct bytes_eq (keys_of (pairs_of files.items)) → (n : ℕ) × Follows capacity n files.items index.entries removed)) }
     ensures err { OnErr result ((removed : List (List ℕ)) × Does (gone removed) (D.state disk.old) (D.state disk.new) × (IsDistinct bytes_eq (keys_of (pairs_of files.items)) → (n : ℕ) × Needed capacity n (pairs_of files.items) × (removed ≡ firsts n (pairs_of files.items)))) }
     ensures keys { IfOk result (λ index. AreKeys index.entries) }

@@ -5,7 +5,7 @@ ghost use Rattle.std.specs.Map.{lookup, remove_entry};
 ghost use Rattle.sc_entry.specs.Keys.{is_file_key};
 ghost use Rattle.sc_lru.specs.Order.{touched};
 ghost use Rattle.sc_disk.specs.Calls.{Gets, RefusesGet, Reads, Removes, touched_by, removed_by};
-ghost use Rattle.sc_disk.specs.Disks.{Does, HasBytes};
+ghost use Rattle.sc_disk.specs.Disks.{Does, HasBytes, IsHeld};
 ghost use Rattle.sc_disk.specs.Refusals.{DiskRefusal, RemoveCause};
 ghost use Rattle.sc_disk.specs.Store.{Alters, IsTidy};
 ghost use Rattle.sc_disk.specs.declared.change.Change.TheVariants.{Gone, Touched};
@@ -21,6 +21,7 @@ use std::io::Cursor;
 impl<D: Disk> LruDiskCache<D> {
     // Gives a key's file its moment, and reads it.
     fn read_used(&mut self, key: &FileKey, now: u64) -> Result<ByteText, Error>
+        requires { IsHeld key.now self.old.disk }
         ensures ok { IfOk result (λ bytes. Reads key.now bytes now self.old self.new) }
         ensures err { OnErr result ((touches : Bool) × Alters (touched_by touches key.now now) self.old self.new) }
         ensures cause { IfErr result (DiskRefusal self.old.disk.faults self.new.disk.faults) }

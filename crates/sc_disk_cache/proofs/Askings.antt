@@ -6,8 +6,7 @@ use Rattle.sc_entry.specs.Keys.{IsStoreKey, is_store_key, make_key_path, normali
 use Rattle.sc_entry.specs.declared.cache_mode.CacheMode.{CacheMode}
 use Rattle.sc_entry.specs.declared.memory.NoMemory.{NoMemory}
 use Rattle.sc_entry.specs.declared.object.Object.{Object}
-use Rattle.sc_model.specs.Devices.{Calls, MakesOn}
-use Rattle.sc_model.specs.World.{Answers, Answers_path, Answers_pre, Answers_whole, Answers_raw, Asks, Keeps_all, Later, Level, Opens_by, Spells, find_file, is_later}
+use Rattle.sc_model.specs.World.{Answers, Answers_path, Answers_pre, Answers_whole, Answers_raw, Asks, Keeps_all, Later, Level, Opens_by, Spells, find_file, level_size}
 use Rattle.sc_model.specs.declared.event.Answer.{Answer}
 use Rattle.sc_model.specs.declared.event.Answer.TheVariants.{Found as FoundAt, Hit, Miss, Refused, Size as SizeIs}
 use Rattle.sc_model.specs.declared.event.Mode.{Mode}
@@ -26,6 +25,7 @@ use Rattle.sc_disk_cache.specs.Marked.{TellsMark, with_mark}
 use Rattle.sc_disk_cache.specs.Marks.{Marks, is_marked}
 use Rattle.sc_disk_cache.specs.Moving.{AskCause, AsksDisk, HasFile, OpensFor, ReadsAt, Steady, hit_or_miss, reads_key}
 use Rattle.sc_disk_cache.specs.Wholes.{hit_of, if_spells, mode_answer, whole_answer}
+use Rattle.sc_disk_cache.proofs.Devices.{later_same}
 
 -- what every disk store is
 module _ {D : Type 0} (mode : CacheMode) (capacity : ℕ) where
@@ -33,23 +33,8 @@ module _ {D : Type 0} (mode : CacheMode) (capacity : ℕ) where
   disk-kind (Some c) t = refl
   disk-kind None t = refl
 
-  pub disk-calls : (o : Option (PairCache D)) (t : Option TwoState) → (store_of mode capacity o t).level.calls ≡ None
-  disk-calls (Some c) t = refl
-  disk-calls None t = refl
-
-later_self : (v : Level) → v.calls ≡ None → Later v v
-later_self v none = record { faults = omega arith; losses = omega arith; calls = none_self v.calls v.faults none; opened = opened_self v.opened }
-  where
-    none_self : (c : Option Calls) (f : ℕ) → c ≡ None → MakesOn c c f f
-    none_self None f e = refl
-    none_self (Some x) f e = cc
-
-    opened_self : (b : Bool) → is_later b b ≡ true
-    opened_self true = refl
-    opened_self false = refl
-
-pub steady-self : (s : DiskStore) → s.level.calls ≡ None → Steady s s
-steady-self s none = record { facts = refl; told = refl; later = later_self s.level none; main = refl; pre = refl; reserved = refl; entries = refl }
+pub steady-self : (s : DiskStore) → Steady s s
+steady-self s = record { facts = refl; told = refl; later = later_same s.level; main = refl; pre = refl; reserved = refl; entries = refl }
 
 rose_then : (a b c : ℕ) → Rose a b → b ≤ c → Rose a c
 rose_then a b c h l = omega (arith, h, l)
@@ -216,12 +201,12 @@ not_both true p q = cc
 not_both false p q = cc
 
 -- a bad key
-pub asked-bad : (mode : Mode) (k : List ℕ) (s : DiskStore) → reads_key mode ≡ true → s.facts.kind ≡ Disk → s.level.calls ≡ None → is_store_key k ≡ false → AsksDisk k mode (Refused BadKey) s s
-asked-bad Whole k s reads kind none bad told = asks-whole s.facts s.reserved k (Refused BadKey) s.level s.level kind (later_self s.level none) refl refl (not_both (is_store_key k) bad) refl
-asked-bad Raw k s reads kind none bad told = asks-raw s.facts s.reserved k (Refused BadKey) s.level s.level kind (later_self s.level none) refl refl (not_both (is_store_key k) bad) refl
-asked-bad Path k s reads kind none bad told = cc
-asked-bad PreMode k s reads kind none bad told = cc
-asked-bad Sizes k s reads kind none bad told = cc
+pub asked-bad : (mode : Mode) (k : List ℕ) (s : DiskStore) → reads_key mode ≡ true → s.facts.kind ≡ Disk → is_store_key k ≡ false → AsksDisk k mode (Refused BadKey) s s
+asked-bad Whole k s reads kind bad told = asks-whole s.facts s.reserved k (Refused BadKey) s.level s.level kind (later_same s.level) refl refl (not_both (is_store_key k) bad) refl
+asked-bad Raw k s reads kind bad told = asks-raw s.facts s.reserved k (Refused BadKey) s.level s.level kind (later_same s.level) refl refl (not_both (is_store_key k) bad) refl
+asked-bad Path k s reads kind bad told = cc
+asked-bad PreMode k s reads kind bad told = cc
+asked-bad Sizes k s reads kind bad told = cc
 
 pub cause-bad : (mode : Mode) (k : List ℕ) (v w : Level) → reads_key mode ≡ true → is_store_key k ≡ false → AskCause mode (Refused BadKey) k v w
 cause-bad Whole k v w reads bad = not_both (is_store_key k) bad
@@ -256,8 +241,8 @@ asked-pre k a old new kind good s h o told =
     let r = subst (λ (t : Bool). ReadsAt Pre (normalize_key k) a t old.level new.level) told h in
     asks-pre old.facts old.reserved k (hit_or_miss a) old.level new.level kind s.later s.main s.pre (pre-answers k a old.level new.level good r o) (pre-opens (normalize_key k) a old.level new.level r o)
 
-pub asked-pre_bad : (k : List ℕ) (s : DiskStore) → s.facts.kind ≡ Disk → s.level.calls ≡ None → is_store_key k ≡ false → AsksDisk k PreMode Miss s s
-asked-pre_bad k s kind none bad told = asks-pre s.facts s.reserved k Miss s.level s.level kind (later_self s.level none) refl refl (inl (not_both (is_store_key k) bad, refl)) tt
+pub asked-pre_bad : (k : List ℕ) (s : DiskStore) → s.facts.kind ≡ Disk → is_store_key k ≡ false → AsksDisk k PreMode Miss s s
+asked-pre_bad k s kind bad told = asks-pre s.facts s.reserved k Miss s.level s.level kind (later_same s.level) refl refl (inl (not_both (is_store_key k) bad, refl)) tt
 
 pub asked-pre_refused : (k : List ℕ) (old new : DiskStore) → old.facts.kind ≡ Disk → IsStoreKey k → Steady old new → Rose old.level.faults new.level.faults → new.level.opened ≡ false → AsksDisk k PreMode (Refused Io) old new
 asked-pre_refused k old new kind good s rose shut told = asks-pre old.facts old.reserved k (Refused Io) old.level new.level kind s.later s.main s.pre (good, rose, shut) tt
@@ -278,11 +263,20 @@ asked-path k root p old new kind good s h o at is told =
 pub asked-path_none : (k : List ℕ) (old new : DiskStore) → old.facts.kind ≡ Disk → IsStoreKey k → Steady old new → HasFile (make_key_path k) false old.told new.level → new.level.opened ≡ true → AsksDisk k Path Miss old new
 asked-path_none k old new kind good s h o told = asks-path old.facts old.reserved k Miss old.level new.level kind s.later s.main s.pre (inr (good, inl (o, h))) tt
 
-pub asked-path_bad : (k : List ℕ) (s : DiskStore) → s.facts.kind ≡ Disk → s.level.calls ≡ None → is_store_key k ≡ false → AsksDisk k Path Miss s s
-asked-path_bad k s kind none bad told = asks-path s.facts s.reserved k Miss s.level s.level kind (later_self s.level none) refl refl (inl (not_both (is_store_key k) bad, refl)) tt
+pub asked-path_bad : (k : List ℕ) (s : DiskStore) → s.facts.kind ≡ Disk → is_store_key k ≡ false → AsksDisk k Path Miss s s
+asked-path_bad k s kind bad told = asks-path s.facts s.reserved k Miss s.level s.level kind (later_same s.level) refl refl (inl (not_both (is_store_key k) bad, refl)) tt
 
 pub asked-path_refused : (k : List ℕ) (old new : DiskStore) → old.facts.kind ≡ Disk → IsStoreKey k → Steady old new → Rose old.level.faults new.level.faults → AsksDisk k Path Miss old new
 asked-path_refused k old new kind good s rose told = asks-path old.facts old.reserved k Miss old.level new.level kind s.later s.main s.pre (inr (good, inr rose)) tt
+
+-- how much it holds
+pub asked-size : (k : List ℕ) (n : Option ℕ) (s : DiskStore) → s.facts.kind ≡ Disk → (s.told ≡ true → n ≡ level_size Disk s.level s.reserved) → AsksDisk k Sizes (SizeIs n None) s s
+asked-size k n s kind is told = record {
+  later = later_same s.level;
+  keeps = subst (λ (d : LevelKind). Keeps_all d s.level s.level) (sym kind) (refl, refl);
+  answers = subst (λ (d : LevelKind). n ≡ level_size d s.level s.reserved) (sym kind) (is told);
+  opens = subst (λ (d : LevelKind). Opens_by d Sizes (SizeIs n None) s.level s.level) (sym kind) refl;
+}
 
 -- a hit that tells its mark
 opens_marked : (d : LevelKind) (mode : Mode) (bytes : List ℕ) (m b : Bool) (v w : Level) → reads_key mode ≡ true → Opens_by d mode (Hit bytes m) v w → Opens_by d mode (Hit bytes b) v w

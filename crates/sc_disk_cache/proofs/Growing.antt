@@ -7,6 +7,7 @@ use Rattle.std.specs.Map.{keys_of, lookup}
 use Rattle.sc_entry.specs.Causes.{IfTold, Rose}
 use Rattle.sc_entry.specs.declared.cache_mode.CacheMode.{CacheMode}
 use Rattle.sc_lru.specs.LruCache.{total}
+use Rattle.sc_disk.proofs.Devices.{unmade}
 use Rattle.sc_disk.proofs.Doing.{replay-append}
 use Rattle.sc_disk.proofs.Temporaries.{temporary_is}
 use Rattle.sc_disk.specs.Calls.{CommitCause, Commits, EvictsNone, NeededFor, RefusesCommit}
@@ -131,7 +132,7 @@ module _ (mode : CacheMode) (old new : Store) (e : AddEntry) (now : ℕ) (o : Is
         omega (arith, fits, rest, long),
         (
           level_of true (without n old).index (without n old).disk,
-          evicted old.capacity (reserved new + max (length x.bytes) x.size) n [] old (without n old) told sound d placed tt refl (record { told = refl; faults = omega arith; root = refl; divided = refl })
+          evicted old.capacity (reserved new + max (length x.bytes) x.size) n [] old (without n old) told sound d placed tt refl (record { told = refl; faults = omega arith; calls = unmade old.disk.calls old.disk.faults; root = refl; divided = refl; letters = refl })
               (λ m l. let over : old.capacity - (others old e.number + max size (declared_at old e.number)) < total measure (drop m old.index) = c.evicted.0 m l in omega (arith, over, rest, long, declared)),
           done_with r.0 part p x size n r.1 h path c,
         ),

@@ -3,6 +3,7 @@ pub mod Changing
 pub mod Closings
 pub mod Commits
 pub mod Counting
+pub mod Devices
 pub mod Evicting
 pub mod Finding
 pub mod Growing

@@ -1,5 +1,5 @@
 -- An entry is opened, or it isn't.
-use Rattle.std.proofs.Common.{◌≡◌, ℕ, ◌+◌, ◌^◌, ◌<◌, ◌≤◌, true, false, cond, is_some, bytes_eq, option_map, slice_index_or, List, [], ◌∷◌, length, nat_lt, Option, Some, None, refl, sym, ap, ◌∙◌, subst, arith}
+use Rattle.std.proofs.Common.{◌≡◌, ℕ, ◌+◌, ◌^◌, ◌<◌, ◌≤◌, true, false, ◌&&◌, cond, is_some, bytes_eq, option_map, slice_index_or, List, [], ◌∷◌, length, nat_lt, Option, Some, None, refl, sym, ap, ◌∙◌, subst, arith}
 use Rattle.std.proofs.lemmas.Bool.{le-ltb}
 use Rattle.std.specs.List.{IsDistinct}
 use Rattle.std.specs.Map.{keys_of}
@@ -9,7 +9,7 @@ use Rattle.sc_entry.specs.declared.cache_mode.CacheMode.{CacheMode}
 use Rattle.sc_disk.proofs.Files.{self_path}
 use Rattle.sc_disk.proofs.Temporaries.{numbers-apart, temporary_is}
 use Rattle.sc_disk.specs.Calls.{Prepares, RefusesAdd}
-use Rattle.sc_disk.specs.Disks.{DiskRecord, did_all, files_now, replay}
+use Rattle.sc_disk.specs.Disks.{DiskRecord, did_all, files_now, has_place, replay}
 use Rattle.sc_disk.specs.Names.{temporary}
 use Rattle.sc_disk.specs.Refusals.{AddCause}
 use Rattle.sc_disk.specs.Sound.{IsSound}
@@ -57,7 +57,7 @@ module _ (old new : Store) (sound : IsSound old) (d : IsDistinct bytes_eq (keys_
   pub refused-moves : (refused : Error) (k : List ℕ) (size n : ℕ) → refused ≡ Io → RefusesAdd refused k size n old new → is_some old.disk.told ≡ true
       → Reserves old.capacity (room_causes old.capacity (reserved old) size) (reserved old) size (WriteRefused ForIo) (level_of true old.index old.disk) (level_of true new.index new.disk)
   refused-moves refused k size n is p told =
-      let cause = subst (AddCause (is_file_key k) size (reserved old) old.capacity old.disk.faults new.disk.faults) is p.cause in
+      let cause = subst (AddCause (is_file_key k && has_place old.disk k) size (reserved old) old.capacity old.disk.faults new.disk.faults) is p.cause in
       let free = room-free old.capacity (reserved old) size cause.1 in (
         refl,
         cause.2,

@@ -31,10 +31,10 @@ use Rattle.sc_disk_cache.specs.declared.filling.Filling.TheVariants.{Filled as S
 use Rattle.sc_disk_cache.specs.declared.reserving.Reservation.{Reservation}
 use Rattle.sc_disk_cache.specs.declared.reserving.Reservation.TheVariants.{Open as IsOpened, Refused as IsRefused_of}
 use Rattle.sc_disk_cache.proofs.Askings.{if_ok, rose_before}
+use Rattle.sc_disk_cache.proofs.Devices.{later_then}
 use Rattle.sc_disk_cache.proofs.Lending.{on_err, store-sized}
 use Rattle.sc_disk_cache.proofs.Preparing.{not_less, room-free}
 use Rattle.sc_disk_cache.proofs.Reservings.{IsRoom, evicts_from, none-is-room, room_of, unless_from, unless_same}
-use Rattle.sc_disk_cache.proofs.Steadying.{later-then}
 
 -- a store that holds no more than its capacity
 abbrev pub IsWithin : DiskStore → Type 0
@@ -57,8 +57,8 @@ pub not-opened_entries : (path : List ℕ) (how : Reservation) (c : Cause) (s t 
 not-opened_entries path how c s t is h = subst (λ (x : Reservation). OpensBy path 0 x s t) is h
 
 -- one call after another
-pub stays-then : (s t u : DiskStore) → s.level.calls ≡ None → Stays s t → Stays t u → Stays s u
-stays-then s t u none a b = record { facts = b.facts ∙ a.facts; told = b.told ∙ a.told; later = later-then s.level t.level u.level none a.later b.later }
+pub stays-then : (s t u : DiskStore) → Stays s t → Stays t u → Stays s u
+stays-then s t u a b = record { facts = b.facts ∙ a.facts; told = b.told ∙ a.told; later = later_then s.level t.level u.level a.later b.later }
 
 -- nothing is evicted for nothing
 no_evictions : (capacity more : ℕ) (ps : List (Bool × List ℕ)) (v w : Level) → part_size v + more ≤ capacity → Evicts capacity more ps v w → same_maps v w
@@ -338,10 +338,6 @@ put_from p f r k b (WriteRefused BadKey) v u w kind early l m q h = absurd (no_s
 put_from p f r k b (WriteRefused BadEntry) v u w kind early l m q h = absurd (no_such f r (length b) BadEntry (λ x. x) h.0)
 put_from p f r k b (WriteRefused (ForReading x)) v u w kind early l m q h = absurd (no_such f r (length b) (ForReading x) (λ y. y) h.0)
 put_from p f r k b (WriteRefused (RemoteRefused x)) v u w kind early l m q h = absurd h.1
-
--- the cause that was found is the one that is said
-pub same-refusal : {S : Type 0} (s : S) (a b : Cause) → Some a ≡ Some b → ◌≡◌ {A = Result Written NoMemory} (Ok (WriteRefused a)) (Ok (WriteRefused b)) × (s ≡ s)
-same-refusal s a b h = let same : a ≡ b = cc (h) in (ap (λ (c : Cause). Ok (WriteRefused c)) same, refl)
 
 -- the store's disks refuse to open
 pub unopened-put : (old new : DiskStore) (p : Policy) (k b : List ℕ) → early_cause p old.facts k ≡ None → Rose old.level.faults new.level.faults → Steady old new

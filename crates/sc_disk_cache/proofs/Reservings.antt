@@ -92,6 +92,10 @@ early_told p f r k n (RemoteRefused d) v e h = absurd e
 pub early-cause : (p : Policy) (f : LevelFacts) (r : ℕ) (k : List ℕ) (n : ℕ) (c : Cause) (v : Level) → early_cause p f k ≡ Some c → ReserveCause (causes p f r k n) (IsRefused_of c) v v
 early-cause p f r k n c v h = early_told p f r k n c v (is_early (refuses_writes p f) (not (is_store_key k)) f c h) (early-is-all p f r k n c h)
 
+-- the cause that was found is the one that is said
+pub same-refusal : {S W : Type 0} (refused : Cause → W) (s : S) (a b : Cause) → Some a ≡ Some b → ◌≡◌ {A = Result W NoMemory} (Ok (refused a)) (Ok (refused b)) × (s ≡ s)
+same-refusal refused s a b h = (ap (λ (c : Cause). Ok (refused c)) (same_cause a b h), refl)
+
 -- the store's disks refuse to open
 pub unless_same : (o : Option Cause) (capacity more : ℕ) (v w : Level) → w.main ≡ v.main → w.pre ≡ v.pre → Evicts_unless o capacity more v w
 unless_same None capacity more v w m p = ([], (m, p))

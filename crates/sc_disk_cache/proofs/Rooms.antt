@@ -28,6 +28,7 @@ use Rattle.sc_disk_cache.specs.DiskStores.{bytes_or, entries_from, entries_of, e
 use Rattle.sc_disk_cache.specs.Moving.{Stays}
 use Rattle.sc_disk_cache.specs.Shown.{Index, bytes_at, files_of}
 use Rattle.sc_disk_cache.proofs.Changing.{bytes-added, bytes-all_gone, bytes-gone, bytes-made, bytes-touched, left_apart, lookup-dropped}
+use Rattle.sc_disk_cache.proofs.Devices.{makes_on}
 use Rattle.sc_disk_cache.proofs.Evicting.{evictions}
 use Rattle.sc_disk_cache.proofs.Finding.{same-shown}
 use Rattle.sc_disk_cache.proofs.Sizes.{IsWhole, all-whole, key_is_no_temporary}
@@ -123,7 +124,7 @@ pub stays : (mode : CacheMode) (capacity : ℕ) (old new : Store) (xs : List Cha
 stays mode capacity old new xs did = record {
   facts = ap (λ root. record { kind = (opened_store mode capacity old).facts.kind; wrapped = false; configured = mode; mode = mode; capacity = capacity; root = root }) did.root;
   told = still_told old.disk.told new.disk.told xs did.told;
-  later = record { faults = did.faults; losses = omega arith; calls = refl; opened = refl };
+  later = record { faults = did.faults; losses = omega arith; calls = makes_on old.disk.calls new.disk.calls old.disk.faults new.disk.faults did.calls; opened = refl };
 }
 
 -- The open entry of a number.

@@ -12,18 +12,17 @@ use Rattle.sc_disk.specs.Names.{temporary}
 use Rattle.sc_disk.specs.declared.change.Change.{Change}
 use Rattle.sc_disk.specs.declared.change.Change.TheVariants.{Made, Added, Touched, Moved, Gone}
 use Rattle.sc_disk.specs.declared.pending.Pending.{Pending}
-use Rattle.sc_model.specs.Devices.{Calls, MakesOn}
-use Rattle.sc_model.specs.World.{Later, Level, is_later}
 use Rattle.sc_pair.specs.Parts.{in_part}
 use Rattle.sc_pair.specs.Twos.{TwoState, joined_state}
 use Rattle.sc_pair.specs.declared.pair_cache.PairCache.{PairCache}
 use Rattle.sc_pair.specs.declared.part.Part.{Part}
 use Rattle.sc_pair.specs.declared.part.Part.TheVariants.{Main, Pre}
 use Rattle.sc_disk_cache.specs.DiskStores.{DiskStore, bytes_or, entries_from, opened_store, store_of, told_files, unopened_store}
-use Rattle.sc_disk_cache.specs.Moving.{Steady}
+use Rattle.sc_disk_cache.specs.Moving.{Stays, Steady}
 use Rattle.sc_disk_cache.specs.Reopened.{reopened}
 use Rattle.sc_disk_cache.specs.Shown.{Index, bytes_at, files_of}
 use Rattle.sc_disk_cache.proofs.Changing.{bytes-touched}
+use Rattle.sc_disk_cache.proofs.Devices.{later_same, later_then, makes_on}
 use Rattle.sc_disk_cache.proofs.Finding.{same-shown}
 use Rattle.sc_disk_cache.proofs.Openings.{files-untold, opened-files, refused-files}
 
@@ -65,7 +64,7 @@ opens mode capacity d s o again none sound =
     record {
       facts = ap (λ root. record { kind = (unopened_store mode capacity d).facts.kind; wrapped = false; configured = mode; mode = mode; capacity = capacity; root = root }) o.1.root;
       told = still_told d.told s.disk.told (gone o.0) o.1.told;
-      later = record { faults = o.1.faults; losses = omega arith; calls = refl; opened = refl };
+      later = record { faults = o.1.faults; losses = omega arith; calls = makes_on d.calls s.disk.calls d.faults s.disk.faults o.1.calls; opened = refl };
       main = files_opened Main capacity s.index d.told s.disk.told o.0 o.1.told again sound.keys agrees;
       pre = files_opened Pre capacity s.index d.told s.disk.told o.0 o.1.told again sound.keys agrees;
       reserved = ap declared none;
@@ -77,7 +76,7 @@ unfolding RefusesOpening
 refuses mode capacity d e o = record {
   facts = ap (λ root. record { kind = (unopened_store mode capacity d).facts.kind; wrapped = false; configured = mode; mode = mode; capacity = capacity; root = root }) o.1.root;
   told = still_told d.told e.told (gone o.0) o.1.told;
-  later = record { faults = o.1.faults; losses = omega arith; calls = refl; opened = refl };
+  later = record { faults = o.1.faults; losses = omega arith; calls = makes_on d.calls e.calls d.faults e.faults o.1.calls; opened = refl };
   main = files_refused Main capacity d.told e.told o.0 o.1.told o.2;
   pre = files_refused Pre capacity d.told e.told o.0 o.1.told o.2;
   reserved = refl;
@@ -140,40 +139,27 @@ uses-steady mode capacity old new xs looks pending did t =
     record {
       facts = ap (λ root. record { kind = (opened_store mode capacity old).facts.kind; wrapped = false; configured = mode; mode = mode; capacity = capacity; root = root }) did.root;
       told = still_told old.disk.told new.disk.told xs did.told;
-      later = record { faults = did.faults; losses = omega arith; calls = refl; opened = refl };
+      later = record { faults = did.faults; losses = omega arith; calls = makes_on old.disk.calls new.disk.calls old.disk.faults new.disk.faults did.calls; opened = refl };
       main = same_lookups Main old.index new.index (told_files old.disk.told) (told_files new.disk.told) looks same;
       pre = same_lookups Pre old.index new.index (told_files old.disk.told) (told_files new.disk.told) looks same;
       reserved = ap (λ p. declared p.slots) pending;
       entries = (λ i. entries_from (did.divided i) (told_files new.disk.told) 0 (pending i).slots) ∙ entries-same old.disk.divided (told_files old.disk.told) (told_files new.disk.told) 0 old.pending.slots same;
     }
 
-on_from_none : (a b c : Option Calls) (f g h : ℕ) → a ≡ None → MakesOn a b f g → MakesOn b c g h → MakesOn a c f h
-on_from_none a b c f g h none m n =
-    let second : b ≡ None = subst (λ (o : Option Calls). MakesOn o b f g) none m in
-    let third : c ≡ None = subst (λ (o : Option Calls). MakesOn o c g h) second n in
-    subst (λ (o : Option Calls). MakesOn o c f h) (sym none) third
-
-stays_opened : (a b c : Bool) → is_later a b ≡ true → is_later b c ≡ true → is_later a c ≡ true
-stays_opened true true c p q = q
-stays_opened true false c p q = cc
-stays_opened false b c p q = refl
-
--- a device that tells no calls, in two steps
-pub later-then : (a b c : Level) → a.calls ≡ None → Later a b → Later b c → Later a c
-later-then a b c none s t = record {
-  faults = omega (arith, s.faults, t.faults);
-  losses = omega (arith, s.losses, t.losses);
-  calls = on_from_none a.calls b.calls c.calls a.faults b.faults c.faults none s.calls t.calls;
-  opened = stays_opened a.opened b.opened c.opened s.opened t.opened;
-}
-
-pub steady-then : (a b c : DiskStore) → a.level.calls ≡ None → Steady a b → Steady b c → Steady a c
-steady-then a b c none s t = record {
+pub steady-then : (a b c : DiskStore) → Steady a b → Steady b c → Steady a c
+steady-then a b c s t = record {
   facts = t.facts ∙ s.facts;
   told = t.told ∙ s.told;
-  later = later-then a.level b.level c.level none s.later t.later;
+  later = later_then a.level b.level c.level s.later t.later;
   main = t.main ∙ s.main;
   pre = t.pre ∙ s.pre;
   reserved = t.reserved ∙ s.reserved;
   entries = t.entries ∙ s.entries;
 }
+
+-- a call that moved nothing, and one after an opening
+pub stays-self : (s : DiskStore) → Stays s s
+stays-self s = record { facts = refl; told = refl; later = later_same s.level }
+
+pub stays-after : (a b c : DiskStore) → Steady a b → Stays b c → Stays a c
+stays-after a b c s t = record { facts = t.facts ∙ s.facts; told = t.told ∙ s.told; later = later_then a.level b.level c.level s.later t.later }

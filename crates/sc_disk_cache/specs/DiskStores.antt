@@ -17,6 +17,7 @@ use Rattle.sc_pair.specs.Parts.{in_part}
 use Rattle.sc_pair.specs.Twos.{TwoState, joined_state}
 use Rattle.sc_pair.specs.declared.pair_cache.PairCache.{PairCache}
 use Rattle.sc_pair.specs.declared.part.Part.TheVariants.{Main, Pre}
+use Rattle.sc_disk_cache.specs.Devices.{calls_of}
 use Rattle.sc_disk_cache.specs.Reopened.{reopened}
 use Rattle.sc_disk_cache.specs.Shown.{Index, bytes_at, files_of}
 use Rattle.sc_disk_cache.specs.declared.disk_cache.DiskCache.{DiskCache}
@@ -47,7 +48,7 @@ disk_facts mode capacity root = record { kind = Disk; wrapped = false; configure
 
 -- the files of this index, on this disk
 abbrev pub level_of : Bool → Index → DiskState → Level
-level_of opened index d = record { faults = d.faults; losses = 0; calls = None; opened = opened; main = files_of Main index (told_files d.told); pre = files_of Pre index (told_files d.told) }
+level_of opened index d = record { faults = d.faults; losses = 0; calls = option_map calls_of d.calls; opened = opened; main = files_of Main index (told_files d.told); pre = files_of Pre index (told_files d.told) }
 
 abbrev pub bytes_or : Option (List ℕ) → List ℕ
 bytes_or None = []

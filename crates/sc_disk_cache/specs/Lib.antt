@@ -1,3 +1,4 @@
+pub mod Devices
 pub mod DiskStores
 pub mod Entries
 pub mod Marked

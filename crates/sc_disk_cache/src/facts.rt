@@ -1,5 +1,5 @@
 //! What does not change of a disk store.
-ghost use Rattle.std.specs.Prelude.{◌≡◌, ◌+◌, ◌≤◌, false, None, codes};
+ghost use Rattle.std.specs.Prelude.{◌≡◌, ◌+◌, ◌≤◌, false, codes};
 ghost use Rattle.sc_disk_cache.specs.DiskStores.{held_disk, indexed_bytes, unopened_store};
 ghost use Rattle.sc_disk_cache.specs.Marked.{marks_of};
 ghost use Rattle.sc_disk_cache.specs.Marks.{no_marks};
@@ -35,7 +35,6 @@ impl<D: Disk> DiskCache<D> {
     pub fn keeps(&self)
         ensures kind { (held_disk self.now).facts.kind ≡ IsDisk }
         ensures bare { (held_disk self.now).facts.wrapped ≡ false }
-        ensures calls { (held_disk self.now).level.calls ≡ None }
         ensures bound { indexed_bytes self.now + (held_disk self.now).reserved ≤ (held_disk self.now).facts.capacity }
         ensures within { part_size (held_disk self.now).level + (held_disk self.now).reserved ≤ (held_disk self.now).facts.capacity }
     {

@@ -302,6 +302,11 @@ impl<R: AllocGlobal + fs::Files + Clone + Drop> Disk for HostDisk<R> {
         false
     }
 
+    fn has_place(&self, _path: &Text) -> bool {
+        let _undivided = &self.root;
+        true
+    }
+
     fn list(&mut self) -> Result<Items<Listed>, DiskError> {
         match find_files(&self.rt, &self.root, self.is_main) {
             Ok((files, unnamed)) => {

@@ -21,7 +21,7 @@ no_list [] h = refl
 no_list (e ∷ es) h = absurd (omega (arith, h))
 
 -- nothing stands outside of either of its disks
-nothing_outside : same_outside (outside_of []) (outside_of []) ≡ true
+pub nothing_outside : same_outside (outside_of []) (outside_of []) ≡ true
 unfolding same_outside
 nothing_outside = ap (λ (es : List (List ℕ × List ℕ)). pointwise same_pair es es) (no_list (map.entries (outside_of [])) (sym (map.len-entries (outside_of [])) ∙ map.len-empty (slice_cmp nat_cmp) (List ℕ)))
 

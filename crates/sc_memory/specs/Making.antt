@@ -6,6 +6,7 @@ use Rattle.sc_disk.specs.Memory.{outside_of}
 use Rattle.sc_disk.specs.declared.change.Change.{Change}
 use Rattle.sc_disk.specs.declared.change.Change.TheVariants.{Added, Made}
 use Rattle.sc_disk_cache.specs.DiskStores.{unopened_store}
+use Rattle.sc_entry.specs.declared.calls.Calls.{Calls as Counted}
 use Rattle.sc_entry.specs.Keys.{make_key_path, normalize_key}
 use Rattle.sc_model.specs.Devices.{calls_failing}
 use Rattle.sc_model.specs.World.{Files, World, no_files}
@@ -42,13 +43,18 @@ abbrev pub filled_from : ℕ → List (List ℕ × List ℕ) → List Change →
 filled_from moment [] done = done
 filled_from moment (h ∷ holds) done = filled_from (suc moment) holds (Added (make_key_path h.0) h.1 ∷ Made (make_key_path h.0) moment ∷ done)
 
--- a disk under this root that holds the files of these keys, with the moments 0, 1, .. in their order
-abbrev pub first_disk : List ℕ → List (List ℕ × List ℕ) → DiskState
-first_disk root holds = record { told = Some (record { outside = outside_of []; first = no_disk_files; done = filled_from zero holds [] }); faults = 0; root = root; divided = false }
+-- a disk under this root that holds the files of these keys, with the moments 0, 1, .. in their order, and its device's calls
+abbrev pub first_disk : List ℕ → List (List ℕ × List ℕ) → Option Counted → DiskState
+first_disk root holds calls = record { told = Some (record { outside = outside_of []; first = no_disk_files; done = filled_from zero holds [] }); faults = 0; calls = calls; root = root; divided = false; letters = [] }
 
--- The level of this number, as a script says it. A disk level isn't opened, and holds no preprocessor entry.
+-- a level whose device was not called yet, and is to fail at the calls of these numbers
+abbrev pub failing_at : List ℕ → HeldLevel → HeldLevel
+failing_at numbers h = record h { level = record h.level { calls = Some (calls_failing numbers) } }
+
+-- The level of this number, as a script says it. A disk level isn't opened, and holds no preprocessor entry; its calls are those
+-- of the disk of its other entries.
 abbrev pub held_as : LevelKind → ℕ → LevelRule → HeldLevel
-held_as Disk level rule = of_disk nothing_given (unopened_store rule.mode rule.capacity (joined_state (joins (first_disk (main_root level) rule.holds) (first_disk (pre_root level) []))))
+held_as Disk level rule = failing_at rule.fails (of_disk nothing_given (unopened_store rule.mode rule.capacity (joined_state (joins (first_disk (main_root level) rule.holds None) (first_disk (pre_root level) [] None)))))
 held_as Remote level rule = held_remote memory_names nothing_given (as_configured rule.mode) (Some (first_files rule.holds)) 0 0 (Some (calls_failing rule.fails))
 
 abbrev pub first_held : ℕ → LevelRule → HeldLevel

@@ -6,7 +6,7 @@ ghost use Rattle.sc_memory.specs.Making.{AreLines, first_disk, first_files, firs
 ghost use Rattle.sc_model.specs.declared.level.LevelKind.TheVariants as kinds;
 ghost use Rattle.sc_script.specs.Goods.{IsGood, are_good_levels, are_good_runs, are_store_keys};
 ghost use Rattle.sc_model.specs.Devices.{calls_failing};
-ghost use Rattle.sc_store.specs.Devices.{calls_of};
+ghost use Rattle.sc_disk_cache.specs.Devices.{calls_of};
 ghost use Rattle.sc_owned.specs.State.{reserved_in, store_of};
 ghost use Rattle.sc_store.specs.Levels.{held_level};
 ghost use Rattle.sc_store.specs.Telling.{new_counters};
@@ -19,7 +19,7 @@ use sc_entry::{ByteText, Calls, Items, NoMemory, Text};
 use sc_model::{LevelKind, Step};
 use sc_owned::Owned;
 use sc_script::{LevelRule, RunRule, Script};
-use sc_store::{DiskStorage, Level, Levels, MemRemote, RemoteStorage};
+use sc_store::{DiskStorage, Level, Levels, MemRemote, RemoteStorage, Unvouched};
 use std::alloc::Global;
 use std::collections::BTreeMap;
 
@@ -65,7 +65,10 @@ fn device(
 }
 
 /// A remote level, over a device in memory.
-fn remote_level(alloc: Global, rule: LevelRule) -> Result<Level<MemRemote, MemDisk>, NoMemory>
+fn remote_level(
+    alloc: Global,
+    rule: LevelRule,
+) -> Result<Level<MemRemote, MemDisk, Unvouched>, NoMemory>
     requires { are_store_keys rule.holds ≡ true }
     ensures { IfOk result (λ level. held_level level ≡ held_as kinds.Remote 0 rule) }
 {
@@ -101,7 +104,7 @@ fn disk(
 ) -> Result<MemDisk, NoMemory>
     requires keys { are_store_keys holds.now ≡ true }
     requires faults { calls.faults ≡ 0 }
-    ensures { IfOk result (λ disk. memory_state disk ≡ first_disk root holds.now) }
+    ensures { IfOk result (λ disk. memory_state disk ≡ first_disk root holds.now (Some calls)) }
 {
     let mut disk = MemDisk::new(alloc, root, BTreeMap::new(alloc), calls);
     for moment in 0..holds.len() {
@@ -117,7 +120,7 @@ fn disk_level(
     alloc: Global,
     level: usize,
     rule: LevelRule,
-) -> Result<Level<MemRemote, MemDisk>, NoMemory>
+) -> Result<Level<MemRemote, MemDisk, Unvouched>, NoMemory>
     requires { are_store_keys rule.holds ≡ true }
     ensures { IfOk result (λ made. held_level made ≡ held_as kinds.Disk level rule) }
 {
@@ -135,7 +138,7 @@ fn level(
     alloc: Global,
     level: usize,
     rule: LevelRule,
-) -> Result<Level<MemRemote, MemDisk>, NoMemory>
+) -> Result<Level<MemRemote, MemDisk, Unvouched>, NoMemory>
     requires { are_store_keys rule.holds ≡ true }
     ensures { IfOk result (λ made. held_level made ≡ first_held level rule) }
 {
@@ -148,7 +151,7 @@ fn level(
 fn levels_of(
     alloc: Global,
     rules: Items<LevelRule>,
-) -> Result<Vec<Level<MemRemote, MemDisk>>, NoMemory>
+) -> Result<Vec<Level<MemRemote, MemDisk, Unvouched>>, NoMemory>
     requires { are_good_levels rules ≡ true }
     ensures { IfOk result (λ levels. map held_level levels.items ≡ held_first rules) }
 {

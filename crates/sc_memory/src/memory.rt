@@ -1,7 +1,7 @@
 use sc_compile::{ScriptWorkshop, ToolTable};
 use sc_disk::MemDisk;
 use sc_owned::Parts;
-use sc_store::MemRemote;
+use sc_store::{MemRemote, Unvouched};
 
 /// Parts that hold all in memory, and tell it.
 pub struct Memory;
@@ -12,6 +12,8 @@ impl Parts for Memory {
     type Store = MemRemote;
 
     type Disk = MemDisk;
+
+    type Vouch = Unvouched;
 
     type Finder = ToolTable;
 }

@@ -12,7 +12,7 @@ use sc_disk_cache::DiskCache;
 use sc_entry::NoMemory;
 use sc_owned::Owned;
 use sc_report::LevelSize;
-use sc_store::{Level, Levels, MemRemote, ReadOnlyLevel, RemoteStorage};
+use sc_store::{Level, Levels, MemRemote, ReadOnlyLevel, RemoteStorage, Unvouched};
 use std::alloc::Global;
 
 /// What a disk store holds. It need not be opened.
@@ -28,7 +28,7 @@ fn disk_size(cache: &DiskCache<MemDisk>) -> Result<LevelSize, NoMemory>
 }
 
 /// What a remote store in memory holds.
-fn remote_size(store: &RemoteStorage<MemRemote>) -> LevelSize
+fn remote_size(store: &RemoteStorage<MemRemote, Unvouched>) -> LevelSize
     ensures { store.now.told ≡ true → result ≡ size_of store.now.room.reserved store.now.level }
 {
     let remote = store.remote();
@@ -38,7 +38,7 @@ fn remote_size(store: &RemoteStorage<MemRemote>) -> LevelSize
     }
 }
 
-fn size_of(level: &Level<MemRemote, MemDisk>) -> Result<LevelSize, NoMemory>
+fn size_of(level: &Level<MemRemote, MemDisk, Unvouched>) -> Result<LevelSize, NoMemory>
     ensures { (held_level level.now).told ≡ true → IfOk result (λ size. size ≡ size_of (held_level level.now).room.reserved (held_level level.now).level) }
 {
     match level {
@@ -49,7 +49,10 @@ fn size_of(level: &Level<MemRemote, MemDisk>) -> Result<LevelSize, NoMemory>
     }
 }
 
-fn sizes_of(alloc: Global, levels: &Levels<MemRemote, MemDisk>) -> Result<Vec<LevelSize>, NoMemory>
+fn sizes_of(
+    alloc: Global,
+    levels: &Levels<MemRemote, MemDisk, Unvouched>,
+) -> Result<Vec<LevelSize>, NoMemory>
     ensures { levels.now.told ≡ true → IfOk result (λ sizes. sizes.items ≡ sizes_of (λ l. (room_in levels.now.rooms l).reserved) levels.now.levels) }
 {
     let mut sizes = Vec::new(alloc);

@@ -1,6 +1,6 @@
 use sc_compile::{Probe, Workshop};
 use sc_disk::Disk;
-use sc_store::Remote;
+use sc_store::{Remote, Vouch};
 
 /// The types of what a daemon is made of.
 pub trait Parts {
@@ -9,6 +9,8 @@ pub trait Parts {
     type Store: Remote + Drop;
 
     type Disk: Disk + Drop;
+
+    type Vouch: Vouch;
 
     type Finder: Probe + Drop;
 }

@@ -7,7 +7,7 @@ use sc_model::{
     Placing, Policy, Put, Refusal, RunAnswer, RunOutput, Status, Written,
 };
 use sc_owned::{Owned, Parts};
-use sc_store::{Level, Levels, MemRemote, RemoteStorage};
+use sc_store::{Level, Levels, MemRemote, RemoteStorage, Unvouched};
 use std::alloc::Global;
 use std::process::Abort;
 use std::test::Fail;
@@ -28,6 +28,8 @@ impl Parts for Memory {
     type Store = MemRemote;
 
     type Disk = MemDisk;
+
+    type Vouch = Unvouched;
 
     type Finder = ToolTable;
 }

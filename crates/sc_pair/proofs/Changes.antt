@@ -6,12 +6,12 @@ use Rattle.sc_entry.specs.Keys.{is_file_key}
 use Rattle.sc_lru.specs.Order.{touched}
 use Rattle.sc_disk.specs.Calls.{Commits, Gets, Prepares, RefusesAdd, RefusesCommit, Removes, removed_by}
 use Rattle.sc_disk.specs.Inserting.{Inserts, RefusesInsert, added}
-use Rattle.sc_disk.specs.Disks.{DiskState}
+use Rattle.sc_disk.specs.Disks.{DiskState, has_place}
 use Rattle.sc_disk.specs.Names.{temporary}
 use Rattle.sc_disk.specs.Paths.{abs_path, has_path}
 use Rattle.sc_disk.specs.Paths as disk_finds
-use Rattle.sc_disk.specs.Refusals.{GetCause}
-use Rattle.sc_disk.specs.Store.{AddEntry, Store, filed, firsts, gone, temporary_of}
+use Rattle.sc_disk.specs.Refusals.{AddCause, GetCause}
+use Rattle.sc_disk.specs.Store.{AddEntry, Store, filed, firsts, gone, reserved, temporary_of}
 use Rattle.sc_disk.specs.declared.change.Change.TheVariants.{Made, Moved, Touched}
 use Rattle.sc_disk.specs.declared.error.Error.{Error}
 use Rattle.sc_disk.specs.declared.error.Error.TheVariants.{NoMemory}
@@ -87,6 +87,16 @@ pub get-cause : (part : Part) (key k : List ℕ) (x : Error) (a b : ℕ) (old : 
     → GetCause (is_file_key key) (is_some (lookup (bytes_eq key) (index_of part old.index))) a b x
 get-cause part key k x a b old e good h = subst (λ t. GetCause t (is_some (lookup (bytes_eq key) (index_of part old.index))) a b x) (ap is_file_key e ∙ good)
     (subst (λ t. GetCause (is_file_key k) t a b x) (ap (λ q. is_some (lookup (bytes_eq q) old.index)) e ∙ ap is_some (lookup-part part key old.index)) h)
+
+-- a part's key has a place
+and_true : (b : Bool) → (b && true) ≡ b
+and_true true = refl
+and_true false = refl
+
+pub add-cause : (part : Part) (key k : List ℕ) (x : Error) (size n : ℕ) (old new : Store) → k ≡ in_part part key → is_file_key (in_part part key) ≡ is_file_key key → has_place old.disk (in_part part key) ≡ true → RefusesAdd x k size n old new
+    → AddCause (is_file_key key) size (reserved old) old.capacity old.disk.faults new.disk.faults x
+add-cause part key k x size n old new e good place h = subst (λ t. AddCause t size (reserved old) old.capacity old.disk.faults new.disk.faults x)
+    (ap (λ q. is_file_key q && has_place old.disk q) e ∙ ap (λ b. is_file_key (in_part part key) && b) place ∙ and_true (is_file_key (in_part part key)) ∙ good) h.cause
 
 away_removed : (p : Part) (b : Bool) (k : List ℕ) → AllAway p (removed_by b k)
 away_removed p true k = (tt, tt)

@@ -1,10 +1,12 @@
 pub mod Arms
 pub mod Boxes
+pub mod Calling
 pub mod Changes
 pub mod Joined
 pub mod Keys
 pub mod Leaving
 pub mod Placed
 pub mod Opened
+pub mod Refusing
 pub mod Shares
 pub mod Weaving

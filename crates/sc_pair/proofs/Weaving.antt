@@ -1,18 +1,23 @@
 -- What two disks tell as one, after each of their calls.
-use Rattle.std.proofs.Common.{◌≡◌, inl, inr, ℕ, ◌+◌, ◌-◌, ◌^◌, min, Bool, true, false, ◌&&◌, bytes_eq, List, [], ◌∷◌, ◌++◌, length, take, option_map, Option, Some, None, refl, sym, ap, ◌∙◌, subst, arith, length-append}
+use Rattle.std.proofs.Common.{◌≡◌, inl, inr, ℕ, ◌+◌, ◌-◌, ◌^◌, min, Bool, true, false, ◌&&◌, bytes_eq, is_some, List, [], ◌∷◌, ◌++◌, length, take, option_map, Option, Some, None, refl, sym, ap, ◌∙◌, subst, arith, length-append}
 use Rattle.std.specs.Cmp.Lexicographic.{pointwise}
 use Rattle.std.specs.FinMap as map
 use Rattle.sc_entry.specs.Causes.{IfTold, Rose}
-use Rattle.sc_disk.specs.Disks.{Adopts, AdoptsPart, DiskFiles, DiskRecord, DiskState, Does, DoesPart, HasBytes, IsListing, IsSize, OutsideFiles, did_all, disk_file_at, files_now, listing, outside_file_at, replay}
+use Rattle.sc_entry.specs.Failing.{one_more}
+use Rattle.sc_disk.specs.Devices.{CountsOn, MakesOn}
+use Rattle.sc_disk.specs.Disks.{Adopts, AdoptsPart, Changes, ChangesPart, DiskFiles, DiskRecord, DiskState, Does, DoesPart, HasBytes, IsHeld, IsListing, IsSize, OutsideFiles, did_all, disk_file_at, files_now, listing, outside_file_at, replay}
 use Rattle.sc_disk.specs.declared.change.Change.{Change}
 use Rattle.sc_disk.specs.declared.change.Change.TheVariants.{Added}
+use Rattle.sc_disk.specs.declared.disk.DiskError.{DiskError}
+use Rattle.sc_disk.specs.declared.disk.DiskError.TheVariants as disk_errors
 use Rattle.sc_disk.specs.declared.disk.Listed.{Listed}
 use Rattle.sc_disk.specs.declared.disk_file.DiskFile.{DiskFile}
-use Rattle.sc_disk.proofs.Doing.{replay-append}
+use Rattle.sc_disk.proofs.Doing.{changes-of, does-none, replay-append}
 use Rattle.sc_disk.proofs.Files.{same_path}
 use Rattle.sc_pair.specs.Parts.{all_in, changes_in, in_part, joined, same_outside, same_pair}
-use Rattle.sc_pair.specs.Twos.{IsJoint, Past, TwoState, Weaves, joint, joint_told, joined_state, since, two_state, woven}
+use Rattle.sc_pair.specs.Twos.{IsJoint, Past, Refuses, TwoState, Unplaced, Weaves, all_faults, joint, joint_told, joined_calls, joined_state, since, two_state, whole_calls, woven}
 use Rattle.sc_pair.specs.declared.part.Part.TheVariants.{Main, Pre}
+use Rattle.sc_pair.proofs.Calling.{counts-main, counts-none, counts-pre, makes-main, makes-pre}
 use Rattle.sc_pair.proofs.Joined.{at-main, at-pre, listing-joined, replayed}
 
 abbrev Told : Type 0
@@ -109,17 +114,17 @@ weaves_pre m p n past xs w is = record {
 }
 
 -- The same of states of disks. A history that grew is given by what it is now.
-pub weaves-main : (m n p : DiskState) (past now : Past) (xs : List Change) → now ≡ (n.told, p.told) ∷ past → Weaves m.told p.told past → Does xs m n → Weaves n.told p.told now
+pub weaves-main : (m n p : DiskState) (past now : Past) (xs : List Change) → now ≡ (n.told, p.told) ∷ past → Weaves m.told p.told past → Changes xs m n → Weaves n.told p.told now
 weaves-main m n p past now xs is w d = subst (λ l. Weaves n.told p.told l) (sym is) (weaves_main m.told n.told p.told past xs w d.told)
 
-pub weaves-pre : (m p n : DiskState) (past now : Past) (xs : List Change) → now ≡ (m.told, n.told) ∷ past → Weaves m.told p.told past → Does xs p n → Weaves m.told n.told now
+pub weaves-pre : (m p n : DiskState) (past now : Past) (xs : List Change) → now ≡ (m.told, n.told) ∷ past → Weaves m.told p.told past → Changes xs p n → Weaves m.told n.told now
 weaves-pre m p n past now xs is w d = subst (λ l. Weaves m.told n.told l) (sym is) (weaves_pre m.told p.told n.told past xs w d.told)
 
 -- a call without a change
-pub weaves-main_still : (m n p : DiskState) (past : Past) → Weaves m.told p.told past → Does [] m n → Weaves n.told p.told past
+pub weaves-main_still : (m n p : DiskState) (past : Past) → Weaves m.told p.told past → Changes [] m n → Weaves n.told p.told past
 weaves-main_still m n p past w d = subst (λ t. Weaves t p.told past) (sym (d.told ∙ did_none m.told)) w
 
-pub weaves-pre_still : (m p n : DiskState) (past : Past) → Weaves m.told p.told past → Does [] p n → Weaves m.told n.told past
+pub weaves-pre_still : (m p n : DiskState) (past : Past) → Weaves m.told p.told past → Changes [] p n → Weaves m.told n.told past
 weaves-pre_still m p n past w d = subst (λ t. Weaves m.told t past) (sym (d.told ∙ did_none p.told)) w
 
 -- both disks as one, after these calls
@@ -127,29 +132,119 @@ abbrev pub pair : DiskState → DiskState → ℕ → Past → DiskState
 pair m p k past = joined_state (two_state m p k (woven past))
 
 pub does-main : (m n p : DiskState) (k : ℕ) (past now : Past) (xs : List Change) → now ≡ (n.told, p.told) ∷ past → Weaves m.told p.told past → Does xs m n → Does (changes_in Main xs) (pair m p k past) (pair n p k now)
-does-main m n p k past now xs is w d = record {
-  told = ap woven is ∙ woven-main m.told n.told p.told past xs w d.told;
+does-main m n p k past now xs is w d = let told = ap woven is ∙ woven-main m.told n.told p.told past xs w d.told in record {
+  told = told;
   faults = omega (arith, d.faults);
+  calls = makes-main (woven past) (woven now) (changes_in Main xs) told k m n p d.divided d.calls;
   root = d.root;
   divided = refl;
+  letters = refl;
+}
+
+pub changes-main : (m n p : DiskState) (k : ℕ) (past now : Past) (xs : List Change) → now ≡ (n.told, p.told) ∷ past → Weaves m.told p.told past → Changes xs m n → Changes (changes_in Main xs) (pair m p k past) (pair n p k now)
+changes-main m n p k past now xs is w d = let told = ap woven is ∙ woven-main m.told n.told p.told past xs w d.told in record {
+  told = told;
+  faults = omega (arith, d.faults);
+  calls = counts-main (woven past) (woven now) (changes_in Main xs) told k m n p d.divided d.calls;
+  root = d.root;
+  divided = refl;
+  letters = refl;
 }
 
 pub does-pre : (m p n : DiskState) (k : ℕ) (past now : Past) (xs : List Change) → now ≡ (m.told, n.told) ∷ past → Weaves m.told p.told past → Does xs p n → Does (changes_in Pre xs) (pair m p k past) (pair m n k now)
-does-pre m p n k past now xs is w d = record {
-  told = ap woven is ∙ woven-pre m.told p.told n.told past xs w d.told;
+does-pre m p n k past now xs is w d = let told = ap woven is ∙ woven-pre m.told p.told n.told past xs w d.told in record {
+  told = told;
   faults = omega (arith, d.faults);
+  calls = makes-pre (woven past) (woven now) (changes_in Pre xs) told k m p n d.divided d.calls;
   root = refl;
   divided = refl;
+  letters = refl;
+}
+
+pub changes-pre : (m p n : DiskState) (k : ℕ) (past now : Past) (xs : List Change) → now ≡ (m.told, n.told) ∷ past → Weaves m.told p.told past → Changes xs p n → Changes (changes_in Pre xs) (pair m p k past) (pair m n k now)
+changes-pre m p n k past now xs is w d = let told = ap woven is ∙ woven-pre m.told p.told n.told past xs w d.told in record {
+  told = told;
+  faults = omega (arith, d.faults);
+  calls = counts-pre (woven past) (woven now) (changes_in Pre xs) told k m p n d.divided d.calls;
+  root = refl;
+  divided = refl;
+  letters = refl;
 }
 
 pub still-main : (m n p : DiskState) (k : ℕ) (past : Past) → Does [] m n → Does [] (pair m p k past) (pair n p k past)
-still-main m n p k past d = record { told = sym (did_none (woven past)); faults = omega (arith, d.faults); root = d.root; divided = refl }
+still-main m n p k past d = let told = sym (did_none (woven past)) in record {
+  told = told;
+  faults = omega (arith, d.faults);
+  calls = makes-main (woven past) (woven past) [] told k m n p d.divided d.calls;
+  root = d.root;
+  divided = refl;
+  letters = refl;
+}
+
+pub changes_still-main : (m n p : DiskState) (k : ℕ) (past : Past) → Changes [] m n → Changes [] (pair m p k past) (pair n p k past)
+changes_still-main m n p k past d = let told = sym (did_none (woven past)) in record {
+  told = told;
+  faults = omega (arith, d.faults);
+  calls = counts-main (woven past) (woven past) [] told k m n p d.divided d.calls;
+  root = d.root;
+  divided = refl;
+  letters = refl;
+}
 
 pub still-pre : (m p n : DiskState) (k : ℕ) (past : Past) → Does [] p n → Does [] (pair m p k past) (pair m n k past)
-still-pre m p n k past d = record { told = sym (did_none (woven past)); faults = omega (arith, d.faults); root = refl; divided = refl }
+still-pre m p n k past d = let told = sym (did_none (woven past)) in record {
+  told = told;
+  faults = omega (arith, d.faults);
+  calls = makes-pre (woven past) (woven past) [] told k m p n d.divided d.calls;
+  root = refl;
+  divided = refl;
+  letters = refl;
+}
+
+pub changes_still-pre : (m p n : DiskState) (k : ℕ) (past : Past) → Changes [] p n → Changes [] (pair m p k past) (pair m n k past)
+changes_still-pre m p n k past d = let told = sym (did_none (woven past)) in record {
+  told = told;
+  faults = omega (arith, d.faults);
+  calls = counts-pre (woven past) (woven past) [] told k m p n d.divided d.calls;
+  root = refl;
+  divided = refl;
+  letters = refl;
+}
 
 pub still-none : (t : TwoState) → Does [] (joined_state t) (joined_state t)
-still-none t = record { told = sym (did_none t.told); faults = omega arith; root = refl; divided = refl }
+still-none t = does-none (joined_state t)
+
+-- Where no calls are told, it is all one whether the faults rose at calls that were to fail.
+pub does-uncalled : (a b : DiskState) (xs : List Change) → a.calls ≡ None → Changes xs a b → Does xs a b
+does-uncalled a b xs none d = record {
+  told = d.told;
+  faults = d.faults;
+  calls = subst (λ o. MakesOn o b.calls a.faults b.faults) (sym none) (subst (λ o. CountsOn o b.calls a.faults b.faults) none d.calls);
+  root = d.root;
+  divided = d.divided;
+  letters = d.letters;
+}
+
+pub uncalled : (t : TwoState) → t.told ≡ None → (joined_state t).calls ≡ None
+uncalled t none = ap (λ o. joined_calls o (whole_calls t.main) (whole_calls t.pre)) none
+
+pub does-untold : (t u : TwoState) (xs : List Change) → t.told ≡ None → Changes xs (joined_state t) (joined_state u) → Does xs (joined_state t) (joined_state u)
+does-untold t u xs none d = does-uncalled (joined_state t) (joined_state u) xs (uncalled t none) d
+
+-- a path of neither was refused, and counted
+pub refused : (t u : TwoState) → Refuses t u → Changes [] (joined_state t) (joined_state u)
+refused t u is = subst (λ v. Changes [] (joined_state t) (joined_state v)) (sym is) (record {
+  told = sym (did_none t.told);
+  faults = omega arith;
+  calls = counts-none (joined_calls t.told (whole_calls t.main) (whole_calls t.pre)) (all_faults t) (all_faults (two_state t.main t.pre (one_more t.refused) t.told));
+  root = refl;
+  divided = refl;
+  letters = refl;
+})
+
+pub refuses : (e : DiskError) (t u : TwoState) → Unplaced e t u → Changes [] (joined_state t) (joined_state u)
+refuses disk_errors.NoMemory t u is = subst (λ v. Changes [] (joined_state t) (joined_state v)) (sym is) (changes-of (joined_state t) (joined_state t) [] (still-none t))
+refuses disk_errors.Fault t u is = refused t u is
 
 -- What one disk tells of its files is told of the files of both.
 from_main : (told m p : Told) (P Q : DiskFiles → Type 0) → IfTold told (IsJoint m p) → ((f g : DiskFiles) → P f → Q (joined f g)) → IfTold m (λ a. P (files_now a)) → IfTold told (λ r. Q (files_now r))
@@ -159,6 +254,28 @@ from_main (Some r) m p P Q j step h = subst Q (sym j.files) (step (files_now j.a
 from_pre : (told m p : Told) (P Q : DiskFiles → Type 0) → IfTold told (IsJoint m p) → ((f g : DiskFiles) → P g → Q (joined f g)) → IfTold p (λ b. P (files_now b)) → IfTold told (λ r. Q (files_now r))
 from_pre None m p P Q j step h = tt
 from_pre (Some r) m p P Q j step h = subst Q (sym j.files) (step (files_now j.a) (files_now j.b) (subst (λ o. IfTold o (λ b. P (files_now b))) j.pre_tells h))
+
+-- and what is told of the files of both is told of one's
+to_main : (told m p : Told) (P Q : DiskFiles → Type 0) (r : DiskRecord) → told ≡ Some r → IfTold told (IsJoint m p) → ((f g : DiskFiles) → Q (joined f g) → P f) → IfTold told (λ r. Q (files_now r)) → IfTold m (λ a. P (files_now a))
+to_main None m p P Q r is j step h = cc
+to_main (Some s) m p P Q r is j step h = subst (λ o. IfTold o (λ a. P (files_now a))) (sym j.main_tells) (step (files_now j.a) (files_now j.b) (subst Q j.files h))
+
+to_pre : (told m p : Told) (P Q : DiskFiles → Type 0) (r : DiskRecord) → told ≡ Some r → IfTold told (IsJoint m p) → ((f g : DiskFiles) → Q (joined f g) → P g) → IfTold told (λ r. Q (files_now r)) → IfTold p (λ b. P (files_now b))
+to_pre None m p P Q r is j step h = cc
+to_pre (Some s) m p P Q r is j step h = subst (λ o. IfTold o (λ b. P (files_now b))) (sym j.pre_tells) (step (files_now j.a) (files_now j.b) (subst Q j.files h))
+
+pub by_told : (o : Told) (P : Type 0) → (o ≡ None → P) → ((r : DiskRecord) → o ≡ Some r → P) → P
+by_told None P none some = none refl
+by_told (Some r) P none some = some r refl
+
+-- A call of a disk with a file that the joined disk holds: its own disk holds it, or nothing is told.
+pub held-main : (m p : DiskState) (k : ℕ) (past : Past) (path : List ℕ) (X Y Z : Type 0) → Weaves m.told p.told past → ((pair m p k past).calls ≡ None → X → Z) → (Y → Z) → X → (IsHeld path m → Y) → IsHeld (in_part Main path) (pair m p k past) → Z
+held-main m p k past path X Y Z w untold told x y held = by_told (woven past) Z (λ none. untold (uncalled (two_state m p k (woven past)) none) x) (λ r is. told (y (to_main (woven past) m.told p.told (λ f. is_some (disk_file_at f path) ≡ true) (λ f. is_some (disk_file_at f (in_part Main path)) ≡ true) r is w.joint
+    (λ f g h. ap is_some (sym (at-main f g path)) ∙ h) held)))
+
+pub held-pre : (m p : DiskState) (k : ℕ) (past : Past) (path : List ℕ) (X Y Z : Type 0) → Weaves m.told p.told past → ((pair m p k past).calls ≡ None → X → Z) → (Y → Z) → X → (IsHeld path p → Y) → IsHeld (in_part Pre path) (pair m p k past) → Z
+held-pre m p k past path X Y Z w untold told x y held = by_told (woven past) Z (λ none. untold (uncalled (two_state m p k (woven past)) none) x) (λ r is. told (y (to_pre (woven past) m.told p.told (λ f. is_some (disk_file_at f path) ≡ true) (λ f. is_some (disk_file_at f (in_part Pre path)) ≡ true) r is w.joint
+    (λ f g h. ap is_some (sym (at-pre f g path)) ∙ h) held)))
 
 abbrev Size : Option DiskFile → Option ℕ
 Size o = option_map (λ file. length file.bytes) o
@@ -196,11 +313,23 @@ pub part-pre : (m p n : DiskState) (k : ℕ) (past now : Past) (path bytes : Lis
 part-pre m p n k past now path bytes is w (inl d) = inl (does-pre m p n k past now [] is w d)
 part-pre m p n k past now path bytes is w (inr d) = inr (d.0, does-pre m p n k past now (Added path (take d.0 bytes) ∷ []) is w d.1)
 
-pub weaves_part-main : (m n p : DiskState) (past now : Past) (path bytes : List ℕ) → now ≡ (n.told, p.told) ∷ past → Weaves m.told p.told past → DoesPart path bytes m n → Weaves n.told p.told now
+pub changes_part-main : (m n p : DiskState) (k : ℕ) (past now : Past) (path bytes : List ℕ) → now ≡ (n.told, p.told) ∷ past → Weaves m.told p.told past → ChangesPart path bytes m n → ChangesPart (in_part Main path) bytes (pair m p k past) (pair n p k now)
+changes_part-main m n p k past now path bytes is w (inl d) = inl (changes-main m n p k past now [] is w d)
+changes_part-main m n p k past now path bytes is w (inr d) = inr (d.0, changes-main m n p k past now (Added path (take d.0 bytes) ∷ []) is w d.1)
+
+pub changes_part-pre : (m p n : DiskState) (k : ℕ) (past now : Past) (path bytes : List ℕ) → now ≡ (m.told, n.told) ∷ past → Weaves m.told p.told past → ChangesPart path bytes p n → ChangesPart (in_part Pre path) bytes (pair m p k past) (pair m n k now)
+changes_part-pre m p n k past now path bytes is w (inl d) = inl (changes-pre m p n k past now [] is w d)
+changes_part-pre m p n k past now path bytes is w (inr d) = inr (d.0, changes-pre m p n k past now (Added path (take d.0 bytes) ∷ []) is w d.1)
+
+pub part-uncalled : (a b : DiskState) (path bytes : List ℕ) → a.calls ≡ None → ChangesPart path bytes a b → DoesPart path bytes a b
+part-uncalled a b path bytes none (inl d) = inl (does-uncalled a b [] none d)
+part-uncalled a b path bytes none (inr d) = inr (d.0, does-uncalled a b (Added path (take d.0 bytes) ∷ []) none d.1)
+
+pub weaves_part-main : (m n p : DiskState) (past now : Past) (path bytes : List ℕ) → now ≡ (n.told, p.told) ∷ past → Weaves m.told p.told past → ChangesPart path bytes m n → Weaves n.told p.told now
 weaves_part-main m n p past now path bytes is w (inl d) = weaves-main m n p past now [] is w d
 weaves_part-main m n p past now path bytes is w (inr d) = weaves-main m n p past now (Added path (take d.0 bytes) ∷ []) is w d.1
 
-pub weaves_part-pre : (m p n : DiskState) (past now : Past) (path bytes : List ℕ) → now ≡ (m.told, n.told) ∷ past → Weaves m.told p.told past → DoesPart path bytes p n → Weaves m.told n.told now
+pub weaves_part-pre : (m p n : DiskState) (past now : Past) (path bytes : List ℕ) → now ≡ (m.told, n.told) ∷ past → Weaves m.told p.told past → ChangesPart path bytes p n → Weaves m.told n.told now
 weaves_part-pre m p n past now path bytes is w (inl d) = weaves-pre m p n past now [] is w d
 weaves_part-pre m p n past now path bytes is w (inr d) = weaves-pre m p n past now (Added path (take d.0 bytes) ∷ []) is w d.1
 
@@ -220,12 +349,12 @@ pub adopts-pre : (m p n : DiskState) (k : ℕ) (past now : Past) (outside path :
 adopts-pre m p n k past now outside path is w d = (d.0, outside_pre (woven past) m.told p.told outside d.0 w.joint d.1, does-pre m p n k past now (Added path d.0 ∷ []) is w d.2)
 
 pub adopts_part-main : (m n p : DiskState) (k : ℕ) (past now : Past) (outside path : List ℕ) → now ≡ (n.told, p.told) ∷ past → Weaves m.told p.told past → AdoptsPart outside path m n → AdoptsPart outside (in_part Main path) (pair m p k past) (pair n p k now)
-adopts_part-main m n p k past now outside path is w (inl d) = inl (does-main m n p k past now [] is w d)
-adopts_part-main m n p k past now outside path is w (inr d) = inr (d.0, outside_main (woven past) m.told p.told outside d.0 w.joint d.1, part-main m n p k past now path d.0 is w d.2)
+adopts_part-main m n p k past now outside path is w (inl d) = inl (changes-main m n p k past now [] is w d)
+adopts_part-main m n p k past now outside path is w (inr d) = inr (d.0, outside_main (woven past) m.told p.told outside d.0 w.joint d.1, changes_part-main m n p k past now path d.0 is w d.2)
 
 pub adopts_part-pre : (m p n : DiskState) (k : ℕ) (past now : Past) (outside path : List ℕ) → now ≡ (m.told, n.told) ∷ past → Weaves m.told p.told past → AdoptsPart outside path p n → AdoptsPart outside (in_part Pre path) (pair m p k past) (pair m n k now)
-adopts_part-pre m p n k past now outside path is w (inl d) = inl (does-pre m p n k past now [] is w d)
-adopts_part-pre m p n k past now outside path is w (inr d) = inr (d.0, outside_pre (woven past) m.told p.told outside d.0 w.joint d.1, part-pre m p n k past now path d.0 is w d.2)
+adopts_part-pre m p n k past now outside path is w (inl d) = inl (changes-pre m p n k past now [] is w d)
+adopts_part-pre m p n k past now outside path is w (inr d) = inr (d.0, outside_pre (woven past) m.told p.told outside d.0 w.joint d.1, changes_part-pre m p n k past now path d.0 is w d.2)
 
 pub weaves_adopted-main : (m n p : DiskState) (past now : Past) (outside path : List ℕ) → now ≡ (n.told, p.told) ∷ past → Weaves m.told p.told past → AdoptsPart outside path m n → Weaves n.told p.told now
 weaves_adopted-main m n p past now outside path is w (inl d) = weaves-main m n p past now [] is w d

@@ -1,13 +1,14 @@
 -- Two disks as one: what it holds and tells.
-use Rattle.std.specs.Prelude.{◌≡◌, ℕ, ◌+◌, ◌-◌, ◌^◌, min, Bool, true, false, List, [], ◌∷◌, ◌++◌, length, take, Option, Some, None}
+use Rattle.std.specs.Prelude.{◌≡◌, ℕ, ◌+◌, ◌-◌, ◌^◌, min, cond, Bool, true, false, List, [], ◌∷◌, ◌++◌, length, take, Option, Some, None}
 use Rattle.std.specs.Option.{option_map}
 use Rattle.sc_entry.specs.Causes.{IfTold}
 use Rattle.sc_entry.specs.Failing.{one_more}
+use Rattle.sc_entry.specs.declared.calls.Calls.{Calls}
 use Rattle.sc_disk.specs.Disks.{DiskRecord, DiskState, did_all, files_now}
 use Rattle.sc_disk.specs.declared.change.Change.{Change}
 use Rattle.sc_disk.specs.declared.disk.DiskError.{DiskError}
 use Rattle.sc_disk.specs.declared.disk.DiskError.TheVariants as disk_errors
-use Rattle.sc_pair.specs.Parts.{changes_in, joined, same_outside}
+use Rattle.sc_pair.specs.Parts.{changes_in, joined, letter_of, same_outside}
 use Rattle.sc_pair.specs.declared.part.Part.{Part}
 use Rattle.sc_pair.specs.declared.part.Part.TheVariants.{Main, Pre}
 
@@ -56,9 +57,35 @@ disk_of Pre t = t.pre
 abbrev pub all_faults : TwoState → ℕ
 all_faults t = min (t.main.faults + (t.pre.faults + t.refused)) (2 ^ 64 - 1)
 
+abbrev pub is_none : List ℕ → Bool
+is_none [] = true
+is_none (n ∷ ns) = false
+
+-- whether no call is to fail
+abbrev pub fails_none : Calls → Bool
+fails_none calls = is_none calls.failing.keys
+
+-- The calls of a disk that isn't divided. A divided one may have no place for a path, which no path of both tells.
+abbrev pub whole_calls : DiskState → Option Calls
+whole_calls d = cond d.divided None d.calls
+
+-- the calls of the main disk, where the other tells that none of its is to fail
+abbrev pub calls_beside : Option Calls → Option Calls → Option Calls
+calls_beside main None = None
+calls_beside main (Some pre) = cond (fails_none pre) main None
+
+-- what is told of the calls of both, where the files of both are told
+abbrev pub joined_calls : Option DiskRecord → Option Calls → Option Calls → Option Calls
+joined_calls None main pre = None
+joined_calls (Some told) main pre = calls_beside main pre
+
+-- the letters that the paths of both begin with
+abbrev pub both_letters : List ℕ
+both_letters = letter_of Main ∷ letter_of Pre ∷ []
+
 -- as one disk, under the main disk's root
 abbrev pub joined_state : TwoState → DiskState
-joined_state t = record { told = t.told; faults = all_faults t; root = t.main.root; divided = true }
+joined_state t = record { told = t.told; faults = all_faults t; calls = joined_calls t.told (whole_calls t.main) (whole_calls t.pre); root = t.main.root; divided = true; letters = both_letters }
 
 -- two disks that were just joined
 abbrev pub joins : DiskState → DiskState → TwoState

@@ -208,6 +208,7 @@ impl<D: Disk> PairCache<D> {
         let Ok(both) = part_key(self.alloc, part, key) else {
             return Err(Error::NoMemory);
         };
+        let _placed = self.store.disk();
         self.store.prepare_add(&both, size, now)
     }
 

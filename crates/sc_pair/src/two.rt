@@ -1,8 +1,7 @@
 //! Two disks as one.
-ghost use Rattle.std.specs.Prelude.{◌≡◌, ◌∷◌, ◌++◌, [], IfOk, IfErr, OnOk, OnErr};
-ghost use Rattle.sc_disk.specs.declared.change.Change.TheVariants.{Made, Added, Touched, Moved, Gone};
+ghost use Rattle.std.specs.Prelude.{◌≡◌, ◌++◌, [], true, IfOk, IfErr, OnOk, OnErr};
 ghost use Rattle.sc_disk.specs.declared.disk.DiskError.TheVariants as disk_errors;
-ghost use Rattle.sc_disk.specs.Disks.{Adopts, AdoptsPart, DiskCause, Does, DoesPart, HasBytes, IsListing, IsSize};
+ghost use Rattle.sc_disk.specs.Disks.{Does, IsHeld, IsListing, IsOneDevice, has_place};
 ghost use Rattle.sc_entry.specs.Causes.{IfTold};
 ghost use Rattle.sc_pair.specs.Parts.{all_in, in_part};
 ghost use Rattle.sc_pair.specs.declared.part.Part.TheVariants as parts;
@@ -18,7 +17,8 @@ use std::marker::Model;
 
 /// Two disks as one divided disk: `m/..` are the paths of the main disk, `p/..` those of the other. A call with any other
 /// path, and a rename from one disk to the other, is refused and counted. It tells what both disks tell, and how their
-/// changes follow one another, where both tell and the same stands outside both.
+/// changes follow one another, where both tell and the same stands outside both. Its calls are then those of the main disk,
+/// where neither disk is divided and the other tells that none of its calls is to fail; else it tells no calls.
 #[derive(Drop)]
 pub struct Two<D: Disk> {
     alloc: Global,
@@ -103,6 +103,7 @@ impl<D: Disk> Two<D> {
     fn refuse(&mut self) -> DiskError
         ensures fault { result ≡ disk_errors.Fault }
         ensures counted { Refuses self.old self.new }
+        ensures joint { IfTold self.old.told (IsJoint self.old.main.told self.old.pre.told) }
     {
         self.refused = self.refused.saturating_add(1);
         DiskError::Fault
@@ -113,6 +114,8 @@ impl<D: Disk> Two<D> {
         ensures placed { IfOk result (λ at. path.now ≡ in_part at.part at.path) }
         ensures ok { OnOk result (self.new ≡ self.old) }
         ensures err { IfErr result (λ error. Unplaced error self.old self.new) }
+        ensures has { has_place (joined_state self.old) path.now ≡ true → OnErr result (Does [] (joined_state self.old) (joined_state self.new)) }
+        ensures held { IsHeld path.now (joined_state self.old) → OnErr result (Does [] (joined_state self.old) (joined_state self.new)) }
     {
         let Some((part, rest)) = paths::cut_part(path.as_str()) else {
             return Err(self.refuse());
@@ -127,6 +130,7 @@ impl<D: Disk> Two<D> {
         ensures to { IfOk result (λ at. to.now ≡ in_part at.part at.to) }
         ensures ok { OnOk result (self.new ≡ self.old) }
         ensures err { IfErr result (λ error. Unplaced error self.old self.new) }
+        ensures held { IsHeld from.now (joined_state self.old) → IsOneDevice from.now to.now (joined_state self.old) → OnErr result (Does [] (joined_state self.old) (joined_state self.new)) }
     {
         let from = self.place(from)?;
         let to = self.place(to)?;
@@ -170,6 +174,10 @@ impl<D: Disk> Disk for Two<D> {
 
     fn is_divided(&self) -> bool {
         true
+    }
+
+    fn has_place(&self, path: &Text) -> bool {
+        paths::cut_part(path.as_str()).is_some()
     }
 
     /// The main disk's files, then the other's.

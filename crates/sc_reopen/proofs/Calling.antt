@@ -3,7 +3,7 @@ use Rattle.std.proofs.Common.{◌≡◌, inl, inr, ℕ, ◌≤◌, Bool, true, f
 use Rattle.sc_entry.specs.Causes.{IfTold}
 use Rattle.sc_lru.specs.LruCache.{total}
 use Rattle.sc_disk.specs.Calls.{Commits, Prepares, RefusesAdd, RefusesCommit, removed_by, touched_by}
-use Rattle.sc_disk.specs.Disks.{Adopts, AdoptsPart, DiskFiles, DiskRecord, DiskState, Does, DoesPart, HasBytes, did_all, disk_file, disk_file_at, files_now, replay}
+use Rattle.sc_disk.specs.Disks.{Adopts, AdoptsPart, Changes, ChangesPart, DiskFiles, DiskRecord, DiskState, Does, DoesPart, HasBytes, did_all, disk_file, disk_file_at, files_now, replay}
 use Rattle.sc_disk.specs.declared.disk_file.DiskFile.{DiskFile}
 use Rattle.sc_disk.specs.Inserting.{Fills, Inserts, RefusesInsert, added, content}
 use Rattle.sc_disk.specs.Names.{is_temporary_path, temporary}
@@ -15,11 +15,12 @@ use Rattle.sc_disk.specs.declared.change.Change.{Change}
 use Rattle.sc_disk.specs.declared.error.Error.{Error}
 use Rattle.sc_disk.specs.declared.change.Change.TheVariants.{Made, Added, Touched, Moved}
 use Rattle.sc_disk.proofs.Changing.{size}
-use Rattle.sc_disk.proofs.Doing.{does-after, replay-append}
+use Rattle.sc_disk.proofs.Doing.{changes-of, replay-append}
 use Rattle.sc_disk.proofs.Pairs.{Index}
 use Rattle.sc_disk.proofs.Reopening.{AreKeys-dropped}
 use Rattle.sc_disk.proofs.Temporaries.{temporary_is}
 use Rattle.sc_reopen.specs.Moments.{Effect, Keeps, Moments, Stored, removals, removals_by, used_by}
+use Rattle.sc_reopen.proofs.Chaining.{changes-after}
 use Rattle.sc_reopen.proofs.Playing.{AllHidden, Plays, filled-at, hidden-added, plays-append, plays-gone, plays-hiddens, plays-settled, plays-used, temporary-stays}
 use Rattle.sc_reopen.proofs.Within.{AllReduce, keeps-reduced, keeps-stored, reduce-append, reduce-removals}
 
@@ -36,26 +37,29 @@ told-two (Some r) n xs P Q R is step p q = step (files_now r) p (subst Q (replay
 -- Changes that store nothing, from any files.
 pub record Lessens (es : List Effect) (old new : DiskState) : Type 0 where
   pub changes : List Change
-  pub did : Does changes old new
+  pub did : Changes changes old new
   pub plays : (f : DiskFiles) → Plays changes es f
   pub reduce : AllReduce es
 
 pub lessens-then : (es fs : List Effect) (a b c : DiskState) → Lessens es a b → Lessens fs b c → Lessens (fs ++ es) a c
 lessens-then es fs a b c p q = record {
   changes = q.changes ++ p.changes;
-  did = does-after a b c p.changes q.changes p.did q.did;
+  did = changes-after a b c p.changes q.changes p.did q.did;
   plays = λ f. plays-append q.changes p.changes fs es f (p.plays f) (q.plays (replay f p.changes));
   reduce = reduce-append fs es q.reduce p.reduce;
 }
 
+lessens-still : (xs : List Change) (a b : DiskState) → AllHidden xs → Changes xs a b → Lessens [] a b
+lessens-still xs a b h is = record { changes = xs; did = is; plays = λ f. plays-hiddens xs f h; reduce = tt }
+
 pub lessens-hidden : (xs : List Change) (a b : DiskState) → AllHidden xs → Does xs a b → Lessens [] a b
-lessens-hidden xs a b h is = record { changes = xs; did = is; plays = λ f. plays-hiddens xs f h; reduce = tt }
+lessens-hidden xs a b h is = lessens-still xs a b h (changes-of a b xs is)
 
 -- temporaries alone after removals
 pub lessens-gone : (xs : List Change) (ks : List (List ℕ)) (a b : DiskState) → AllHidden xs → Does (xs ++ gone ks) a b → Lessens (removals ks) a b
 lessens-gone xs ks a b h is = record {
   changes = xs ++ gone ks;
-  did = is;
+  did = changes-of a b (xs ++ gone ks) is;
   plays = λ f. plays-append xs (gone ks) [] (removals ks) f (plays-gone ks f) (plays-hiddens xs (replay f (gone ks)) h);
   reduce = reduce-removals ks;
 }
@@ -75,12 +79,16 @@ pub of-part : (path bytes : List ℕ) (a b : DiskState) → is_temporary_path pa
 of-part path bytes a b temp (inl same) = lessens-hidden [] a b tt same
 of-part path bytes a b temp (inr part) = lessens-hidden (Added path (take part.0 bytes) ∷ []) a b (temp, tt) part.1
 
+of-changed-part : (path bytes : List ℕ) (a b : DiskState) → is_temporary_path path ≡ true → ChangesPart path bytes a b → Lessens [] a b
+of-changed-part path bytes a b temp (inl same) = lessens-still [] a b tt same
+of-changed-part path bytes a b temp (inr part) = lessens-still (Added path (take part.0 bytes) ∷ []) a b (temp, tt) part.1
+
 pub of-adopts : (outside path : List ℕ) (a b : DiskState) → is_temporary_path path ≡ true → Adopts outside path a b → Lessens [] a b
 of-adopts outside path a b temp p = lessens-hidden (Added path p.0 ∷ []) a b (temp, tt) p.2
 
 pub of-adopts-part : (outside path : List ℕ) (a b : DiskState) → is_temporary_path path ≡ true → AdoptsPart outside path a b → Lessens [] a b
-of-adopts-part outside path a b temp (inl same) = lessens-hidden [] a b tt same
-of-adopts-part outside path a b temp (inr part) = of-part path part.0 a b temp part.2
+of-adopts-part outside path a b temp (inl same) = lessens-still [] a b tt same
+of-adopts-part outside path a b temp (inr part) = of-changed-part path part.0 a b temp part.2
 
 hidden-touched : (b : Bool) (path : List ℕ) (now : ℕ) → is_temporary_path path ≡ true → AllHidden (touched_by b path now)
 hidden-touched true path now temp = (temp, tt)
@@ -107,7 +115,7 @@ of-refused-commit refused e now n touches removes old new p =
     (subst (λ xs. Does xs old.disk new.disk) (sym (append_assoc r t (gone (firsts n old.index)))) p.disk)
 
 pub of-used : (b : Bool) (k : List ℕ) (now : ℕ) (old new : DiskState) → Does (touched_by b k now) old new → Lessens (used_by b k now) old new
-of-used true k now old new is = record { changes = Touched k now ∷ []; did = is; plays = λ f. plays-used k now f; reduce = tt }
+of-used true k now old new is = record { changes = Touched k now ∷ []; did = changes-of old new (Touched k now ∷ []) is; plays = λ f. plays-used k now f; reduce = tt }
 of-used false k now old new is = lessens-hidden [] old new tt is
 
 pub of-removal : (b : Bool) (k : List ℕ) (old new : DiskState) → Does (removed_by b k) old new → Lessens (removals_by b k) old new
@@ -119,7 +127,7 @@ moments-stored : (xs : List Change) (k : List ℕ) (now : ℕ) (bytes : List ℕ
     → ((f : DiskFiles) → P f → Plays xs (Stored k now bytes ∷ es) f) → IfTold old.disk.told (λ r. P (files_now r)) → Moments old.capacity (Stored k now bytes ∷ es) old.disk new.disk
 moments-stored xs k now bytes es old new P h g same is reduce plays p = record {
   changes = xs;
-  did = is;
+  did = changes-of old.disk new.disk xs is;
   moments = told-two old.disk.told new.disk.told xs (λ f. HasFiles old.disk.divided old.index old.pending.slots f × P f) (HasFiles new.disk.divided new.index new.pending.slots) (Keeps old.capacity xs (Stored k now bytes ∷ es)) is.told
       (λ f files last. keeps-stored old.capacity xs k now bytes es old.index new.index f (sound-total old h) (omega (arith, sound-total new g, same)) files.0.agrees last.agrees reduce (plays f files.1))
       (both old.disk.told h.files p) g.files;

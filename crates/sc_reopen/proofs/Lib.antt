@@ -1,6 +1,7 @@
 pub mod Playing
 pub mod Within
 pub mod Calling
+pub mod Chaining
 pub mod Resuming
 pub mod Stopping
 pub mod Rising

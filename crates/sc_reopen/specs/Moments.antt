@@ -5,7 +5,7 @@ use Rattle.std.specs.Option.{option_map}
 use Rattle.sc_entry.specs.Causes.{IfTold}
 use Rattle.sc_lru.specs.LruCache.{total}
 use Rattle.sc_disk.specs.declared.disk_file.DiskFile.{DiskFile}
-use Rattle.sc_disk.specs.Disks.{DiskFiles, DiskState, Does, change, disk_file, disk_file_at, files_now, listing, replay}
+use Rattle.sc_disk.specs.Disks.{Changes, DiskFiles, DiskState, change, disk_file, disk_file_at, files_now, listing, replay}
 use Rattle.sc_disk.specs.Names.{is_temporary_path}
 use Rattle.sc_disk.specs.Opening.{pairs_of}
 use Rattle.sc_disk.specs.Store.{size_of}
@@ -75,7 +75,7 @@ pub record Keeps (capacity : ℕ) (xs : List Change) (es : List Effect) (f : Dis
 -- the same of a disk, where it tells
 pub record Moments (capacity : ℕ) (es : List Effect) (old new : DiskState) : Type 0 where
   pub changes : List Change
-  pub did : Does changes old new
+  pub did : Changes changes old new
   pub moments : IfTold old.told (λ r. Keeps capacity changes es (files_now r))
 
 -- removals of these paths, the first of them first; the newest effect stands first

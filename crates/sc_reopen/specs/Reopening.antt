@@ -3,7 +3,7 @@ use Rattle.std.specs.Prelude.{◌≡◌, ℕ, cond, List, ◌++◌, Some, None}
 use Rattle.std.specs.List.{filter}
 use Rattle.std.specs.List.Sorted.{IsPermutation, IsSorted}
 use Rattle.sc_entry.specs.Causes.{IfTold}
-use Rattle.sc_disk.specs.Disks.{DiskFiles, DiskRecord, DiskState, Does, disk_file_at, files_now, listing}
+use Rattle.sc_disk.specs.Disks.{Changes, DiskFiles, DiskRecord, DiskState, Does, disk_file_at, files_now, listing}
 use Rattle.sc_disk.specs.Lazy.{IsOpened}
 use Rattle.sc_disk.specs.Names.{is_temporary_path}
 use Rattle.sc_disk.specs.Opening.{pairs_of, paths_of, use_cmp}
@@ -15,7 +15,7 @@ use Rattle.sc_reopen.specs.Moments.{Calls, Effect, LeftBy, Moments, Shows, Stand
 
 -- a stop at some moment between two states of a disk leaves these files
 abbrev pub StopsAt : DiskState → DiskState → DiskFiles → Type 0
-StopsAt a b c = (xs : List Change) × Does xs a b × IfTold a.told (λ r. LeftBy (files_now r) xs c)
+StopsAt a b c = (xs : List Change) × Changes xs a b × IfTold a.told (λ r. LeftBy (files_now r) xs c)
 
 -- a disk has these files, and tells them
 abbrev pub HasTold : DiskFiles → DiskState → Type 0

@@ -26,7 +26,7 @@ use Rattle.sc_pair.specs.Parts.{in_part}
 use Rattle.sc_pair.specs.declared.part.Part.TheVariants.{Main}
 use Rattle.sc_storage.specs.Puts.{EntryCause, PutMarks, PutsDisk, PutsEntry}
 use Rattle.sc_store.proofs.Alone.{other_set}
-use Rattle.sc_store.proofs.Checks.{later_then}
+use Rattle.sc_disk_cache.proofs.Devices.{later_then}
 use Rattle.sc_store.specs.Asking.{AloneAt, ReservesDisk}
 use Rattle.sc_store.specs.Held.{Held, disk_in, level_in, marks_in, no_room, room_in}
 

@@ -54,7 +54,7 @@ pub data State : Type 0 where
   Wrapped : (inner : State) → State
 
 -- a level by itself
-abbrev pub level_state : {R : Type 0} {D : Type 0} → Level R D → State
+abbrev pub level_state : {R : Type 0} {D : Type 0} {V : Type 0} → Level R D V → State
 level_state (RemoteLevel store) = Alone store
 level_state (DiskLevel store) = Alone store
 level_state (OnlyRead (RemoteOnly only)) = Wrapped (Alone only.store)

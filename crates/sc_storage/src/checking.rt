@@ -5,7 +5,7 @@ ghost use Rattle.sc_storage.specs.Checks as checks;
 use sc_disk::Disk;
 use sc_entry::{CacheMode, NoMemory};
 use sc_model::{Cause, LevelPolicy, Policy};
-use sc_store::{Checked, Levels, Remote};
+use sc_store::{Checked, Levels, Remote, Vouch};
 use std::alloc::Global;
 
 /// How a check of levels goes on after one of them.
@@ -61,9 +61,9 @@ fn first_mode(count: usize) -> CacheMode
 }
 
 /// The check of one level, and of no other.
-fn check_level<R: Remote, D: Disk + Drop>(
+fn check_level<R: Remote, D: Disk + Drop, V: Vouch>(
     alloc: Global,
-    levels: &mut Levels<R, D>,
+    levels: &mut Levels<R, D, V>,
     level: usize,
 ) -> Result<Checked, NoMemory>
     requires { level < length levels.old.levels }
@@ -74,9 +74,9 @@ fn check_level<R: Remote, D: Disk + Drop>(
 }
 
 /// One level's turn in a check: a level that is off isn't checked.
-fn take_turn<R: Remote, D: Disk + Drop>(
+fn take_turn<R: Remote, D: Disk + Drop, V: Vouch>(
     alloc: Global,
-    levels: &mut Levels<R, D>,
+    levels: &mut Levels<R, D, V>,
     level: usize,
     mode: CacheMode,
 ) -> Result<Step, NoMemory>
@@ -94,9 +94,9 @@ fn take_turn<R: Remote, D: Disk + Drop>(
 
 /// Checks the levels in their order. The first refusal of a level that has to be written is the answer; else they can be
 /// written where one can, or where one refused that need not be.
-pub(crate) fn check<R: Remote, D: Disk + Drop>(
+pub(crate) fn check<R: Remote, D: Disk + Drop, V: Vouch>(
     alloc: Global,
-    levels: &mut Levels<R, D>,
+    levels: &mut Levels<R, D, V>,
 ) -> Result<Checked, NoMemory>
     ensures stays { checks.Stays levels.old levels.new }
     ensures checked { IfOk result (λ answer. checks.ChecksAll answer levels.old levels.new) }

@@ -14,12 +14,12 @@ use sc_disk::{Disk, LruDiskCacheAddEntry};
 use sc_entry::{ByteText, Cache, CacheMode, CacheWrite, GetPathResult, Items, NoMemory, Text};
 use sc_model::{Answer, Mode, Policy, Written};
 use sc_stats::LevelStats;
-use sc_store::{DiskStorage, EntryError, Filling, Reservation};
+use sc_store::{DiskStorage, EntryError, Filling, Reservation, Vouch};
 use std::alloc::Global;
 
 /// Looks a key up at a disk store.
-fn look_disk<D: Disk + Drop>(
-    store: &mut DiskStorage<D>,
+fn look_disk<D: Disk + Drop, V: Vouch>(
+    store: &mut DiskStorage<D, V>,
     key: &Text,
     mode: Mode,
     now: u64,
@@ -33,8 +33,8 @@ fn look_disk<D: Disk + Drop>(
 }
 
 /// Fills an entry that is open.
-fn fill<D: Disk + Drop>(
-    store: &mut DiskStorage<D>,
+fn fill<D: Disk + Drop, V: Vouch>(
+    store: &mut DiskStorage<D, V>,
     entry: LruDiskCacheAddEntry,
     bytes: &ByteText,
 ) -> Result<Filling, NoMemory>
@@ -53,8 +53,8 @@ fn fill<D: Disk + Drop>(
 }
 
 /// Commits an entry that is open.
-fn commit<D: Disk + Drop>(
-    store: &mut DiskStorage<D>,
+fn commit<D: Disk + Drop, V: Vouch>(
+    store: &mut DiskStorage<D, V>,
     entry: LruDiskCacheAddEntry,
     now: u64,
 ) -> Result<Written, NoMemory>
@@ -74,8 +74,8 @@ fn commit<D: Disk + Drop>(
 }
 
 /// Puts bytes under a key. What it opens it closes, whatever it comes to.
-fn put_disk<D: Disk + Drop>(
-    store: &mut DiskStorage<D>,
+fn put_disk<D: Disk + Drop, V: Vouch>(
+    store: &mut DiskStorage<D, V>,
     key: &Text,
     bytes: &ByteText,
     now: u64,
@@ -97,8 +97,8 @@ fn put_disk<D: Disk + Drop>(
 }
 
 /// Puts an entry of the preprocessor under a key.
-fn put_pre_disk<D: Disk + Drop>(
-    store: &mut DiskStorage<D>,
+fn put_pre_disk<D: Disk + Drop, V: Vouch>(
+    store: &mut DiskStorage<D, V>,
     key: &Text,
     bytes: &[u8],
     now: u64,
@@ -111,7 +111,7 @@ fn put_pre_disk<D: Disk + Drop>(
     store.put_pre(&Policy::Single, key, bytes, now)
 }
 
-impl<D: Disk + Drop> Storage for DiskStorage<D> {
+impl<D: Disk + Drop, V: Vouch> Storage for DiskStorage<D, V> {
     ghost state = { λ s. State.Alone s };
 
     fn get(&mut self, alloc: Global, key: &Text, now: u64) -> Result<Cache, StorageError> {

@@ -8,10 +8,10 @@ use sc_disk::Disk;
 use sc_entry::{ByteText, Cache, CacheMode, CacheWrite, GetPathResult, Items, NoMemory, Text};
 use sc_model::{Answer, Put};
 use sc_stats::LevelStats;
-use sc_store::{Checked, Remote};
+use sc_store::{Checked, Remote, Vouch};
 use std::alloc::Global;
 
-impl<R: Remote + Drop, D: Disk + Drop> Storage for MultiLevelStorage<R, D> {
+impl<R: Remote + Drop, D: Disk + Drop, V: Vouch> Storage for MultiLevelStorage<R, D, V> {
     ghost state = { λ m. State.Layered m };
 
     fn get(&mut self, alloc: Global, key: &Text, now: u64) -> Result<Cache, StorageError> {

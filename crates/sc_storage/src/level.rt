@@ -6,10 +6,10 @@ use crate::storage_error::StorageError;
 use sc_disk::Disk;
 use sc_entry::{ByteText, Cache, CacheMode, CacheWrite, GetPathResult, Items, NoMemory, Text};
 use sc_stats::LevelStats;
-use sc_store::{Level, ReadOnlyLevel, Remote};
+use sc_store::{Level, ReadOnlyLevel, Remote, Vouch};
 use std::alloc::Global;
 
-impl<R: Remote + Drop, D: Disk + Drop> Storage for Level<R, D> {
+impl<R: Remote + Drop, D: Disk + Drop, V: Vouch> Storage for Level<R, D, V> {
     ghost state = { λ l. level_state l };
 
     fn get(&mut self, alloc: Global, key: &Text, now: u64) -> Result<Cache, StorageError> {

@@ -28,7 +28,7 @@ use sc_disk::Disk;
 use sc_entry::{ByteText, Cache, CacheMode, CacheWrite, Items, NoMemory, Text};
 use sc_model::{Answer, LevelPolicy, Mode, Policy, Put, Written};
 use sc_stats::LevelStats;
-use sc_store::{Checked, Level, Levels, Remote};
+use sc_store::{Checked, Level, Levels, Remote, Vouch};
 use sc_store_config::{ConfigError, StoreConfig, WriteErrorPolicy, storage_from_config};
 use std::alloc::Global;
 use std::marker::Model;
@@ -36,13 +36,13 @@ use std::marker::Model;
 /// Levels of stores in order, as one store, with what is counted at each. Contracts see what the levels hold, the counters
 /// and the base directories.
 #[derive(Drop)]
-pub struct MultiLevelStorage<R: Remote, D: Disk> {
-    levels: Levels<R, D>,
+pub struct MultiLevelStorage<R: Remote, D: Disk, V: Vouch> {
+    levels: Levels<R, D, V>,
     counters: Vec<LevelStats>,
     basedirs: Vec<ByteText>,
 }
 
-impl<R: Remote, D: Disk> Model for MultiLevelStorage<R, D> {
+impl<R: Remote, D: Disk, V: Vouch> Model for MultiLevelStorage<R, D, V> {
     ghost use Rattle.sc_storage.specs.Stores.{Multilevel, multilevel_code, multilevel_of};
 
     ghost Value = { Multilevel };
@@ -59,10 +59,10 @@ impl<R: Remote, D: Disk> Model for MultiLevelStorage<R, D> {
 }
 
 /// Levels as one store, of which nothing is counted yet.
-fn of_levels<R: Remote + Drop, D: Disk + Drop>(
+fn of_levels<R: Remote + Drop, D: Disk + Drop, V: Vouch>(
     alloc: Global,
-    levels: Levels<R, D>,
-) -> Result<MultiLevelStorage<R, D>, NoMemory>
+    levels: Levels<R, D, V>,
+) -> Result<MultiLevelStorage<R, D, V>, NoMemory>
     requires { is_single levels.policy ≡ false }
     ensures held { IfOk result (λ store. store.held ≡ levels) }
     ensures counters { IfOk result (λ store. store.counters ≡ new_counters 0 levels.titles) }
@@ -77,9 +77,12 @@ fn of_levels<R: Remote + Drop, D: Disk + Drop>(
     })
 }
 
-impl<R: Remote + Drop, D: Disk + Drop> MultiLevelStorage<R, D> {
+impl<R: Remote + Drop, D: Disk + Drop, V: Vouch> MultiLevelStorage<R, D, V> {
     /// Levels of which the first has to be written, and all others are written in the background.
-    pub fn new(alloc: Global, levels: Vec<Level<R, D>>) -> Result<MultiLevelStorage<R, D>, NoMemory>
+    pub fn new(
+        alloc: Global,
+        levels: Vec<Level<R, D, V>>,
+    ) -> Result<MultiLevelStorage<R, D, V>, NoMemory>
         ensures { IfOk result (λ store. IsNew (held_levels levels.items (ByLevel (setting_policies settings.L0 (length levels.items)))) store) }
     {
         MultiLevelStorage::with_write_error_policy(alloc, levels, WriteErrorPolicy::new())
@@ -88,9 +91,9 @@ impl<R: Remote + Drop, D: Disk + Drop> MultiLevelStorage<R, D> {
     /// Levels whose policies this setting says.
     pub fn with_write_error_policy(
         alloc: Global,
-        levels: Vec<Level<R, D>>,
+        levels: Vec<Level<R, D, V>>,
         policy: WriteErrorPolicy,
-    ) -> Result<MultiLevelStorage<R, D>, NoMemory>
+    ) -> Result<MultiLevelStorage<R, D, V>, NoMemory>
         ensures { IfOk result (λ store. IsNew (held_levels levels.items (ByLevel (setting_policies policy (length levels.items)))) store) }
     {
         let policies = policy.policies(alloc, levels.len())?;
@@ -100,9 +103,9 @@ impl<R: Remote + Drop, D: Disk + Drop> MultiLevelStorage<R, D> {
     /// Levels with a write policy each: a missing one is `Background`, a surplus one isn't used. Nothing is counted yet.
     pub fn with_level_policies(
         alloc: Global,
-        levels: Vec<Level<R, D>>,
+        levels: Vec<Level<R, D, V>>,
         policies: Items<LevelPolicy>,
-    ) -> Result<MultiLevelStorage<R, D>, NoMemory>
+    ) -> Result<MultiLevelStorage<R, D, V>, NoMemory>
         ensures { IfOk result (λ store. IsNew (held_levels levels.items (ByLevel policies)) store) }
     {
         let store = of_levels(alloc, Levels::new(levels, Policy::Levels(policies)))?;
@@ -114,7 +117,7 @@ impl<R: Remote + Drop, D: Disk + Drop> MultiLevelStorage<R, D> {
     pub fn from_config(
         alloc: Global,
         config: StoreConfig<R, D>,
-    ) -> Result<Option<MultiLevelStorage<R, D>>, ConfigError>
+    ) -> Result<Option<MultiLevelStorage<R, D, V>>, ConfigError>
         ensures made { IfOk result (λ found. IsChain config.chain (store_of (remote_as R.names R.held R.fault_count R.loss_count R.calls config.basedirs config.skip_cache_check) (disk_as D.state config.basedirs) config) found) }
         ensures fault { IfErr result (λ error. IsCause error (store_of (remote_as R.names R.held R.fault_count R.loss_count R.calls config.basedirs config.skip_cache_check) (disk_as D.state config.basedirs) config)) }
     {
@@ -127,9 +130,9 @@ impl<R: Remote + Drop, D: Disk + Drop> MultiLevelStorage<R, D> {
     }
 }
 
-impl<R: Remote, D: Disk> MultiLevelStorage<R, D> {
+impl<R: Remote, D: Disk, V: Vouch> MultiLevelStorage<R, D, V> {
     /// The levels.
-    pub fn levels(&self) -> &Levels<R, D>
+    pub fn levels(&self) -> &Levels<R, D, V>
         ensures { result.now ≡ self.now.held }
     {
         &self.levels
@@ -216,7 +219,7 @@ fn cache_of(alloc: Global, found: Option<Hit>) -> Result<Cache, NoMemory>
     entry_of(alloc, hit.bytes)
 }
 
-impl<R: Remote, D: Disk + Drop> MultiLevelStorage<R, D> {
+impl<R: Remote, D: Disk + Drop, V: Vouch> MultiLevelStorage<R, D, V> {
     /// Looks an entry up at this moment, level by level: the first hit is the answer, and is put at the levels before it
     /// that take writes, whatever comes of that. A level that refuses is passed over as one that has no such entry. Each
     /// level's answer and each put is counted there.

@@ -11,7 +11,7 @@ ghost use Rattle.sc_storage.specs.Preprocessor as preprocessor;
 use sc_disk::Disk;
 use sc_entry::{NoMemory, Queue, Text};
 use sc_model::{Answer, Mode, Written};
-use sc_store::{Levels, Remote};
+use sc_store::{Levels, Remote, Vouch};
 use std::alloc::Global;
 
 fn is_miss(answer: &Answer) -> bool
@@ -24,9 +24,9 @@ fn is_miss(answer: &Answer) -> bool
 }
 
 /// Looks an entry of the preprocessor up at one level, and at no other.
-fn ask_level<R: Remote, D: Disk + Drop>(
+fn ask_level<R: Remote, D: Disk + Drop, V: Vouch>(
     alloc: Global,
-    levels: &mut Levels<R, D>,
+    levels: &mut Levels<R, D, V>,
     level: usize,
     key: &Text,
     now: u64,
@@ -39,9 +39,9 @@ fn ask_level<R: Remote, D: Disk + Drop>(
 }
 
 /// Asks the levels in order, until one finds the entry or refuses.
-pub(crate) fn ask_each<R: Remote, D: Disk + Drop>(
+pub(crate) fn ask_each<R: Remote, D: Disk + Drop, V: Vouch>(
     alloc: Global,
-    levels: &mut Levels<R, D>,
+    levels: &mut Levels<R, D, V>,
     key: &Text,
     now: u64,
 ) -> Result<Answer, NoMemory>
@@ -61,8 +61,8 @@ pub(crate) fn ask_each<R: Remote, D: Disk + Drop>(
 }
 
 /// Puts an entry of the preprocessor at one level, and at no other.
-fn put_level<R: Remote, D: Disk + Drop>(
-    levels: &mut Levels<R, D>,
+fn put_level<R: Remote, D: Disk + Drop, V: Vouch>(
+    levels: &mut Levels<R, D, V>,
     level: usize,
     key: &Text,
     bytes: &[u8],
@@ -76,7 +76,10 @@ fn put_level<R: Remote, D: Disk + Drop>(
 }
 
 /// The levels that take such an entry.
-fn plan_of<R: Remote, D: Disk>(alloc: Global, levels: &Levels<R, D>) -> Result<Queue<u64>, NoMemory>
+fn plan_of<R: Remote, D: Disk, V: Vouch>(
+    alloc: Global,
+    levels: &Levels<R, D, V>,
+) -> Result<Queue<u64>, NoMemory>
     requires { is_single levels.now.policy ≡ false }
     ensures plan { IfOk result (λ taking. taking ≡ plans.pre_plan levels.now.policy levels.now.facts) }
     ensures there { IfOk result (λ taking. AreLevels (length levels.now.levels) taking) }
@@ -86,9 +89,9 @@ fn plan_of<R: Remote, D: Disk>(alloc: Global, levels: &Levels<R, D>) -> Result<Q
 }
 
 /// Puts it at each of the levels that take it, in order, whatever that comes to.
-pub(crate) fn put_each<R: Remote, D: Disk + Drop>(
+pub(crate) fn put_each<R: Remote, D: Disk + Drop, V: Vouch>(
     alloc: Global,
-    levels: &mut Levels<R, D>,
+    levels: &mut Levels<R, D, V>,
     key: &Text,
     bytes: &[u8],
     now: u64,

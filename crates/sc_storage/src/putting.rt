@@ -19,13 +19,13 @@ use sc_disk::{Disk, LruDiskCacheAddEntry};
 use sc_entry::{ByteText, Items, NoMemory, Queue, Text};
 use sc_model::{Bytes, Handed, LevelKind, Put, Refusal, Written};
 use sc_stats::LevelStats;
-use sc_store::{EntryError, Filling, Levels, Remote, Reservation};
+use sc_store::{EntryError, Filling, Levels, Remote, Reservation, Vouch};
 use std::alloc::Global;
 
 /// Puts an entry at a remote level, and at no other.
-fn put_remote<R: Remote, D: Disk + Drop>(
+fn put_remote<R: Remote, D: Disk + Drop, V: Vouch>(
     alloc: Global,
-    levels: &mut Levels<R, D>,
+    levels: &mut Levels<R, D, V>,
     level: usize,
     key: &Text,
     bytes: &ByteText,
@@ -40,8 +40,8 @@ fn put_remote<R: Remote, D: Disk + Drop>(
 }
 
 /// Fills an entry that is open.
-fn fill<R: Remote, D: Disk + Drop>(
-    levels: &mut Levels<R, D>,
+fn fill<R: Remote, D: Disk + Drop, V: Vouch>(
+    levels: &mut Levels<R, D, V>,
     level: usize,
     entry: LruDiskCacheAddEntry,
     bytes: &ByteText,
@@ -64,8 +64,8 @@ fn fill<R: Remote, D: Disk + Drop>(
 }
 
 /// Commits an entry that is open.
-fn commit<R: Remote, D: Disk + Drop>(
-    levels: &mut Levels<R, D>,
+fn commit<R: Remote, D: Disk + Drop, V: Vouch>(
+    levels: &mut Levels<R, D, V>,
     level: usize,
     entry: LruDiskCacheAddEntry,
     now: u64,
@@ -88,8 +88,8 @@ fn commit<R: Remote, D: Disk + Drop>(
 }
 
 /// Puts an entry at a disk level, and at no other. What it opens it closes, whatever it comes to. The key gets this mark.
-fn put_disk<R: Remote, D: Disk + Drop>(
-    levels: &mut Levels<R, D>,
+fn put_disk<R: Remote, D: Disk + Drop, V: Vouch>(
+    levels: &mut Levels<R, D, V>,
     level: usize,
     key: &Text,
     bytes: &ByteText,
@@ -113,9 +113,9 @@ fn put_disk<R: Remote, D: Disk + Drop>(
 }
 
 /// Puts an entry at one level, and at no other, and counts there what it came to.
-pub(crate) fn write_level<R: Remote, D: Disk + Drop>(
+pub(crate) fn write_level<R: Remote, D: Disk + Drop, V: Vouch>(
     alloc: Global,
-    levels: &mut Levels<R, D>,
+    levels: &mut Levels<R, D, V>,
     counters: &mut [LevelStats],
     backfill: bool,
     level: u64,
@@ -158,9 +158,9 @@ fn ends(refusal: Refusal) -> bool
 }
 
 /// Puts an entry at each of these levels in order. The first refusal is the answer; that of level 0 ends the puts.
-fn write_each<R: Remote, D: Disk + Drop>(
+fn write_each<R: Remote, D: Disk + Drop, V: Vouch>(
     alloc: Global,
-    levels: &mut Levels<R, D>,
+    levels: &mut Levels<R, D, V>,
     counters: &mut [LevelStats],
     plan: Queue<u64>,
     put: &Bytes,
@@ -185,9 +185,9 @@ fn write_each<R: Remote, D: Disk + Drop>(
 }
 
 /// Makes writes that were handed on, in order.
-pub(crate) fn write_handed<R: Remote, D: Disk + Drop>(
+pub(crate) fn write_handed<R: Remote, D: Disk + Drop, V: Vouch>(
     alloc: Global,
-    levels: &mut Levels<R, D>,
+    levels: &mut Levels<R, D, V>,
     counters: &mut [LevelStats],
     backfill: bool,
     handed: &[Handed],
@@ -216,7 +216,10 @@ pub(crate) fn write_handed<R: Remote, D: Disk + Drop>(
 }
 
 /// The levels that are written before the answer.
-fn plan_of<R: Remote, D: Disk>(alloc: Global, levels: &Levels<R, D>) -> Result<Queue<u64>, NoMemory>
+fn plan_of<R: Remote, D: Disk, V: Vouch>(
+    alloc: Global,
+    levels: &Levels<R, D, V>,
+) -> Result<Queue<u64>, NoMemory>
     requires { is_single levels.now.policy ≡ false }
     ensures plan { IfOk result (λ levels_of. levels_of ≡ plans.plan levels.now.policy levels.now.facts) }
     ensures there { IfOk result (λ levels_of. AreLevels (length levels.now.levels) levels_of) }
@@ -226,9 +229,9 @@ fn plan_of<R: Remote, D: Disk>(alloc: Global, levels: &Levels<R, D>) -> Result<Q
 }
 
 /// The writes that a put hands on.
-fn handed_by<R: Remote, D: Disk>(
+fn handed_by<R: Remote, D: Disk, V: Vouch>(
     alloc: Global,
-    levels: &Levels<R, D>,
+    levels: &Levels<R, D, V>,
     put: &Bytes,
     refusal: Refusal,
 ) -> Result<Items<Handed>, NoMemory>
@@ -241,9 +244,9 @@ fn handed_by<R: Remote, D: Disk>(
 
 /// Puts an entry under a key: at the levels that have to be written, which make the answer, then at those whose writes are
 /// handed on.
-pub(crate) fn put<R: Remote, D: Disk + Drop>(
+pub(crate) fn put<R: Remote, D: Disk + Drop, V: Vouch>(
     alloc: Global,
-    levels: &mut Levels<R, D>,
+    levels: &mut Levels<R, D, V>,
     counters: &mut [LevelStats],
     key: &Text,
     bytes: ByteText,

@@ -8,13 +8,13 @@ use crate::storage_error::StorageError;
 use sc_entry::{ByteText, Cache, CacheMode, CacheWrite, GetPathResult, Items, NoMemory, Text};
 use sc_model::{Answer, Mode, Policy, Written};
 use sc_stats::LevelStats;
-use sc_store::{Checked, Remote, RemoteStorage};
+use sc_store::{Checked, Remote, RemoteStorage, Vouch};
 use std::alloc::Global;
 
 /// Looks a key up at a remote store.
-fn look_remote<R: Remote>(
+fn look_remote<R: Remote, V: Vouch>(
     alloc: Global,
-    store: &mut RemoteStorage<R>,
+    store: &mut RemoteStorage<R, V>,
     key: &Text,
     mode: Mode,
 ) -> Result<Answer, NoMemory>
@@ -26,9 +26,9 @@ fn look_remote<R: Remote>(
 }
 
 /// Puts bytes at a remote store.
-fn put_remote<R: Remote>(
+fn put_remote<R: Remote, V: Vouch>(
     alloc: Global,
-    store: &mut RemoteStorage<R>,
+    store: &mut RemoteStorage<R, V>,
     key: &Text,
     bytes: &ByteText,
 ) -> Result<Written, NoMemory>
@@ -39,7 +39,7 @@ fn put_remote<R: Remote>(
     store.put_step(alloc, &Policy::Single, key, bytes, false)
 }
 
-impl<R: Remote> Storage for RemoteStorage<R> {
+impl<R: Remote, V: Vouch> Storage for RemoteStorage<R, V> {
     ghost state = { λ s. State.Alone s };
 
     fn get(&mut self, alloc: Global, key: &Text, _now: u64) -> Result<Cache, StorageError> {

@@ -2,11 +2,11 @@ use sc_disk::MemDisk;
 use sc_entry::{ByteText, CacheMode, Items};
 use sc_model::LevelPolicy;
 use sc_storage::MultiLevelStorage;
-use sc_store::{Checked, Level, MemRemote, RemoteStorage};
+use sc_store::{Checked, Level, MemRemote, RemoteStorage, Unvouched};
 use std::alloc::Global;
 use std::test::Fail;
 
-type Storage = MultiLevelStorage<MemRemote, MemDisk>;
+type Storage = MultiLevelStorage<MemRemote, MemDisk, Unvouched>;
 
 /// The call of a level that is refused, its mode and its policy.
 type Row = (u64, CacheMode, LevelPolicy);
@@ -17,7 +17,7 @@ fn remote(
     fails: u64,
     mode: CacheMode,
     basedir: &[u8],
-) -> Result<Level<MemRemote, MemDisk>, Fail> {
+) -> Result<Level<MemRemote, MemDisk, Unvouched>, Fail> {
     let mut failing = Items::new(alloc);
     failing.push(fails)?;
     let remote = MemRemote::new(alloc, Items::new(alloc), failing)?;

@@ -4,15 +4,15 @@ use sc_entry::{ByteText, Cache, CacheMode, CacheWrite, Calls, Items, Text};
 use sc_model::{Answer, LevelPolicy, Mode, Put};
 use sc_stats::LevelStats;
 use sc_storage::MultiLevelStorage;
-use sc_store::{DiskCache, DiskStorage, Level, MemRemote, RemoteStorage};
+use sc_store::{DiskCache, DiskStorage, Level, MemRemote, RemoteStorage, Unvouched};
 use sc_store_config::{DiskConfig, StoreConfig, WriteErrorPolicy};
 use std::alloc::Global;
 use std::collections::BTreeMap;
 use std::test::Fail;
 
-pub(crate) type Storage = MultiLevelStorage<MemRemote, MemDisk>;
+pub(crate) type Storage = MultiLevelStorage<MemRemote, MemDisk, Unvouched>;
 
-pub(crate) type OneLevel = Level<MemRemote, MemDisk>;
+pub(crate) type OneLevel = Level<MemRemote, MemDisk, Unvouched>;
 
 const RW: CacheMode = CacheMode::ReadWrite;
 
@@ -48,7 +48,7 @@ pub(crate) fn disk_store(
     alloc: Global,
     fails: u64,
     mode: CacheMode,
-) -> Result<DiskStorage<MemDisk>, Fail> {
+) -> Result<DiskStorage<MemDisk, Unvouched>, Fail> {
     let main = disk(alloc, b"/0", fails)?;
     let pre = disk(alloc, b"/0p", 0)?;
     let cache = DiskCache::new(alloc, main, pre, 100, mode);

@@ -5,7 +5,7 @@ use sc_entry::{ByteText, Cache, CacheMode, CacheWrite, Items, Text};
 use sc_model::LevelPolicy;
 use sc_stats::{ServerInfo, ServerStats};
 use sc_storage::{MultiLevelStorage, ReadOnlyStorage, Storage, StorageError, StorageFacts};
-use sc_store::{DiskCache, DiskStorage, Level, MemRemote, RemoteStorage};
+use sc_store::{DiskCache, DiskStorage, Level, MemRemote, RemoteStorage, Unvouched};
 use std::alloc::Global;
 use std::test::Fail;
 
@@ -159,7 +159,7 @@ fn remote_store(
     alloc: Global,
     fails: u64,
     mode: CacheMode,
-) -> Result<RemoteStorage<MemRemote>, Fail> {
+) -> Result<RemoteStorage<MemRemote, Unvouched>, Fail> {
     let mut failing = Items::new(alloc);
     failing.push(fails)?;
     let remote = MemRemote::new(alloc, Items::new(alloc), failing)?;

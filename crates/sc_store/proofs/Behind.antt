@@ -27,13 +27,13 @@ known_is None = refl
 known_is (Some n) = refl
 
 -- one more level was summed
-pub max_more : {R D : Type 0} (levels : List (Level R D)) (level : Level R D) (sum sum2 n total : ℕ) (max : Option ℕ) → 1 ≤ length levels → level ≡ get_or levels 0 level → max ≡ level_max (held_level level).facts → n ≡ unwrap_or max 0 → sum2 ≡ min (sum + n) (2 ^ 64 - 1)
+pub max_more : {R D V : Type 0} (levels : List (Level R D V)) (level : Level R D V) (sum sum2 n total : ℕ) (max : Option ℕ) → 1 ≤ length levels → level ≡ get_or levels 0 level → max ≡ level_max (held_level level).facts → n ≡ unwrap_or max 0 → sum2 ≡ min (sum + n) (2 ^ 64 - 1)
     → max_onto sum (facts_of levels) ≡ total → max_onto sum2 (facts_of (take (length levels - 1) (drop 1 levels))) ≡ total
-max_more {R} {D} levels level sum sum2 n total max some first is_max is_n is_sum so_far =
+max_more {R} {D} {V} levels level sum sum2 n total max some first is_max is_n is_sum so_far =
     let rest = take (length levels - 1) (drop 1 levels) in
     let known_max : n ≡ known (level_max (held_level level).facts) = is_n ∙ known_is max ∙ ap known is_max in
     ap (λ k. max_onto k (facts_of rest)) (is_sum ∙ ap (λ k. min (sum + k) (2 ^ 64 - 1)) known_max)
-    ∙ ap (λ (ls : List (Level R D)). max_onto sum (facts_of ls)) (sym (behind levels level some first))
+    ∙ ap (λ (ls : List (Level R D V)). max_onto sum (facts_of ls)) (sym (behind levels level some first))
     ∙ so_far
 
 first_within : (h : HeldLevel) (hs : List HeldLevel) (policy : Policy) → IsWithin h.facts h.level h.room → AreWithin (held_of hs policy) → AreWithin (held_of (h ∷ hs) policy)
@@ -41,24 +41,24 @@ first_within h hs policy here rest zero = here
 first_within h hs policy here rest (suc l) = rest l
 
 -- the first level is within its capacity, and so are those behind it
-pub all_within : {R D : Type 0} (levels : List (Level R D)) (level : Level R D) → 1 ≤ length levels → level ≡ get_or levels 0 level → IsWithin (held_level level).facts (held_level level).level (held_level level).room
+pub all_within : {R D V : Type 0} (levels : List (Level R D V)) (level : Level R D V) → 1 ≤ length levels → level ≡ get_or levels 0 level → IsWithin (held_level level).facts (held_level level).level (held_level level).room
     → ((policy : Policy) → AreWithin (held_levels (take (length levels - 1) (drop 1 levels)) policy)) → (policy : Policy) → AreWithin (held_levels levels policy)
-all_within {R} {D} levels level some first here rest policy =
-    subst (λ (ls : List (Level R D)). AreWithin (held_levels ls policy)) (sym (behind levels level some first))
+all_within {R} {D} {V} levels level some first here rest policy =
+    subst (λ (ls : List (Level R D V)). AreWithin (held_levels ls policy)) (sym (behind levels level some first))
     (first_within (held_level level) _ policy here (rest policy))
 
 -- no level is beyond its capacity where there is none
-pub none_within : {R D : Type 0} (levels : List (Level R D)) → length levels < 1 → (policy : Policy) → AreWithin (held_levels levels policy)
+pub none_within : {R D V : Type 0} (levels : List (Level R D V)) → length levels < 1 → (policy : Policy) → AreWithin (held_levels levels policy)
 none_within [] none policy = λ l kind. absurd (cc)
 none_within (level ∷ levels) none policy = absurd (omega arith)
 
 -- where the first level is
-pub first_located : {R D : Type 0} (levels : List (Level R D)) (level : Level R D) → 1 ≤ length levels → level ≡ get_or levels 0 level → first_location (titles_of levels) ≡ (held_level level).title.location
-first_located {R} {D} levels level some first = ap (λ (ls : List (Level R D)). first_location (titles_of ls)) (behind levels level some first)
+pub first_located : {R D V : Type 0} (levels : List (Level R D V)) (level : Level R D V) → 1 ≤ length levels → level ≡ get_or levels 0 level → first_location (titles_of levels) ≡ (held_level level).title.location
+first_located {R} {D} {V} levels level some first = ap (λ (ls : List (Level R D V)). first_location (titles_of ls)) (behind levels level some first)
 
 -- what base directories it was given
-pub first_given : {R D : Type 0} (levels : List (Level R D)) (level : Level R D) → 1 ≤ length levels → level ≡ get_or levels 0 level → first_basedirs (titles_of levels) ≡ (held_level level).title.given.basedirs
-first_given {R} {D} levels level some first = ap (λ (ls : List (Level R D)). first_basedirs (titles_of ls)) (behind levels level some first)
+pub first_given : {R D V : Type 0} (levels : List (Level R D V)) (level : Level R D V) → 1 ≤ length levels → level ≡ get_or levels 0 level → first_basedirs (titles_of levels) ≡ (held_level level).title.given.basedirs
+first_given {R} {D} {V} levels level some first = ap (λ (ls : List (Level R D V)). first_basedirs (titles_of ls)) (behind levels level some first)
 
 -- as many as before, and one more was counted
 pub one_counted : {A : Type 0} (xs : List A) (x : A) (n total : ℕ) → 1 ≤ length xs → x ≡ get_or xs 0 x → n + length xs ≡ total → (n + 1) + length (take (length xs - 1) (drop 1 xs)) ≡ total
@@ -71,41 +71,41 @@ taken_more true n found found2 more added kept = ap (λ (xs : List ℕ). xs ++ m
 taken_more false n found found2 more added kept = ap (λ (xs : List ℕ). xs ++ more) (kept refl)
 
 -- one more level was looked at
-pub levels_more : {R D : Type 0} (test : LevelPolicy → Bool) (n : ℕ) (ps : List LevelPolicy) (levels : List (Level R D)) (level : Level R D) (found found2 total : List ℕ) (ps2 : List LevelPolicy) (t : Bool) → 1 ≤ length levels → level ≡ get_or levels 0 level
+pub levels_more : {R D V : Type 0} (test : LevelPolicy → Bool) (n : ℕ) (ps : List LevelPolicy) (levels : List (Level R D V)) (level : Level R D V) (found found2 total : List ℕ) (ps2 : List LevelPolicy) (t : Bool) → 1 ≤ length levels → level ≡ get_or levels 0 level
     → t ≡ (not (reads_only (held_level level).facts.mode) && test (first_policy ps)) → (t ≡ true → found2 ≡ found ++ n ∷ []) → (t ≡ false → found2 ≡ found) → ps2 ≡ rest_policies ps → found ++ levels_of test n ps (facts_of levels) ≡ total
     → found2 ++ levels_of test (n + 1) ps2 (facts_of (take (length levels - 1) (drop 1 levels))) ≡ total
-levels_more {R} {D} test n ps levels level found found2 total ps2 t some first is added kept left so_far =
+levels_more {R} {D} {V} test n ps levels level found found2 total ps2 t some first is added kept left so_far =
     let rest = take (length levels - 1) (drop 1 levels) in
     let more = levels_of test (suc n) (rest_policies ps) (facts_of rest) in
     ap (λ k. found2 ++ levels_of test k ps2 (facts_of rest)) (add-one n)
     ∙ ap (λ (qs : List LevelPolicy). found2 ++ levels_of test (suc n) qs (facts_of rest)) left
     ∙ taken_more t n found found2 more added kept
     ∙ ap (λ b. found ++ (if b then n ∷ more else more)) is
-    ∙ ap (λ (ls : List (Level R D)). found ++ levels_of test n ps (facts_of ls)) (sym (behind levels level some first))
+    ∙ ap (λ (ls : List (Level R D V)). found ++ levels_of test n ps (facts_of ls)) (sym (behind levels level some first))
     ∙ so_far
 
 -- one more level has its counters
-pub counters_more : {R D : Type 0} (n : ℕ) (levels : List (Level R D)) (level : Level R D) (counters counters2 total : List LevelStats) (one : LevelStats) → 1 ≤ length levels → level ≡ get_or levels 0 level
+pub counters_more : {R D V : Type 0} (n : ℕ) (levels : List (Level R D V)) (level : Level R D V) (counters counters2 total : List LevelStats) (one : LevelStats) → 1 ≤ length levels → level ≡ get_or levels 0 level
     → one ≡ record no_level_stats { name = level_name n (held_level level).title.type_name; location = (held_level level).title.location } → counters2 ≡ counters ++ one ∷ [] → counters ++ new_counters n (titles_of levels) ≡ total
     → counters2 ++ new_counters (n + 1) (titles_of (take (length levels - 1) (drop 1 levels))) ≡ total
-counters_more {R} {D} n levels level counters counters2 total one some first is pushed so_far =
+counters_more {R} {D} {V} n levels level counters counters2 total one some first is pushed so_far =
     let rest = take (length levels - 1) (drop 1 levels) in
     ap (λ k. counters2 ++ new_counters k (titles_of rest)) (add-one n)
     ∙ ap (λ (cs : List LevelStats). cs ++ new_counters (suc n) (titles_of rest)) pushed
     ∙ append_assoc counters (one ∷ []) (new_counters (suc n) (titles_of rest))
     ∙ ap (λ (c : LevelStats). counters ++ c ∷ new_counters (suc n) (titles_of rest)) is
-    ∙ ap (λ (ls : List (Level R D)). counters ++ new_counters n (titles_of ls)) (sym (behind levels level some first))
+    ∙ ap (λ (ls : List (Level R D V)). counters ++ new_counters n (titles_of ls)) (sym (behind levels level some first))
     ∙ so_far
 
 -- no level is left
-pub counters_all : {R D : Type 0} (n : ℕ) (levels : List (Level R D)) (counters total : List LevelStats) → length levels < 1 → counters ++ new_counters n (titles_of levels) ≡ total → counters ≡ total
+pub counters_all : {R D V : Type 0} (n : ℕ) (levels : List (Level R D V)) (counters total : List LevelStats) → length levels < 1 → counters ++ new_counters n (titles_of levels) ≡ total → counters ≡ total
 counters_all n [] counters total none so_far = sym (append-nil counters) ∙ so_far
 counters_all n (l ∷ ls) counters total none so_far = absurd (omega (arith, none))
 
 -- nothing is reserved at the first level, and at those behind it
-pub all_unreserved : {R D : Type 0} (levels : List (Level R D)) (level : Level R D) → 1 ≤ length levels → level ≡ get_or levels 0 level
+pub all_unreserved : {R D V : Type 0} (levels : List (Level R D V)) (level : Level R D V) → 1 ≤ length levels → level ≡ get_or levels 0 level
     → are_unreserved (rooms_of levels) ≡ (((held_level level).room.reserved == 0) && are_unreserved (rooms_of (take (length levels - 1) (drop 1 levels))))
-all_unreserved {R} {D} levels level some first = ap (λ (ls : List (Level R D)). are_unreserved (rooms_of ls)) (behind levels level some first)
+all_unreserved {R} {D} {V} levels level some first = ap (λ (ls : List (Level R D V)). are_unreserved (rooms_of ls)) (behind levels level some first)
 
 left_of : (a b : Bool) → (a && b) ≡ true → a ≡ true
 left_of true b e = refl

@@ -47,5 +47,5 @@ pub none_open_read : (entry : AddEntry) (h : HeldLevel) → IsOpenAt entry (disk
 none_open_read entry h is = no_entry entry.number is.1.0 is.1.1
 
 -- it is as it was
-pub later_read : {R D : Type 0} (l : StoreLevel R D) (only : ReadOnlyLevel R D) → l ≡ IsReadOnly only → Later (held_level l).level (held_read_only only).level
-later_read {R} {D} l only is = subst (λ (m : StoreLevel R D). Later (held_level m).level (held_read_only only).level) (sym is) (later_same (held_read_only only).level)
+pub later_read : {R D V : Type 0} (l : StoreLevel R D V) (only : ReadOnlyLevel R D V) → l ≡ IsReadOnly only → Later (held_level l).level (held_read_only only).level
+later_read {R} {D} {V} l only is = subst (λ (m : StoreLevel R D V). Later (held_level m).level (held_read_only only).level) (sym is) (later_same (held_read_only only).level)

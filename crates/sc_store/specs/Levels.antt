@@ -16,17 +16,17 @@ only_read f = record f { wrapped = true; configured = ReadOnly; mode = ReadOnly 
 abbrev pub read_only : HeldLevel → HeldLevel
 read_only h = record h { facts = only_read h.facts; room = record h.room { entries = [] } }
 
-abbrev pub held_read_only : {R : Type 0} {D : Type 0} → ReadOnlyLevel R D → HeldLevel
+abbrev pub held_read_only : {R : Type 0} {D : Type 0} {V : Type 0} → ReadOnlyLevel R D V → HeldLevel
 held_read_only (RemoteOnly only) = read_only only.store
 held_read_only (DiskOnly only) = read_only only.store
 
-abbrev pub held_level : {R : Type 0} {D : Type 0} → Level R D → HeldLevel
+abbrev pub held_level : {R : Type 0} {D : Type 0} {V : Type 0} → Level R D V → HeldLevel
 held_level (Remote store) = store
 held_level (Disk store) = store
 held_level (IsReadOnly only) = held_read_only only
 
-abbrev pub held_levels : {R : Type 0} {D : Type 0} → List (Level R D) → Policy → Held
+abbrev pub held_levels : {R : Type 0} {D : Type 0} {V : Type 0} → List (Level R D V) → Policy → Held
 held_levels levels policy = held_of (map held_level levels) policy
 
-abbrev pub rooms_of : {R : Type 0} {D : Type 0} → List (Level R D) → List Room
+abbrev pub rooms_of : {R : Type 0} {D : Type 0} {V : Type 0} → List (Level R D V) → List Room
 rooms_of levels = map (λ (h : HeldLevel). h.room) (map held_level levels)

@@ -1,7 +1,6 @@
 pub mod Asking
 pub mod Basedirs
 pub mod Held
-pub mod Devices
 pub mod Paths
 pub mod Remotes
 pub mod Telling

@@ -21,5 +21,5 @@ planned which Single fs = 0 ∷ []
 planned which (Levels ps) fs = levels_of (test_of which) 0 ps fs
 
 -- what does not change of each of these levels
-abbrev pub facts_of : {R : Type 0} {D : Type 0} → List (Level R D) → List LevelFacts
+abbrev pub facts_of : {R : Type 0} {D : Type 0} {V : Type 0} → List (Level R D V) → List LevelFacts
 facts_of levels = map (λ l. (held_level l).facts) levels

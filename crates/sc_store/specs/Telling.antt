@@ -16,7 +16,7 @@ use Rattle.sc_store.specs.Levels.{held_level}
 use Rattle.sc_store.specs.declared.level.Level.{Level}
 
 -- the titles of these levels
-abbrev pub titles_of : {R : Type 0} {D : Type 0} → List (Level R D) → List Title
+abbrev pub titles_of : {R : Type 0} {D : Type 0} {V : Type 0} → List (Level R D V) → List Title
 titles_of levels = map (λ l. (held_level l).title) levels
 
 abbrev pub first_type : List Title → List ℕ

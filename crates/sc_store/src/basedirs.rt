@@ -7,6 +7,7 @@ ghost use Rattle.sc_store.specs.Telling.{titles_of};
 use crate::level::Level;
 use crate::levels::Levels;
 use crate::remote::Remote;
+use crate::vouch::Vouch;
 use sc_disk::Disk;
 use sc_entry::{ByteText, Items, NoMemory};
 use std::alloc::Global;
@@ -40,9 +41,9 @@ fn add(seen: &mut Vec<ByteText>, basedirs: &[ByteText]) -> Result<(), NoMemory>
 }
 
 /// The base directories of all levels, in the order in which they first appear.
-pub(crate) fn collect_basedirs<R: Remote, D: Disk>(
+pub(crate) fn collect_basedirs<R: Remote, D: Disk, V: Vouch>(
     alloc: Global,
-    levels: &Levels<R, D>,
+    levels: &Levels<R, D, V>,
 ) -> Result<Vec<ByteText>, NoMemory>
     ensures { IfOk result (λ basedirs. basedirs.items ≡ basedirs_of levels.now.titles) }
 {
@@ -68,9 +69,9 @@ fn copied(alloc: Global, basedirs: &[ByteText]) -> Result<Items<ByteText>, NoMem
 }
 
 /// The base directories of the first level.
-pub(crate) fn first_basedirs<R: Remote, D: Disk>(
+pub(crate) fn first_basedirs<R: Remote, D: Disk, V: Vouch>(
     alloc: Global,
-    levels: &[Level<R, D>],
+    levels: &[Level<R, D, V>],
 ) -> Result<Items<ByteText>, NoMemory>
     ensures { IfOk result (λ basedirs. basedirs ≡ dirs.first_basedirs (titles_of levels.now)) }
 {

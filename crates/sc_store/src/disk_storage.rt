@@ -15,22 +15,24 @@ ghost use Rattle.sc_model.specs.declared.level.LevelKind.TheVariants.{Disk as Is
 ghost use Rattle.sc_store.specs.Asking.{ReservesDisk, TellsMark, reads_key};
 ghost use Rattle.sc_store.specs.Held.{disk_given, disk_of, disk_title, marked, nothing_given, of_disk};
 
+use crate::vouch::Vouch;
 use sc_disk::{Disk, LruDiskCacheAddEntry};
 use sc_disk_cache::{DiskCache, EntryError, Filling, Reservation};
 use sc_entry::{ByteText, CacheMode, Items, NoMemory, Text};
 use sc_model::{Answer, Mode, Policy, Written};
 use std::alloc::Global;
-use std::marker::Model;
+use std::marker::{Model, PhantomData};
 
 /// A disk store of a level. Contracts see what it holds and what is open.
 #[derive(Drop)]
-pub struct DiskStorage<D: Disk> {
+pub struct DiskStorage<D: Disk, V: Vouch> {
     cache: DiskCache<D>,
     use_preprocessor_cache_mode: bool,
     basedirs: Items<ByteText>,
+    of: PhantomData<V>,
 }
 
-impl<D: Disk> Model for DiskStorage<D> {
+impl<D: Disk, V: Vouch> Model for DiskStorage<D, V> {
     ghost use Rattle.sc_disk_cache.specs.DiskStores.{held_disk};
     ghost use Rattle.sc_disk_cache.specs.Marked.{marks_of};
     ghost use Rattle.sc_store.specs.Held.{HeldLevel, disk_given, held_level_code, marked, of_disk};
@@ -53,20 +55,21 @@ fn location(alloc: Global, path: &ByteText) -> Result<Text, NoMemory>
     Ok(Text::from_string(text))
 }
 
-impl<D: Disk> DiskStorage<D> {
+impl<D: Disk, V: Vouch> DiskStorage<D, V> {
     /// A disk store as a level's, with the flag that says whether it is to keep entries of the preprocessor, and these base
     /// directories.
     pub fn new(
         cache: DiskCache<D>,
         use_preprocessor_cache_mode: bool,
         basedirs: Items<ByteText>,
-    ) -> DiskStorage<D>
+    ) -> DiskStorage<D, V>
         ensures { result ≡ marked (marks_of cache) (of_disk (disk_given basedirs use_preprocessor_cache_mode) (held_disk cache)) }
     {
         DiskStorage {
             cache,
             use_preprocessor_cache_mode,
             basedirs,
+            of: PhantomData,
         }
     }
 
@@ -144,7 +147,7 @@ impl<D: Disk> DiskStorage<D> {
     }
 }
 
-impl<D: Disk + Drop> DiskStorage<D> {
+impl<D: Disk + Drop, V: Vouch> DiskStorage<D, V> {
     /// Looks a key up, tells where its file stands, or tells the store's size.
     #[tactic(auto, using(crate::proofs::Marking::disk_tells))]
     pub fn ask(&mut self, key: &Text, mode: Mode, now: u64) -> Result<Answer, NoMemory>

@@ -3,11 +3,12 @@ ghost use Rattle.sc_store.specs.Telling.{remote_told};
 
 use crate::remote::Remote;
 use crate::remote_storage::RemoteStorage;
+use crate::vouch::Vouch;
 use sc_entry::{ByteText, Items, NoMemory, Text};
 use sc_stats::{LevelStats, StoreFacts};
 use std::alloc::Global;
 
-impl<R: Remote> StoreFacts for RemoteStorage<R> {
+impl<R: Remote, V: Vouch> StoreFacts for RemoteStorage<R, V> {
     ghost facts = { λ s. remote_told s };
 
     fn location(&self, alloc: Global) -> Result<Text, NoMemory> {

@@ -24,6 +24,7 @@ use crate::disk_storage::DiskStorage;
 use crate::read_only::ReadOnlyLevel;
 use crate::remote::Remote;
 use crate::remote_storage::RemoteStorage;
+use crate::vouch::Vouch;
 use sc_disk::{Disk, LruDiskCacheAddEntry};
 use sc_disk_cache::{EntryError, Filling, Reservation};
 use sc_entry::{ByteText, CacheMode, NoMemory, Text};
@@ -39,13 +40,13 @@ fn only_read() -> Cause
 
 /// One level of a daemon's store.
 #[derive(Drop)]
-pub enum Level<R: Remote, D: Disk> {
-    Remote(RemoteStorage<R>),
-    Disk(DiskStorage<D>),
-    ReadOnly(ReadOnlyLevel<R, D>),
+pub enum Level<R: Remote, D: Disk, V: Vouch> {
+    Remote(RemoteStorage<R, V>),
+    Disk(DiskStorage<D, V>),
+    ReadOnly(ReadOnlyLevel<R, D, V>),
 }
 
-impl<R: Remote, D: Disk> Level<R, D> {
+impl<R: Remote, D: Disk, V: Vouch> Level<R, D, V> {
     /// What type of store it is, in a word.
     pub fn cache_type_name(&self) -> &str
         ensures { result.now ≡ (held_level self.now).title.type_name }
@@ -195,7 +196,7 @@ impl<R: Remote, D: Disk> Level<R, D> {
     }
 }
 
-impl<R: Remote, D: Disk + Drop> Level<R, D> {
+impl<R: Remote, D: Disk + Drop, V: Vouch> Level<R, D, V> {
     /// Looks a key up, at this moment.
     #[tactic(auto, using(crate::proofs::ReadOnly::if_asked_read))]
     pub fn ask(

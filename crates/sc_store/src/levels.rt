@@ -22,6 +22,7 @@ ghost use Rattle.sc_store.specs.Levels.{held_level, held_levels, rooms_of};
 use crate::checked::Checked;
 use crate::level::Level;
 use crate::remote::Remote;
+use crate::vouch::Vouch;
 use sc_disk::{Disk, LruDiskCacheAddEntry};
 use sc_disk_cache::{EntryError, Filling, Reservation};
 use sc_entry::{ByteText, CacheMode, NoMemory, Text};
@@ -32,12 +33,12 @@ use std::marker::Model;
 /// The store of a daemon: its levels in order, and its policy. Contracts see what does not change of each level, the
 /// policy, whether every level tells what it holds, and what each holds where it tells that.
 #[derive(Drop)]
-pub struct Levels<R: Remote, D: Disk> {
-    pub(crate) levels: Vec<Level<R, D>>,
+pub struct Levels<R: Remote, D: Disk, V: Vouch> {
+    pub(crate) levels: Vec<Level<R, D, V>>,
     pub(crate) policy: Policy,
 }
 
-impl<R: Remote, D: Disk> Model for Levels<R, D> {
+impl<R: Remote, D: Disk, V: Vouch> Model for Levels<R, D, V> {
     ghost use Rattle.sc_store.specs.Held.{Held, held_code};
 
     ghost Value = { Held };
@@ -55,7 +56,7 @@ impl<R: Remote, D: Disk> Model for Levels<R, D> {
 }
 
 /// Each of these levels is within its capacity.
-fn keep_all<R: Remote, D: Disk>(levels: &[Level<R, D>])
+fn keep_all<R: Remote, D: Disk, V: Vouch>(levels: &[Level<R, D, V>])
     ensures { (policy : PolicyType) → AreWithin (held_levels levels.now policy) }
 {
     if let [first, rest @ ..] = levels {
@@ -65,7 +66,7 @@ fn keep_all<R: Remote, D: Disk>(levels: &[Level<R, D>])
 }
 
 /// Whether nothing is reserved at any of these levels.
-fn are_unreserved<R: Remote, D: Disk>(levels: &[Level<R, D>]) -> bool
+fn are_unreserved<R: Remote, D: Disk, V: Vouch>(levels: &[Level<R, D, V>]) -> bool
     ensures { result ≡ are_unreserved (rooms_of levels.now) }
 {
     if let [first, rest @ ..] = levels {
@@ -74,9 +75,9 @@ fn are_unreserved<R: Remote, D: Disk>(levels: &[Level<R, D>]) -> bool
     true
 }
 
-impl<R: Remote, D: Disk> Levels<R, D> {
+impl<R: Remote, D: Disk, V: Vouch> Levels<R, D, V> {
     /// The store of these levels, in their order.
-    pub fn new(levels: Vec<Level<R, D>>, policy: Policy) -> Levels<R, D>
+    pub fn new(levels: Vec<Level<R, D, V>>, policy: Policy) -> Levels<R, D, V>
         ensures { result ≡ held_levels levels.items policy }
     {
         keep_all(&levels);
@@ -109,7 +110,7 @@ impl<R: Remote, D: Disk> Levels<R, D> {
     }
 
     /// A level. Levels that all tell what they hold are levels of which each tells it.
-    pub fn get(&self, level: usize) -> &Level<R, D>
+    pub fn get(&self, level: usize) -> &Level<R, D, V>
         requires { level < length self.now.levels }
         ensures title { (held_level result.now).title ≡ title_in self.now.titles level }
         ensures facts { (held_level result.now).facts ≡ level_facts self.now.facts level }
@@ -153,7 +154,7 @@ impl<R: Remote, D: Disk> Levels<R, D> {
     }
 }
 
-impl<R: Remote, D: Disk + Drop> Levels<R, D> {
+impl<R: Remote, D: Disk + Drop, V: Vouch> Levels<R, D, V> {
     /// Looks a key up at one level, and at no other, at this moment.
     pub fn ask(
         &mut self,

@@ -14,6 +14,7 @@ mod read_only;
 mod remote;
 mod remote_storage;
 mod telling;
+mod vouch;
 
 pub use checked::Checked;
 pub use disk_storage::DiskStorage;
@@ -24,3 +25,4 @@ pub use read_only::{ReadOnlyLevel, ReadOnlyStorage};
 pub use remote::{Remote, RemoteRead, RemoteWrite};
 pub use remote_storage::RemoteStorage;
 pub use sc_disk_cache::{DiskCache, EntryError, Filling, Reservation};
+pub use vouch::{Unvouched, Vouch};

@@ -9,6 +9,7 @@ use crate::level::Level;
 use crate::levels::Levels;
 use crate::remote::Remote;
 use crate::remote_storage::is_read_only;
+use crate::vouch::Vouch;
 use sc_disk::Disk;
 use sc_entry::{ByteText, Items, NoMemory, Queue, Text};
 use sc_model::{Answer, Bytes, Handed, LevelPolicy, Mode, Policy, Put, Refusal};
@@ -58,18 +59,22 @@ fn rest_policies(policies: &[LevelPolicy]) -> &[LevelPolicy]
 }
 
 /// Whether a level may be written, and takes these writes.
-fn is_taken<R: Remote, D: Disk>(which: Takes, level: &Level<R, D>, policy: LevelPolicy) -> bool
+fn is_taken<R: Remote, D: Disk, V: Vouch>(
+    which: Takes,
+    level: &Level<R, D, V>,
+    policy: LevelPolicy,
+) -> bool
     ensures { result ≡ (not (plans.reads_only (held_level level.now).facts.mode) && test_of which policy) }
 {
     !is_read_only(level.mode()) && has_policy(which, policy)
 }
 
 /// The writable levels that take these writes, in order.
-fn levels_of<R: Remote, D: Disk>(
+fn levels_of<R: Remote, D: Disk, V: Vouch>(
     alloc: Global,
     which: Takes,
     policies: &[LevelPolicy],
-    levels: &[Level<R, D>],
+    levels: &[Level<R, D, V>],
 ) -> Result<Queue<u64>, NoMemory>
     ensures { IfOk result (λ found. found ≡ plans.levels_of (test_of which) 0 policies.now (facts_of levels.now)) }
 {
@@ -89,7 +94,10 @@ fn levels_of<R: Remote, D: Disk>(
 }
 
 /// The first `count` levels, or all where there are fewer.
-fn first_levels<R: Remote, D: Disk>(levels: &[Level<R, D>], count: u64) -> &[Level<R, D>]
+fn first_levels<R: Remote, D: Disk, V: Vouch>(
+    levels: &[Level<R, D, V>],
+    count: u64,
+) -> &[Level<R, D, V>]
     ensures { facts_of result.now ≡ take count (facts_of levels.now) }
 {
     if count < levels.len() as u64 {
@@ -127,7 +135,7 @@ fn hit_bytes(key: &Text, bytes: &ByteText, mark: bool) -> Result<Bytes, NoMemory
     })
 }
 
-impl<R: Remote, D: Disk> Levels<R, D> {
+impl<R: Remote, D: Disk, V: Vouch> Levels<R, D, V> {
     /// Whether one store stands alone, and is written by itself.
     pub fn is_single(&self) -> bool
         ensures { result ≡ single self.now.policy }

@@ -5,6 +5,7 @@ ghost use Rattle.sc_store.specs.Levels.{held_read_only};
 use crate::disk_storage::DiskStorage;
 use crate::remote::Remote;
 use crate::remote_storage::RemoteStorage;
+use crate::vouch::Vouch;
 use sc_disk::Disk;
 
 /// A store that is only read: it refuses each put.
@@ -15,12 +16,12 @@ pub struct ReadOnlyStorage<S> {
 
 /// The store of a level that is only read.
 #[derive(Drop)]
-pub enum ReadOnlyLevel<R: Remote, D: Disk> {
-    Remote(ReadOnlyStorage<RemoteStorage<R>>),
-    Disk(ReadOnlyStorage<DiskStorage<D>>),
+pub enum ReadOnlyLevel<R: Remote, D: Disk, V: Vouch> {
+    Remote(ReadOnlyStorage<RemoteStorage<R, V>>),
+    Disk(ReadOnlyStorage<DiskStorage<D, V>>),
 }
 
-impl<R: Remote, D: Disk> ReadOnlyLevel<R, D> {
+impl<R: Remote, D: Disk, V: Vouch> ReadOnlyLevel<R, D, V> {
     /// What it keeps: a disk store's files and reservations take at most its capacity.
     pub(crate) fn keeps(&self)
         ensures { IsWithin (held_read_only self.now).facts (held_read_only self.now).level (held_read_only self.now).room }

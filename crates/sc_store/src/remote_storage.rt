@@ -14,25 +14,27 @@ ghost use Rattle.sc_store.specs.Telling.{kind_max};
 
 use crate::checked::Checked;
 use crate::remote::{Remote, RemoteRead, RemoteWrite};
+use crate::vouch::Vouch;
 use sc_disk::{FileKey, is_store_key, normalize_key};
 use sc_disk_cache::{Marks, mode_answer};
 use sc_entry::{ByteText, CacheMode, Items, NoMemory, Text};
 use sc_model::{Answer, Cause, LevelKind, Mode, Policy, RemoteFault, Store, Written};
 use std::alloc::Global;
-use std::marker::Model;
+use std::marker::{Model, PhantomData};
 
 /// A store over a remote. Contracts see what does not change of it, and what it holds where the remote tells that.
 #[derive(Drop)]
-pub struct RemoteStorage<R: Remote> {
+pub struct RemoteStorage<R: Remote, V: Vouch> {
     remote: R,
     basedirs: Items<ByteText>,
     configured: CacheMode,
     mode: CacheMode,
     skip_cache_check: bool,
     marks: Marks,
+    of: PhantomData<V>,
 }
 
-impl<R: Remote> Model for RemoteStorage<R> {
+impl<R: Remote, V: Vouch> Model for RemoteStorage<R, V> {
     ghost use Rattle.sc_store.specs.Held.{HeldLevel, held_level_code, held_remote, marked, modes_of, remote_given};
 
     ghost Value = { HeldLevel };
@@ -174,14 +176,14 @@ fn fixed_answer(mode: Mode) -> Answer
     }
 }
 
-impl<R: Remote> RemoteStorage<R> {
+impl<R: Remote, V: Vouch> RemoteStorage<R, V> {
     /// A store over a remote, with these base directories, and its configured mode.
     pub fn new(
         alloc: Global,
         remote: R,
         basedirs: Items<ByteText>,
         mode: CacheMode,
-    ) -> RemoteStorage<R>
+    ) -> RemoteStorage<R, V>
         ensures { result ≡ held_remote (R.names remote) (remote_given basedirs false) (as_configured mode) (R.held remote) (R.fault_count remote) (R.loss_count remote) (R.calls remote) }
     {
         RemoteStorage {
@@ -191,11 +193,12 @@ impl<R: Remote> RemoteStorage<R> {
             mode,
             skip_cache_check: false,
             marks: Marks::new(alloc),
+            of: PhantomData,
         }
     }
 
     /// The same store; a check of it makes no call where this says so.
-    pub fn with_skip_cache_check(self, skip_cache_check: bool) -> RemoteStorage<R>
+    pub fn with_skip_cache_check(self, skip_cache_check: bool) -> RemoteStorage<R, V>
         ensures { result ≡ record self { title = record self.title { given = record self.title.given { unchecked = skip_cache_check } } } }
     {
         RemoteStorage {
@@ -205,6 +208,7 @@ impl<R: Remote> RemoteStorage<R> {
             mode: self.mode,
             skip_cache_check,
             marks: self.marks,
+            of: PhantomData,
         }
     }
 
@@ -447,7 +451,7 @@ impl<R: Remote> RemoteStorage<R> {
     }
 
     /// What a check finds that isn't left out.
-    #[tactic(auto, using(crate::proofs::Checks::later_then))]
+    #[tactic(auto, using(crate::proofs::Devices::later_then))]
     fn probe(&mut self, alloc: Global) -> Result<Checked, NoMemory>
         ensures title { self.new.title ≡ self.old.title }
         ensures marks { self.new.marks ≡ self.old.marks }

@@ -12,6 +12,7 @@ use crate::level::Level;
 use crate::levels::Levels;
 use crate::remote::Remote;
 use crate::remote_storage::is_read_only;
+use crate::vouch::Vouch;
 use sc_disk::Disk;
 use sc_entry::{ByteText, CacheMode, Items, NoMemory, Text};
 use sc_model::Policy;
@@ -26,7 +27,7 @@ fn some_size(size: u64) -> Option<u64>
 }
 
 /// What the levels may take together, as far as that is known. The sum stops at the end of `u64`.
-fn max_of<R: Remote, D: Disk>(levels: &[Level<R, D>]) -> u64
+fn max_of<R: Remote, D: Disk, V: Vouch>(levels: &[Level<R, D, V>]) -> u64
     ensures { result ≡ telling.max_onto 0 (facts_of levels.now) }
 {
     let mut sum: u64 = 0;
@@ -39,7 +40,7 @@ fn max_of<R: Remote, D: Disk>(levels: &[Level<R, D>]) -> u64
 }
 
 /// Whether every level is read-only.
-fn all_read_only<R: Remote, D: Disk>(levels: &[Level<R, D>]) -> bool
+fn all_read_only<R: Remote, D: Disk, V: Vouch>(levels: &[Level<R, D, V>]) -> bool
     ensures { result ≡ sizes.all_read_only (facts_of levels.now) }
 {
     let mut left = levels;
@@ -53,7 +54,7 @@ fn all_read_only<R: Remote, D: Disk>(levels: &[Level<R, D>]) -> bool
 }
 
 /// The mode of a store of these levels: read-only where there are levels and each is.
-fn mode_of<R: Remote, D: Disk>(levels: &[Level<R, D>]) -> CacheMode
+fn mode_of<R: Remote, D: Disk, V: Vouch>(levels: &[Level<R, D, V>]) -> CacheMode
     ensures { result ≡ telling.store_mode (facts_of levels.now) }
 {
     if levels.is_empty() {
@@ -80,10 +81,10 @@ fn level_name(alloc: Global, number: u64, type_name: &str) -> Result<Text, NoMem
 }
 
 /// The counters of a level of which nothing was counted.
-fn new_counter<R: Remote, D: Disk>(
+fn new_counter<R: Remote, D: Disk, V: Vouch>(
     alloc: Global,
     number: u64,
-    level: &Level<R, D>,
+    level: &Level<R, D, V>,
 ) -> Result<LevelStats, NoMemory>
     ensures { IfOk result (λ counters. counters ≡ record no_level_stats { name = telling.level_name number (held_level level.now).title.type_name; location = (held_level level.now).title.location }) }
 {
@@ -93,9 +94,9 @@ fn new_counter<R: Remote, D: Disk>(
     Ok(counters)
 }
 
-fn new_counters<R: Remote, D: Disk>(
+fn new_counters<R: Remote, D: Disk, V: Vouch>(
     alloc: Global,
-    levels: &[Level<R, D>],
+    levels: &[Level<R, D, V>],
 ) -> Result<Vec<LevelStats>, NoMemory>
     ensures { IfOk result (λ counters. counters.items ≡ telling.new_counters 0 (telling.titles_of levels.now)) }
 {
@@ -122,7 +123,7 @@ fn levels_location(alloc: Global, count: usize) -> Result<Text, NoMemory>
 }
 
 /// The type of the first level's store.
-fn first_type<R: Remote, D: Disk>(levels: &[Level<R, D>]) -> &str
+fn first_type<R: Remote, D: Disk, V: Vouch>(levels: &[Level<R, D, V>]) -> &str
     ensures { result.now ≡ telling.first_type (telling.titles_of levels.now) }
 {
     match levels {
@@ -132,9 +133,9 @@ fn first_type<R: Remote, D: Disk>(levels: &[Level<R, D>]) -> &str
 }
 
 /// Where the first level's store is.
-fn first_location<R: Remote, D: Disk>(
+fn first_location<R: Remote, D: Disk, V: Vouch>(
     alloc: Global,
-    levels: &[Level<R, D>],
+    levels: &[Level<R, D, V>],
 ) -> Result<Text, NoMemory>
     ensures { IfOk result (λ text. text ≡ telling.first_location (telling.titles_of levels.now)) }
 {
@@ -148,7 +149,7 @@ fn first_location<R: Remote, D: Disk>(
 }
 
 /// Whether the first level is to keep entries of the preprocessor.
-fn first_flag<R: Remote, D: Disk>(levels: &[Level<R, D>]) -> bool
+fn first_flag<R: Remote, D: Disk, V: Vouch>(levels: &[Level<R, D, V>]) -> bool
     ensures { result ≡ dirs.first_flag (telling.titles_of levels.now) }
 {
     match levels {
@@ -158,7 +159,7 @@ fn first_flag<R: Remote, D: Disk>(levels: &[Level<R, D>]) -> bool
 }
 
 /// What the first level's store may take.
-fn first_max<R: Remote, D: Disk>(levels: &[Level<R, D>]) -> Option<u64>
+fn first_max<R: Remote, D: Disk, V: Vouch>(levels: &[Level<R, D, V>]) -> Option<u64>
     ensures { result ≡ telling.first_max (facts_of levels.now) }
 {
     match levels {
@@ -167,7 +168,7 @@ fn first_max<R: Remote, D: Disk>(levels: &[Level<R, D>]) -> Option<u64>
     }
 }
 
-impl<R: Remote, D: Disk> Levels<R, D> {
+impl<R: Remote, D: Disk, V: Vouch> Levels<R, D, V> {
     /// What type the store has, in a word.
     pub fn cache_type_name(&self) -> &str
         ensures { result.now ≡ telling.store_type self.now.policy self.now.titles }

@@ -14,7 +14,7 @@ use crate::write_error_policy::WriteErrorPolicy;
 use sc_disk::Disk;
 use sc_entry::{ByteText, Items, NoMemory, Text};
 use sc_model::{LevelPolicy, Policy};
-use sc_store::{DiskCache, DiskStorage, Level, Levels, Remote, RemoteStorage};
+use sc_store::{DiskCache, DiskStorage, Level, Levels, Remote, RemoteStorage, Vouch};
 use std::alloc::Global;
 
 /// A copy of the base directories.
@@ -27,12 +27,12 @@ fn copy_of(alloc: Global, basedirs: &[ByteText]) -> Result<Items<ByteText>, NoMe
 
 /// The store over a remote, with a copy of these base directories. A check of it makes no call where this says so. It
 /// fails where memory runs out, and nowhere else.
-pub fn build_single_cache<R: Remote + Drop>(
+pub fn build_single_cache<R: Remote + Drop, V: Vouch>(
     alloc: Global,
     config: RemoteConfig<R>,
     basedirs: &[ByteText],
     skip_cache_check: bool,
-) -> Result<RemoteStorage<R>, NoMemory>
+) -> Result<RemoteStorage<R, V>, NoMemory>
     ensures { IfOk result (λ store. store ≡ configs.remote_as R.names R.held R.fault_count R.loss_count R.calls basedirs.now skip_cache_check config) }
 {
     let basedirs = copy_of(alloc, basedirs)?;
@@ -41,11 +41,11 @@ pub fn build_single_cache<R: Remote + Drop>(
 }
 
 /// The disk store over two disks, with a copy of these base directories.
-pub(crate) fn build_disk<D: Disk + Drop>(
+pub(crate) fn build_disk<D: Disk + Drop, V: Vouch>(
     alloc: Global,
     config: DiskConfig<D>,
     basedirs: &[ByteText],
-) -> Result<DiskStorage<D>, NoMemory>
+) -> Result<DiskStorage<D, V>, NoMemory>
     ensures { IfOk result (λ store. store ≡ configs.disk_as D.state basedirs.now config) }
 {
     let basedirs = copy_of(alloc, basedirs)?;
@@ -54,13 +54,13 @@ pub(crate) fn build_disk<D: Disk + Drop>(
 }
 
 /// The levels that a chain names, in its order.
-fn chain_levels<R: Remote + Drop, D: Disk + Drop>(
+fn chain_levels<R: Remote + Drop, D: Disk + Drop, V: Vouch>(
     alloc: Global,
     chain: &[Text],
     unused: Unused<R, D>,
     basedirs: &[ByteText],
     skip_cache_check: bool,
-) -> Result<Vec<Level<R, D>>, ConfigError>
+) -> Result<Vec<Level<R, D, V>>, ConfigError>
     ensures levels { IfOk result (λ levels. configs.chain_levels (configs.remote_as R.names R.held R.fault_count R.loss_count R.calls basedirs.now skip_cache_check) (configs.disk_as D.state basedirs.now) chain.now unused.disk unused.remotes.items ≡ Ok (map held_level levels.items)) }
     ensures fault { IfErr result (λ error. configs.IsCause error (configs.chain_levels (configs.remote_as R.names R.held R.fault_count R.loss_count R.calls basedirs.now skip_cache_check) (configs.disk_as D.state basedirs.now) chain.now unused.disk unused.remotes.items)) }
 {
@@ -94,13 +94,13 @@ fn chain_policies(
 }
 
 /// The one level of a store without a chain.
-fn single_level<R: Remote + Drop, D: Disk + Drop>(
+fn single_level<R: Remote + Drop, D: Disk + Drop, V: Vouch>(
     alloc: Global,
     remote: Option<RemoteConfig<R>>,
     fallback: DiskConfig<D>,
     basedirs: &[ByteText],
     skip_cache_check: bool,
-) -> Result<Level<R, D>, NoMemory>
+) -> Result<Level<R, D, V>, NoMemory>
     ensures { IfOk result (λ level. held_level level ≡ configs.single_level (configs.remote_as R.names R.held R.fault_count R.loss_count R.calls basedirs.now skip_cache_check) (configs.disk_as D.state basedirs.now) remote fallback) }
 {
     match remote {
@@ -116,10 +116,10 @@ fn single_level<R: Remote + Drop, D: Disk + Drop>(
 }
 
 /// The store of one level.
-fn single_store<R: Remote + Drop, D: Disk + Drop>(
+fn single_store<R: Remote + Drop, D: Disk + Drop, V: Vouch>(
     alloc: Global,
     config: StoreConfig<R, D>,
-) -> Result<Levels<R, D>, NoMemory>
+) -> Result<Levels<R, D, V>, NoMemory>
     ensures { IfOk result (λ store. store ≡ configs.single_store (configs.remote_as R.names R.held R.fault_count R.loss_count R.calls config.basedirs config.skip_cache_check) (configs.disk_as D.state config.basedirs) config) }
 {
     let level = single_level(
@@ -135,10 +135,10 @@ fn single_store<R: Remote + Drop, D: Disk + Drop>(
 }
 
 /// The store of a chain's levels.
-fn chain_store<R: Remote + Drop, D: Disk + Drop>(
+fn chain_store<R: Remote + Drop, D: Disk + Drop, V: Vouch>(
     alloc: Global,
     config: StoreConfig<R, D>,
-) -> Result<Levels<R, D>, ConfigError>
+) -> Result<Levels<R, D, V>, ConfigError>
     ensures store { IfOk result (λ store. configs.chain_store (configs.remote_as R.names R.held R.fault_count R.loss_count R.calls config.basedirs config.skip_cache_check) (configs.disk_as D.state config.basedirs) config ≡ Ok store) }
     ensures fault { IfErr result (λ error. configs.IsCause error (configs.chain_store (configs.remote_as R.names R.held R.fault_count R.loss_count R.calls config.basedirs config.skip_cache_check) (configs.disk_as D.state config.basedirs) config)) }
 {
@@ -166,10 +166,10 @@ fn chain_store<R: Remote + Drop, D: Disk + Drop>(
 /// there is one; else the fallback disk. Every level has a copy of the base directories, and every remote store is told
 /// whether a check of it makes no call. A name of the chain without a configuration is an error: the first such name, in
 /// the chain's order.
-pub fn storage_from_config<R: Remote + Drop, D: Disk + Drop>(
+pub fn storage_from_config<R: Remote + Drop, D: Disk + Drop, V: Vouch>(
     alloc: Global,
     config: StoreConfig<R, D>,
-) -> Result<Levels<R, D>, ConfigError>
+) -> Result<Levels<R, D, V>, ConfigError>
     ensures store { IfOk result (λ store. configs.store_of (configs.remote_as R.names R.held R.fault_count R.loss_count R.calls config.basedirs config.skip_cache_check) (configs.disk_as D.state config.basedirs) config ≡ Ok store) }
     ensures fault { IfErr result (λ error. configs.IsCause error (configs.store_of (configs.remote_as R.names R.held R.fault_count R.loss_count R.calls config.basedirs config.skip_cache_check) (configs.disk_as D.state config.basedirs) config)) }
 {

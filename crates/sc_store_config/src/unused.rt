@@ -9,7 +9,7 @@ use crate::disk_config::DiskConfig;
 use crate::remote_config::{NamedRemote, RemoteConfig};
 use sc_disk::Disk;
 use sc_entry::{ByteText, NoMemory};
-use sc_store::{Level, Remote};
+use sc_store::{Level, Remote, Vouch};
 use std::alloc::Global;
 
 /// The configurations of a chain that no level has taken yet.
@@ -49,13 +49,13 @@ fn take_remote<R: Drop>(remotes: &mut Vec<NamedRemote<R>>, name: &str) -> Option
 
 impl<R: Remote + Drop, D: Disk + Drop> Unused<R, D> {
     /// The level of this name, where there is a configuration for it. The level takes it.
-    pub(crate) fn take_level(
+    pub(crate) fn take_level<V: Vouch>(
         &mut self,
         alloc: Global,
         name: &str,
         basedirs: &[ByteText],
         skip_cache_check: bool,
-    ) -> Result<Option<Level<R, D>>, NoMemory>
+    ) -> Result<Option<Level<R, D, V>>, NoMemory>
         ensures level { IfOk result (λ level. option_map held_level level ≡ configs.level_named (configs.remote_as R.names R.held R.fault_count R.loss_count R.calls basedirs.now skip_cache_check) (configs.disk_as D.state basedirs.now) name.now self.old.disk self.old.remotes.items) }
         ensures disk { self.new.disk ≡ configs.disk_behind name.now self.old.disk }
         ensures remotes { self.new.remotes.items ≡ configs.remotes_behind name.now self.old.remotes.items }

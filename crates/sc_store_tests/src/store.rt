@@ -4,7 +4,7 @@ use sc_entry::{ByteText, CacheMode, Calls, Items, Text};
 use sc_model::{Answer, Cause, LevelKind, Mode, Policy, RemoteFault, Store, Written};
 use sc_store::{
     Checked, DiskStorage, Level, Levels, MemRemote, ReadOnlyLevel, ReadOnlyStorage, Remote,
-    RemoteRead, RemoteStorage, RemoteWrite,
+    RemoteRead, RemoteStorage, RemoteWrite, Unvouched,
 };
 use std::alloc::Global;
 use std::collections::BTreeMap;
@@ -97,7 +97,7 @@ fn ample_remote(rt: HostRuntime) -> Result<(), Fail> {
 /// One lookup, told in words; the levels are known to the caller alone.
 fn ask(
     alloc: Global,
-    levels: &mut Levels<MemRemote, MemDisk>,
+    levels: &mut Levels<MemRemote, MemDisk, Unvouched>,
     level: usize,
     key: &str,
     mode: Mode,
@@ -115,7 +115,7 @@ fn ask(
 
 fn put(
     alloc: Global,
-    levels: &mut Levels<MemRemote, MemDisk>,
+    levels: &mut Levels<MemRemote, MemDisk, Unvouched>,
     level: usize,
     key: &str,
     from_run: bool,
@@ -133,7 +133,7 @@ fn put(
 }
 
 /// Two levels, the second read-only.
-fn small_levels(alloc: Global, fails: u64) -> Result<Levels<MemRemote, MemDisk>, Fail> {
+fn small_levels(alloc: Global, fails: u64) -> Result<Levels<MemRemote, MemDisk, Unvouched>, Fail> {
     let mut levels = Vec::new(alloc);
     let empty = MemRemote::new(alloc, Items::new(alloc), Items::new(alloc))?;
     levels.push(Level::Remote(RemoteStorage::new(
@@ -213,7 +213,7 @@ fn check(
         configured,
     );
     let store = store.with_skip_cache_check(skips);
-    let levels: Vec<Level<MemRemote, MemDisk>> = vec![in alloc; Level::Remote(store)]?;
+    let levels: Vec<Level<MemRemote, MemDisk, Unvouched>> = vec![in alloc; Level::Remote(store)]?;
     let mut levels = Levels::new(levels, Policy::Single);
     assert!(rt; levels.len() > 0);
     let found = told_checked(levels.check_step(alloc, 0)?);
@@ -271,14 +271,14 @@ fn levels_are_given_base_directories(rt: HostRuntime) -> Result<(), Fail> {
         basedirs,
         CacheMode::ReadWrite,
     );
-    let level: Level<MemRemote, MemDisk> = Level::Remote(store);
+    let level: Level<MemRemote, MemDisk, Unvouched> = Level::Remote(store);
     assert_eq!(rt; level.basedirs().len(), 1);
     assert!(rt; !level.use_preprocessor_cache_mode());
     Ok(())
 }
 
 /// A level that was given these base directories.
-fn given(alloc: Global, words: [&[u8]; 2]) -> Result<Level<MemRemote, MemDisk>, Fail> {
+fn given(alloc: Global, words: [&[u8]; 2]) -> Result<Level<MemRemote, MemDisk, Unvouched>, Fail> {
     let mut basedirs = Items::new(alloc);
     for word in words {
         basedirs.push(bytes(alloc, word)?)?;
@@ -324,7 +324,7 @@ fn single_read_only(rt: HostRuntime) -> Result<(), Fail> {
 }
 
 /// A level that is only read, over a store that can be written and holds the entry under `abc`.
-fn read_only_level(alloc: Global) -> Result<Levels<MemRemote, MemDisk>, Fail> {
+fn read_only_level(alloc: Global) -> Result<Levels<MemRemote, MemDisk, Unvouched>, Fail> {
     let store = RemoteStorage::new(
         alloc,
         small_remote(alloc, 0)?,
@@ -376,7 +376,7 @@ fn disk(alloc: Global, root: &[u8]) -> Result<MemDisk, Fail> {
 }
 
 /// One level over two such disks, of 100 bytes.
-fn disk_level(alloc: Global) -> Result<Levels<MemRemote, MemDisk>, Fail> {
+fn disk_level(alloc: Global) -> Result<Levels<MemRemote, MemDisk, Unvouched>, Fail> {
     let cache = DiskCache::new(
         alloc,
         disk(alloc, b"/0")?,
@@ -393,7 +393,7 @@ fn disk_level(alloc: Global) -> Result<Levels<MemRemote, MemDisk>, Fail> {
 fn store(
     rt: &impl Abort,
     alloc: Global,
-    levels: &mut Levels<MemRemote, MemDisk>,
+    levels: &mut Levels<MemRemote, MemDisk, Unvouched>,
     key: &str,
     entry: &[u8],
 ) -> Result<Written, Fail> {

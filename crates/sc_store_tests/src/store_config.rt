@@ -1,7 +1,7 @@
 use sc_disk::MemDisk;
 use sc_entry::{ByteText, CacheMode, Calls, Items, NoMemory, Text};
 use sc_model::{LevelKind, LevelPolicy, Policy};
-use sc_store::{Level, Levels, MemRemote};
+use sc_store::{Level, Levels, MemRemote, Unvouched};
 use sc_store_config::{
     ConfigError, DiskConfig, NamedRemote, RemoteConfig, StoreConfig, WriteErrorPolicy,
     build_single_cache, storage_from_config,
@@ -66,7 +66,7 @@ fn config(alloc: Global, chain: &[&str]) -> Result<Config, NoMemory> {
     })
 }
 
-fn made(alloc: Global, config: Config) -> Result<Levels<MemRemote, MemDisk>, Fail> {
+fn made(alloc: Global, config: Config) -> Result<Levels<MemRemote, MemDisk, Unvouched>, Fail> {
     match storage_from_config(alloc, config) {
         Ok(levels) => Ok(levels),
         Err(_) => Err(Fail::new("no store")),
@@ -91,7 +91,7 @@ fn told_mode(mode: CacheMode) -> &'static str {
 fn check_level(
     rt: &impl Abort,
     alloc: Global,
-    level: &Level<MemRemote, MemDisk>,
+    level: &Level<MemRemote, MemDisk, Unvouched>,
     expected: (&str, &str, &str),
 ) -> Result<(), Fail> {
     let location = level.location(alloc)?;
@@ -122,7 +122,7 @@ fn chain_is_in_order(rt: HostRuntime) -> Result<(), Fail> {
 
 /// The text of the error that a chain gives.
 fn refusal(alloc: Global, chain: &[&str]) -> Result<String, Fail> {
-    match storage_from_config(alloc, config(alloc, chain)?) {
+    match storage_from_config::<_, _, Unvouched>(alloc, config(alloc, chain)?) {
         Ok(_) => Err(Fail::new("a store")),
         Err(error) => Ok(format!(in alloc; "{error}")?),
     }
@@ -162,7 +162,12 @@ fn one_level_without_a_chain(rt: HostRuntime) -> Result<(), Fail> {
 #[test]
 fn one_remote_is_built(rt: HostRuntime) -> Result<(), Fail> {
     let alloc = rt.alloc();
-    let store = build_single_cache(alloc, remote(alloc, CacheMode::ReadOnly)?, &[], true)?;
+    let store = build_single_cache::<_, Unvouched>(
+        alloc,
+        remote(alloc, CacheMode::ReadOnly)?,
+        &[],
+        true,
+    )?;
     assert_eq!(rt; told_mode(store.configured()), "read-only");
     assert_eq!(rt; store.basedirs().len(), 0);
     Ok(())

@@ -1,8 +1,11 @@
-use Rattle.std.proofs.Common.{◌≡◌, List, ℕ, sym, ap, subst, ◌∙◌, arith}
-use Rattle.sc_disk.specs.Disks.{IsListing}
+use Rattle.std.proofs.Common.{◌≡◌, List, [], ℕ, sym, ap, subst, ◌∙◌, arith}
+use Rattle.sc_disk.specs.Disks.{ArePlaced, IsListing}
+use Rattle.sc_disk.specs.Opening.{dropped_of, paths_of}
+use Rattle.sc_disk.specs.Store.{gone}
 use Rattle.sc_disk.specs.declared.disk.Listed.{Listed}
 use Rattle.sc_disk.proofs.Keeping.{on_err}
-use Rattle.sc_disk.proofs.Reopening.{good_sorted, refused_dropping, refused_indexing, refused_listing, refused_sorting, reopened}
+use Rattle.sc_disk.proofs.Places.{still-placed}
+use Rattle.sc_disk.proofs.Reopening.{good_sorted, placed_sorted, refused_dropping, refused_indexing, refused_listing, refused_sorting, reopened}
 use Rattle.sc_disk.proofs.opening.open_files.Goals as goal
 
 pub returns-in_err-sort-clause-err : goal.returns-in_err-sort-clause-err
@@ -11,7 +14,17 @@ returns-in_err-sort-clause-err g c = let state = g.D.Disk.state in let cap = c.a
     (subst (λ (l : List Listed). IsListing l (state c.args.disk.now)) (sym c.into_vec-all.ensures) c.in_ok-list.ensures.listed) c.in_ok-files.ensures.ok)
 
 pub index_files-requires : goal.index_files-requires
-index_files-requires g c = good_sorted c.args.capacity c.into_vec-all.result.items c.in_ok-files.files.items c.sort.new.self.items c.in_ok-files.ensures.kept c.in_ok-sort.ensures.permutation
+index_files-requires g c = let state = g.D.Disk.state in let cap = c.args.capacity in let all = c.into_vec-all.result.items in let kept = c.in_ok-files.files.items in
+    let placed : ArePlaced all (state c.args.disk.now) = subst (λ (l : List Listed). ArePlaced l (state c.args.disk.now)) (sym c.into_vec-all.ensures) c.in_ok-list.ensures.placed in
+    record {
+      kept = good_sorted cap all kept c.sort.new.self.items c.in_ok-files.ensures.kept c.in_ok-sort.ensures.permutation;
+      placed = still-placed (state c.list.new.self) (state c.keep_files.new.disk) (gone (paths_of (dropped_of cap all))) c.in_ok-files.ensures.ok c.sort.new.self.items
+          (still-placed (state c.args.disk.now) (state c.list.new.self) [] c.in_ok-list.ensures.same c.sort.new.self.items (placed_sorted cap all kept c.sort.new.self.items (state c.args.disk.now) c.in_ok-files.ensures.kept c.in_ok-sort.ensures.permutation placed));
+    }
+
+pub keep_files-requires : goal.keep_files-requires
+keep_files-requires g c = let state = g.D.Disk.state in
+    still-placed (state c.args.disk.now) (state c.list.new.self) [] c.in_ok-list.ensures.same c.into_vec-all.result.items (subst (λ (l : List Listed). ArePlaced l (state c.args.disk.now)) (sym c.into_vec-all.ensures) c.in_ok-list.ensures.placed)
 
 pub returns-in_err-index-clause-err : goal.returns-in_err-index-clause-err
 returns-in_err-index-clause-err g c = let state = g.D.Disk.state in let cap = c.args.capacity in let all = c.into_vec-all.result.items in let i = c.in_err-index.ensures.err in

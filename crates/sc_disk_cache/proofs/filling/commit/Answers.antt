@@ -1,6 +1,7 @@
 use Rattle.std.proofs.Common.{refl}
 use Rattle.sc_disk_cache.proofs.Commits.{cause-io, cause-reserved, cause-too_large, commit-closes, commits-done, commits-io, commits-nothing, commits-reserved, commits-too_large, refused-closes}
 use Rattle.sc_disk_cache.proofs.Growing.{grows-done, grows-io, grows-nothing, grows-reserved, grows-too_large}
+use Rattle.sc_disk_cache.proofs.Rooms.{stays}
 use Rattle.sc_disk_cache.proofs.filling.commit.Goals as goal
 
 pub returns-in-Ok-clause-closed : goal.returns-in-Ok-clause-closed
@@ -74,3 +75,18 @@ returns-in-Err-Io-clause-grown g c = λ mode. let p = c.in-Err-Io.ensures.err in
 pub returns-in-Err-NoMemory-clause-not_grown : goal.returns-in-Err-NoMemory-clause-not_grown
 returns-in-Err-NoMemory-clause-not_grown g c = λ mode. let p = c.in-Err-NoMemory.ensures.err in
     grows-nothing mode c.args.cache.now.store c.commit.new.self.store c.args.entry c.args.now c.requires c.keeps.ensures.sound c.keeps.ensures.distinct c.keeps.ensures.placed c.commit.ensures.closed c.in-Err-NoMemory.field-0 p.0 p.1 p.2 p.3
+
+pub returns-in-Ok-clause-stays : goal.returns-in-Ok-clause-stays
+returns-in-Ok-clause-stays g c = λ mode capacity. let p = c.in-Ok.ensures.ok in stays mode capacity c.args.cache.now.store c.commit.new.self.store _ p.2.disk
+
+pub returns-in-Err-FileTooLarge-clause-stays : goal.returns-in-Err-FileTooLarge-clause-stays
+returns-in-Err-FileTooLarge-clause-stays g c = λ mode capacity. let p = c.in-Err-FileTooLarge.ensures.err in stays mode capacity c.args.cache.now.store c.commit.new.self.store _ p.3.disk
+
+pub returns-in-Err-Reserved-clause-stays : goal.returns-in-Err-Reserved-clause-stays
+returns-in-Err-Reserved-clause-stays g c = λ mode capacity. let p = c.in-Err-Reserved.ensures.err in stays mode capacity c.args.cache.now.store c.commit.new.self.store _ p.3.disk
+
+pub returns-in-Err-Io-clause-stays : goal.returns-in-Err-Io-clause-stays
+returns-in-Err-Io-clause-stays g c = λ mode capacity. let p = c.in-Err-Io.ensures.err in stays mode capacity c.args.cache.now.store c.commit.new.self.store _ p.3.disk
+
+pub returns-in-Err-NoMemory-clause-stays : goal.returns-in-Err-NoMemory-clause-stays
+returns-in-Err-NoMemory-clause-stays g c = λ mode capacity. let p = c.in-Err-NoMemory.ensures.err in stays mode capacity c.args.cache.now.store c.commit.new.self.store _ p.3.disk

@@ -5,6 +5,7 @@ use Rattle.sc_disk_cache.specs.declared.filling.Filling.{Filling}
 use Rattle.sc_disk_cache.proofs.Askings.{if_ok}
 use Rattle.sc_disk_cache.proofs.Closings.{either-did, fills, gives-up, rose-since}
 use Rattle.sc_disk_cache.proofs.Lending.{on_err_of}
+use Rattle.sc_disk_cache.proofs.Rooms.{stays}
 use Rattle.sc_disk_cache.proofs.filling.fill.Goals as goal
 
 pub returns-in-Ok-clause-filled : goal.returns-in-Ok-clause-filled
@@ -42,3 +43,15 @@ returns-in-Err-clause-kept g c =
     let gone = either-did c.abandon-given_up.result c.abandon-given_up.ensures.ok c.abandon-given_up.ensures.err in
     on_err_of c.refused_fill.result (λ mode capacity. (gives-up mode capacity old mid new c.args.entry c.args.bytes.now c.requires c.keeps.ensures.sound c.keeps.ensures.distinct c.keeps.ensures.numbers c.in-Err.ensures.err
     c.fill.ensures.index c.fill.ensures.pending c.abandon-given_up.ensures.index c.abandon-given_up.ensures.closed gone).0.0)
+
+pub returns-in-Ok-clause-stays : goal.returns-in-Ok-clause-stays
+returns-in-Ok-clause-stays g c = λ mode capacity. stays mode capacity c.args.cache.now.store c.fill.new.self.store _ c.in-Ok.ensures.ok
+
+pub returns-in-Err-clause-stays : goal.returns-in-Err-clause-stays
+returns-in-Err-clause-stays g c =
+    let old = c.args.cache.now.store in
+    let mid = c.fill.new.self.store in
+    let new = c.abandon-given_up.new.self.store in
+    let gone = either-did c.abandon-given_up.result c.abandon-given_up.ensures.ok c.abandon-given_up.ensures.err in
+    λ mode capacity. (gives-up mode capacity old mid new c.args.entry c.args.bytes.now c.requires c.keeps.ensures.sound c.keeps.ensures.distinct c.keeps.ensures.numbers c.in-Err.ensures.err c.fill.ensures.index c.fill.ensures.pending
+    c.abandon-given_up.ensures.index c.abandon-given_up.ensures.closed gone).1

@@ -21,7 +21,7 @@ returns-in-Refused-clause-stored g c = λ mode. not-opened c.args.path.now c.arg
 
 -- it was opened, and not filled
 pub returns-in_err-entry-2-clause-stays : goal.returns-in_err-entry-2-clause-stays
-returns-in_err-entry-2-clause-stays g c = λ mode capacity. stays-then (opened_store mode capacity c.args.cache.now.store) (opened_store mode capacity c.prepare.new.cache.store) (opened_store mode capacity c.fill.new.cache.store) refl (c.prepare.ensures.stays mode capacity) (c.fill.ensures.stays mode capacity)
+returns-in_err-entry-2-clause-stays g c = λ mode capacity. stays-then (opened_store mode capacity c.args.cache.now.store) (opened_store mode capacity c.prepare.new.cache.store) (opened_store mode capacity c.fill.new.cache.store) (c.prepare.ensures.stays mode capacity) (c.fill.ensures.stays mode capacity)
 
 pub returns-in_err-entry-2-clause-entries : goal.returns-in_err-entry-2-clause-entries
 returns-in_err-entry-2-clause-entries g c = λ mode capacity. given-up (in_part Pre c.args.path.now) c.in_ok-entry.field-0 c.in-Open.entry (opened_store mode capacity c.args.cache.now.store) (opened_store mode capacity c.prepare.new.cache.store) (opened_store mode capacity c.fill.new.cache.store) c.in-Open.is (c.in_ok-entry.ensures.entry mode capacity) (c.in_err-entry-2.ensures.closed mode capacity)
@@ -33,7 +33,7 @@ returns-in_err-entry-2-clause-evicts g c = on_err_of c.from_residual-in_err-entr
     not-filled_evicts c.args.path.now c.args.bytes.now c.in-Open.entry (opened_store mode c.args.cache.now.store.capacity c.args.cache.now.store) (opened_store mode c.args.cache.now.store.capacity c.prepare.new.cache.store) p (opened_store mode c.args.cache.now.store.capacity c.fill.new.cache.store) (c.in_err-entry-2.ensures.kept mode c.args.cache.now.store.capacity))
 
 pub returns-in-Refused-2-clause-stays : goal.returns-in-Refused-2-clause-stays
-returns-in-Refused-2-clause-stays g c = λ mode capacity. stays-then (opened_store mode capacity c.args.cache.now.store) (opened_store mode capacity c.prepare.new.cache.store) (opened_store mode capacity c.fill.new.cache.store) refl (c.prepare.ensures.stays mode capacity) (c.fill.ensures.stays mode capacity)
+returns-in-Refused-2-clause-stays g c = λ mode capacity. stays-then (opened_store mode capacity c.args.cache.now.store) (opened_store mode capacity c.prepare.new.cache.store) (opened_store mode capacity c.fill.new.cache.store) (c.prepare.ensures.stays mode capacity) (c.fill.ensures.stays mode capacity)
 
 pub returns-in-Refused-2-clause-entries : goal.returns-in-Refused-2-clause-entries
 returns-in-Refused-2-clause-entries g c = λ mode capacity.
@@ -55,8 +55,8 @@ returns-in-Refused-2-clause-cause g c = λ mode.
 -- it was filled and committed
 pub returns-in-Filled-clause-stays : goal.returns-in-Filled-clause-stays
 returns-in-Filled-clause-stays g c = λ mode capacity.
-    stays-then (opened_store mode capacity c.args.cache.now.store) (opened_store mode capacity c.fill.new.cache.store) (opened_store mode capacity c.commit.new.cache.store) refl
-    (stays-then (opened_store mode capacity c.args.cache.now.store) (opened_store mode capacity c.prepare.new.cache.store) (opened_store mode capacity c.fill.new.cache.store) refl (c.prepare.ensures.stays mode capacity) (c.fill.ensures.stays mode capacity)) (c.commit.ensures.stays mode capacity)
+    stays-then (opened_store mode capacity c.args.cache.now.store) (opened_store mode capacity c.fill.new.cache.store) (opened_store mode capacity c.commit.new.cache.store)
+    (stays-then (opened_store mode capacity c.args.cache.now.store) (opened_store mode capacity c.prepare.new.cache.store) (opened_store mode capacity c.fill.new.cache.store) (c.prepare.ensures.stays mode capacity) (c.fill.ensures.stays mode capacity)) (c.commit.ensures.stays mode capacity)
 
 pub returns-in-Filled-clause-entries : goal.returns-in-Filled-clause-entries
 returns-in-Filled-clause-entries g c = λ mode capacity.

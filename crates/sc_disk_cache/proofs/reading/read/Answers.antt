@@ -23,3 +23,7 @@ returns-in-Err-Io-clause-steady g c = λ mode capacity. let e = c.in-Err-Io.ensu
 pub returns-in-Err-NoMemory-clause-steady : goal.returns-in-Err-NoMemory-clause-steady
 returns-in-Err-NoMemory-clause-steady g c = λ mode capacity. let e = c.in-Err-NoMemory.ensures.err in
     unread-steady mode capacity _ _ c.args.now e.0 c.args.cache.now.store c.get.new.self.store c.keeps.ensures.distinct e.1
+
+pub returns-in-Err-FileNotInCache-clause-steady : goal.returns-in-Err-FileNotInCache-clause-steady
+returns-in-Err-FileNotInCache-clause-steady g c = λ mode capacity. let e = c.in-Err-FileNotInCache.ensures.err in
+    unread-steady mode capacity _ _ c.args.now e.0 c.args.cache.now.store c.get.new.self.store c.keeps.ensures.distinct e.1

@@ -16,3 +16,6 @@ returns-clause-there g c =
     let e = c.get_abs_path.ensures in
     subst (λ (b : Bool). HasFile c.args.path.now b (is_some old.disk.told) (level_of true new.index new.disk)) (sym c.is_some.ensures)
     (path-has c.args.path.now (root_of Main old.disk.root c.args.cache.now.pre_root) c.in_ok-found.found old new c.keeps.ensures.sound c.requires e.sizes e.pending e.disk c.in_ok-found.ensures.path)
+
+pub returns-in_err-found-clause-steady : goal.returns-in_err-found-clause-steady
+returns-in_err-found-clause-steady g c = λ mode capacity. let e = c.get_abs_path.ensures in path-steady mode capacity c.args.cache.now.store c.get_abs_path.new.self.store e.sizes e.pending e.disk

@@ -5,6 +5,7 @@ use Rattle.sc_lru.proofs.Cut.{none_from_is_some}
 use Rattle.sc_disk.specs.Disks.{DiskState, Does}
 use Rattle.sc_disk.specs.declared.change.Change.TheVariants.{Touched}
 use Rattle.sc_disk.proofs.Doing.{does-none}
+use Rattle.sc_disk.proofs.Names.{key_not_temporary}
 use Rattle.sc_disk.proofs.Pairs.{touched-none}
 use Rattle.sc_disk.proofs.Tidying.{quiet-touched, tidy-alters, tidy-as}
 use Rattle.sc_disk.proofs.lru_disk_cache.LruDiskCache.get_file.Goals as goal
@@ -30,3 +31,6 @@ returns-in_err-bytes-clause-tidy g c = λ h. let old = c.args.self.now in let mi
 pub returns-clause-tidy : goal.returns-clause-tidy
 returns-clause-tidy g c = λ h. let old = c.args.self.now in let mid = c.use_key.new.self in let new = c.read_used.new.self in let u = c.use_key.ensures in
     tidy-alters mid new (Touched c.args.key.now c.args.now ∷ []) (tt, tt) c.in_ok-bytes.ensures.ok.alters (tidy-as old mid u.pending u.disk h)
+
+pub read_used-requires : goal.read_used-requires
+read_used-requires g c = c.use_key.ensures.held (key_not_temporary c.args.key.now (ap is_file_key (sym c.as_text.ensures) ∙ sym c.is_file_key.ensures ∙ c.if-not-is_file_key.false)) c.if-not-use_key.false

@@ -1,12 +1,13 @@
-use Rattle.std.proofs.Common.{◌≡◌, ℕ, List, sym, ap, subst, arith, ◌∷◌, [], ◌∙◌, rules, None, Some}
+use Rattle.std.proofs.Common.{◌≡◌, ℕ, List, true, sym, ap, subst, arith, ◌∷◌, [], ◌∙◌, rules, None, Some}
 use Rattle.slab.specs.Slab.{get, Updates}
 use Rattle.sc_lru.specs.LruCache.{total}
-use Rattle.sc_disk.specs.Disks.{Does}
+use Rattle.sc_disk.specs.Disks.{Does, has_place}
 use Rattle.sc_disk.specs.declared.change.Change.TheVariants.{Made}
 use Rattle.sc_disk.specs.declared.pending.Pending.{Pending}
 use Rattle.sc_disk.specs.Names.{is_temporary_path, temporary}
 use Rattle.sc_disk.specs.Store.{declared, size_of}
-use Rattle.sc_disk.proofs.Keeping.{Keeps-opened, opened_as}
+use Rattle.sc_disk.proofs.Keeping.{Keeps-opened, on_err, opened_as}
+use Rattle.sc_disk.proofs.Places.{alters-nothing, place-temporary}
 use Rattle.sc_disk.proofs.Slots.{declared-opened}
 use Rattle.sc_disk.proofs.lru_disk_cache.LruDiskCache.open_entry.Goals as goal
 
@@ -44,3 +45,10 @@ returns-clause-ok g c = let s = c.self.inside in let r = c.insert_reserved-numbe
       capacity = ap (λ w. w.capacity) v;
       disk = subst (λ w. Does (Made t c.args.now ∷ []) w.disk (state c.create.new.self)) v (subst (λ (k : List ℕ). Does (Made k c.args.now ∷ []) (state s.disk) (state c.create.new.self)) path c.in_ok-create.ensures.ok);
     }
+
+pub returns-in_err-create-clause-err : goal.returns-in_err-create-clause-err
+returns-in_err-create-clause-err g c =
+    let s = c.self.inside in let state = g.D.Disk.state in
+    let path : c.in_ok-path.path ≡ temporary (state s.disk).divided c.args.key.now c.vacant_key-number.result = search rules in
+    let placed : has_place (state s.disk) c.in_ok-path.path ≡ true = ap (has_place (state s.disk)) path ∙ place-temporary (state s.disk) c.args.key.now c.vacant_key-number.result (ap (λ w. has_place w.disk c.args.key.now) c.self.view_is ∙ c.requires.placed) in
+    on_err c.from_residual-in_err-create.result _ (alters-nothing c.args.self.now s.index.entries s.index.spare s.pending s.capacity (state s.disk) c.self.view_is (state c.create.new.self) (c.in_err-create.ensures.placed placed))

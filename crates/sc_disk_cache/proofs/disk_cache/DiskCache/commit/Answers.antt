@@ -2,10 +2,11 @@ use Rattle.std.proofs.Common.{ℕ, List, sym, subst}
 use Rattle.sc_model.specs.declared.event.Written.{Written}
 use Rattle.sc_model.specs.declared.event.Written.TheVariants.{Done, Refused}
 use Rattle.sc_disk_cache.specs.DiskStores.{DiskStore, held_disk}
-use Rattle.sc_disk_cache.specs.Entries.{CommitsEntry, IsOpenAt}
+use Rattle.sc_disk_cache.specs.Entries.{ClosesEntry, CommitsEntry, IsOpenAt}
 use Rattle.sc_disk_cache.specs.Marked.{MarksDone, SweptBy, marks_of}
 use Rattle.sc_disk_cache.specs.Marks.{Marks, Settles}
 use Rattle.sc_disk_cache.proofs.Marking.{marks-done}
+use Rattle.sc_disk_cache.proofs.Steadying.{stays-self}
 use Rattle.sc_disk_cache.proofs.disk_cache.DiskCache.commit.Goals as goal
 
 pub returns-in-Ok-Done-clause-committed : goal.returns-in-Ok-Done-clause-committed
@@ -35,3 +36,19 @@ returns-in-Ok-Refused-clause-committed g c =
       h.0,
       subst (λ (w : Written). CommitsEntry c.args.entry.number w (held_disk c.begin_mark.new.self) (held_disk c.commit_entry.new.self)) c.in-Ok-Refused.field-0-is h.1,
     )
+
+pub returns-then-not-has_open-clause-stays : goal.returns-then-not-has_open-clause-stays
+returns-then-not-has_open-clause-stays g c = stays-self (held_disk c.args.self.now)
+
+pub returns-in-Ok-Done-clause-closed : goal.returns-in-Ok-Done-clause-closed
+returns-in-Ok-Done-clause-closed g c is =
+    subst (λ (s : DiskStore). ClosesEntry c.args.entry.number s (held_disk c.sweep.new.self)) c.begin_mark.ensures.held
+    (subst (λ (s : DiskStore). ClosesEntry c.args.entry.number (held_disk c.begin_mark.new.self) s) (sym c.sweep.ensures.held) (c.commit_entry.ensures.closed (subst (IsOpenAt c.args.entry) (sym c.begin_mark.ensures.held) is)))
+
+pub returns-in-Ok-Refused-clause-closed : goal.returns-in-Ok-Refused-clause-closed
+returns-in-Ok-Refused-clause-closed g c is =
+    subst (λ (s : DiskStore). ClosesEntry c.args.entry.number s (held_disk c.commit_entry.new.self)) c.begin_mark.ensures.held (c.commit_entry.ensures.closed (subst (IsOpenAt c.args.entry) (sym c.begin_mark.ensures.held) is))
+
+pub returns-clause-closed : goal.returns-clause-closed
+returns-clause-closed g c is =
+    subst (λ (s : DiskStore). ClosesEntry c.args.entry.number s (held_disk c.commit_entry.new.self)) c.begin_mark.ensures.held (c.commit_entry.ensures.closed (subst (IsOpenAt c.args.entry) (sym c.begin_mark.ensures.held) is))

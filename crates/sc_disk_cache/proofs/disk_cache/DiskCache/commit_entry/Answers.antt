@@ -3,6 +3,8 @@ use Rattle.sc_disk_cache.specs.DiskStores.{opened_store}
 use Rattle.sc_disk_cache.specs.Entries.{ClosesEntry, CommitCause, CommitsEntry, CommitsNothing}
 use Rattle.sc_disk_cache.specs.Moving.{Stays}
 use Rattle.sc_disk_cache.proofs.Lending.{lent, lent-limit, limit-of, of_some}
+use Rattle.sc_disk_cache.specs.DiskStores.{held_disk}
+use Rattle.sc_disk_cache.proofs.Steadying.{stays-self}
 use Rattle.sc_disk_cache.proofs.disk_cache.DiskCache.commit_entry.Goals as goal
 
 pub invariant_of-self : goal.invariant_of-self
@@ -53,3 +55,6 @@ pub returns-in-Err-clause-kept : goal.returns-in-Err-clause-kept
 returns-in-Err-clause-kept g c = let h = of_some c.get.result _ c.in-Some.is (c.get.follows.holds c.commit.new.cache) in
     lent c.args.self.now.mode c.args.self.now.pair.max_size (c.get.follows.lender c.commit.new.cache).max_size c.args.self.now.pair.opened (c.get.follows.lender c.commit.new.cache).opened c.args.self.now.pair.disks
     (c.get.follows.lender c.commit.new.cache).disks c.in-Some.cache.now c.commit.new.cache (sym c.in-Some.ensures.value) h.0 h.1 (CommitsNothing c.args.entry.number) (c.in-Err.ensures.kept c.args.self.now.mode c.args.self.now.pair.max_size)
+
+pub returns-then-not-has_open-clause-stays : goal.returns-then-not-has_open-clause-stays
+returns-then-not-has_open-clause-stays g c = stays-self (held_disk c.args.self.now)

@@ -3,6 +3,8 @@ use Rattle.sc_model.specs.World.{same_maps}
 use Rattle.sc_disk_cache.specs.Entries.{ClosesEntry, FillsBy}
 use Rattle.sc_disk_cache.specs.Moving.{Stays}
 use Rattle.sc_disk_cache.proofs.Lending.{lent, lent-limit, of_some}
+use Rattle.sc_disk_cache.specs.DiskStores.{held_disk}
+use Rattle.sc_disk_cache.proofs.Steadying.{stays-self}
 use Rattle.sc_disk_cache.proofs.disk_cache.DiskCache.fill_entry.Goals as goal
 
 pub invariant_of-self : goal.invariant_of-self
@@ -40,3 +42,6 @@ pub returns-in-Err-clause-kept : goal.returns-in-Err-clause-kept
 returns-in-Err-clause-kept g c = let h = of_some c.get.result _ c.in-Some.is (c.get.follows.holds c.fill.new.cache) in
     lent c.args.self.now.mode c.args.self.now.pair.max_size (c.get.follows.lender c.fill.new.cache).max_size c.args.self.now.pair.opened (c.get.follows.lender c.fill.new.cache).opened c.args.self.now.pair.disks
     (c.get.follows.lender c.fill.new.cache).disks c.in-Some.cache.now c.fill.new.cache (sym c.in-Some.ensures.value) h.0 h.1 (λ a b. same_maps a.level b.level) (c.in-Err.ensures.kept c.args.self.now.mode c.args.self.now.pair.max_size)
+
+pub returns-then-not-has_open-clause-stays : goal.returns-then-not-has_open-clause-stays
+returns-then-not-has_open-clause-stays g c = stays-self (held_disk c.args.self.now)

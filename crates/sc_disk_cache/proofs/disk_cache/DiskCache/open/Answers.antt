@@ -1,4 +1,6 @@
 use Rattle.std.proofs.Common.{refl, sym}
+use Rattle.sc_disk_cache.specs.DiskStores.{held_disk}
+use Rattle.sc_disk_cache.proofs.Askings.{steady-self}
 use Rattle.sc_disk_cache.proofs.Lending.{open-limit}
 use Rattle.sc_disk_cache.proofs.Steadying.{opens-steady, refuses-steady}
 use Rattle.sc_disk_cache.proofs.disk_cache.DiskCache.open.Goals as goal
@@ -27,3 +29,6 @@ invariant_of-self g c = record {
   limit = open-limit c.get_or_init.result c.args.self.now.pair.max_size c.get_or_init.new.self.max_size c.args.self.now.pair.opened c.get_or_init.new.self.opened c.args.self.now.pair.disks
       (sym c.if-is_opened.ensures.opened) (c.if-is_opened.ensures.disks refl) c.get_or_init.ensures.max_size c.get_or_init.ensures.ok c.get_or_init.ensures.unopened;
 }
+
+pub returns-then-is_opened-clause-steady : goal.returns-then-is_opened-clause-steady
+returns-then-is_opened-clause-steady g c = steady-self (held_disk c.args.self.now)

@@ -1,4 +1,4 @@
--- The calls of a device in memory.
+-- The calls of a device in memory, as a level tells them.
 use Rattle.sc_entry.specs.declared.calls.Calls.{Calls as Counted}
 use Rattle.sc_model.specs.Devices.{Calls, numbers_of}
 
