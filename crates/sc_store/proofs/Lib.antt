@@ -11,3 +11,4 @@ pub mod Checks
 pub mod Checking
 mod ReadOnly
 mod Modes
+mod Gathering

@@ -1,5 +1,9 @@
 -- The base directories of several stores.
-use Rattle.std.specs.Prelude.{ℕ, Bool, false, ◌||◌, if◌then◌else◌, List, [], ◌∷◌, ◌++◌}
+use Rattle.std.specs.Prelude.{◌≡◌, ℕ, Bool, false, ◌||◌, if◌then◌else◌, List, [], ◌∷◌, ◌++◌}
+use Rattle.std.specs.Borrow.{Bor}
+use Rattle.std.specs.BTreeSet.{BTreeSet, contains_by}
+use Rattle.std.specs.Cmp.Lexicographic.{slice_cmp}
+use Rattle.std.specs.Ordering.{nat_cmp}
 use Rattle.std.specs.Str.{bytes_eq}
 use Rattle.sc_model.specs.declared.level.Policy.{Policy}
 use Rattle.sc_model.specs.declared.level.Policy.TheVariants.{Levels, Single}
@@ -8,6 +12,10 @@ use Rattle.sc_store.specs.Held.{Title}
 abbrev pub is_among : List ℕ → List (List ℕ) → Bool
 is_among dir [] = false
 is_among dir (d ∷ ds) = bytes_eq d dir || is_among dir ds
+
+-- a set has exactly these directories
+abbrev pub IsSetOf : BTreeSet (Bor (List ℕ)) → List (List ℕ) → Type 0
+IsSetOf named dirs = (dir : Bor (List ℕ)) → contains_by (λ d. slice_cmp nat_cmp dir.now d.now) named ≡ is_among dir.now dirs
 
 -- directories added in their order, each once
 abbrev pub collect : List (List ℕ) → List (List ℕ) → List (List ℕ)

@@ -1,7 +1,7 @@
 //! The base directories of several stores.
 ghost use Rattle.std.specs.Prelude.{◌≡◌, IfOk};
 ghost use Rattle.sc_store.specs.Basedirs as dirs;
-ghost use Rattle.sc_store.specs.Basedirs.{basedirs_of, collect, is_among};
+ghost use Rattle.sc_store.specs.Basedirs.{IsSetOf, basedirs_of, collect};
 ghost use Rattle.sc_store.specs.Telling.{titles_of};
 
 use crate::level::Level;
@@ -11,28 +11,22 @@ use crate::vouch::Vouch;
 use sc_disk::Disk;
 use sc_entry::{ByteText, Items, NoMemory};
 use std::alloc::Global;
+use std::collections::BTreeSet;
 
-/// Whether a directory is one of these.
-fn contains(seen: &[ByteText], basedir: &ByteText) -> bool
-    ensures { result ≡ is_among basedir.now seen.now }
-{
-    let mut left = seen;
-    while let [first, rest @ ..] = left {
-        if first.as_slice() == basedir.as_slice() {
-            return true;
-        }
-        left = rest;
-    }
-    false
-}
-
-/// Adds directories in their order, each once.
-fn add(seen: &mut Vec<ByteText>, basedirs: &[ByteText]) -> Result<(), NoMemory>
-    ensures { IfOk result (λ _. seen.new.items ≡ collect seen.old.items basedirs.now) }
+/// Adds directories in their order, each once, to those so far. The set of these stands beside them, so that none is looked for
+/// in the list.
+fn add<'a>(
+    seen: &mut Vec<ByteText>,
+    named: &mut BTreeSet<&'a [u8]>,
+    basedirs: &'a [ByteText],
+) -> Result<(), NoMemory>
+    requires { IsSetOf named.old seen.old.items }
+    ensures collected { IfOk result (λ _. seen.new.items ≡ collect seen.old.items basedirs.now) }
+    ensures named { IfOk result (λ _. IsSetOf named.new seen.new.items) }
 {
     let mut left = basedirs;
     while let [first, rest @ ..] = left {
-        if !contains(seen, first) {
+        if named.insert(first.as_slice())? {
             seen.push(first.try_clone()?)?;
         }
         left = rest;
@@ -48,10 +42,11 @@ pub(crate) fn collect_basedirs<R: Remote, D: Disk, V: Vouch>(
     ensures { IfOk result (λ basedirs. basedirs.items ≡ basedirs_of levels.now.titles) }
 {
     let mut seen = Vec::new(alloc);
+    let mut named = BTreeSet::new(alloc);
     let count = levels.len();
     let mut level = 0;
     while level < count {
-        add(&mut seen, levels.get(level).basedirs())?;
+        add(&mut seen, &mut named, levels.get(level).basedirs())?;
         level += 1;
     }
     Ok(seen)
