@@ -1,5 +1,5 @@
 -- What a daemon's store tells of itself, and the counters that its levels begin with.
-use Rattle.std.specs.Prelude.{ℕ, suc, ◌&&◌, not, List, [], ◌∷◌, ◌++◌, false, codes, decimal, length, map, Option, Some, None}
+use Rattle.std.specs.Prelude.{ℕ, suc, ◌&&◌, not, List, [], ◌∷◌, ◌++◌, codes, decimal, length, map, Option, Some, None}
 use Rattle.sc_entry.specs.declared.cache_mode.CacheMode.{CacheMode}
 use Rattle.sc_model.specs.Follows.{all_read_only, mode_of, some_size}
 use Rattle.sc_model.specs.Plan.{is_none}
@@ -10,8 +10,7 @@ use Rattle.sc_model.specs.declared.level.Policy.{Policy}
 use Rattle.sc_model.specs.declared.level.Policy.TheVariants.{Levels, Single}
 use Rattle.sc_stats.specs.Sums.{no_level_stats, sat}
 use Rattle.sc_stats.specs.declared.counters.LevelStats.{LevelStats}
-use Rattle.sc_stats.specs.Store.{Facts}
-use Rattle.sc_store.specs.Held.{HeldLevel, Title}
+use Rattle.sc_store.specs.Held.{Title}
 use Rattle.sc_store.specs.Levels.{held_level}
 use Rattle.sc_store.specs.declared.level.Level.{Level}
 
@@ -73,8 +72,3 @@ level_name n type_name = codes "L" ++ (decimal n ++ (codes " (" ++ (type_name ++
 abbrev pub new_counters : ℕ → List Title → List LevelStats
 new_counters n [] = []
 new_counters n (t ∷ ts) = record no_level_stats { name = level_name n t.type_name; location = t.location } ∷ new_counters (suc n) ts
-
--- What a remote store tells to statistics: where it is, and its base directories. It has no size and no levels, and uses no
--- entries of the preprocessor.
-abbrev pub remote_told : HeldLevel → Facts
-remote_told l = record { location = l.title.location; current_size = None; max_size = None; levels = None; use_preprocessor_cache_mode = false; basedirs = l.title.given.basedirs }

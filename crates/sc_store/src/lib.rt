@@ -4,7 +4,6 @@
 mod basedirs;
 mod checked;
 mod disk_storage;
-mod facts;
 mod level;
 mod levels;
 mod mem_remote;
