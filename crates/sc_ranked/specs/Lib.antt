@@ -1,0 +1,3 @@
+pub mod Trees
+pub mod Shown
+pub mod Lends
