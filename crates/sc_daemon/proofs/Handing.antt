@@ -1,5 +1,5 @@
 -- Writes that are handed on, as a daemon keeps them.
-use Rattle.std.proofs.Common.{◌≡◌, ℕ, zero, suc, ◌<◌, Bool, true, false, List, [], ◌∷◌, length, Option, Some, None, IfSome, IsSome, get_or, set, drop, map, append_assoc, add-one, ◌+◌, ◌++◌, refl, ap, sym, ◌∙◌, arith}
+use Rattle.std.proofs.Common.{◌≡◌, ℕ, zero, suc, ◌<◌, Bool, true, false, List, [], ◌∷◌, length, Option, Some, None, IfSome, option_map, slice_get, set, drop, map, append_assoc, add-one, ◌+◌, ◌++◌, refl, ap, sym, ◌∙◌, arith}
 use Rattle.std.specs.List.{remove}
 use Rattle.sc_daemon.specs.Backlogs.{Write, with_write, write_at}
 use Rattle.sc_model.specs.Trace.{numbered}
@@ -9,16 +9,15 @@ pub numbered_count : (n m : ℕ) (b : Bool) (hs : List Handed) → length (numbe
 numbered_count n m b [] = refl
 numbered_count n m b (h ∷ hs) = ap suc (numbered_count (suc n) m b hs)
 
-pub at_place : (ws : List Write) (i : ℕ) (w : Write) → i < length ws → w ≡ get_or ws i w → write_at i ws ≡ Some w
-at_place [] i w lt is = absurd (omega (arith, lt))
-at_place (v ∷ ws) zero w lt is = ap (λ (x : Write). Some x) (sym is)
-at_place (v ∷ ws) (suc i) w lt is = at_place ws i w (omega (arith, lt)) is
+pub at_slice : (ws : List Write) (i : ℕ) (w : Write) → slice_get ws i ≡ Some w → write_at i ws ≡ Some w
+at_slice [] i w is = absurd (cc)
+at_slice (v ∷ ws) zero w is = is
+at_slice (v ∷ ws) (suc i) w is = at_slice ws i w is
 
 -- a look at a place
-pub got : {A : Type 0} (now : A → Write) (ws : List Write) (i : ℕ) (o : Option A) → (IsSome o → i < length ws) → IfSome o (λ x. now x ≡ get_or ws i (now x))
-    → IfSome o (λ x. write_at i ws ≡ Some (now x))
-got now ws i None lt h = tt
-got now ws i (Some x) lt h = at_place ws i (now x) (lt refl) h
+pub got : {A : Type 0} (now : A → Write) (ws : List Write) (i : ℕ) (o : Option A) → option_map now o ≡ slice_get ws i → IfSome o (λ x. write_at i ws ≡ Some (now x))
+got now ws i None is = tt
+got now ws i (Some x) is = at_slice ws i (now x) (sym is)
 
 from_place : (ws : List Write) (i : ℕ) (w : Write) → write_at i ws ≡ Some w → drop i ws ≡ w ∷ drop (suc i) ws
 from_place [] i w e = absurd (cc)

@@ -10,14 +10,15 @@ use crate::write::{Write, is_end};
 use sc_entry::NoMemory;
 use sc_hold::Hold;
 use sc_model::{Handed, What};
+use sc_ranked::RankedList;
 use std::alloc::Global;
-use std::collections::VecDeque;
 use std::marker::Model;
 
-/// The writes that were handed on and are not done, in order. Contracts see them as a list.
+/// The writes that were handed on and are not done, in order. Contracts see them as a list. A call costs a logarithm of their
+/// number.
 #[derive(Drop)]
 pub struct Backlog {
-    writes: VecDeque<Write>,
+    writes: RankedList<Write>,
 }
 
 impl Model for Backlog {
@@ -26,7 +27,7 @@ impl Model for Backlog {
 
     ghost Value = { List Held };
 
-    ghost view = { λ b. b.writes.items };
+    ghost view = { λ b. b.writes };
 }
 
 /// How many writes an event hands on.
@@ -50,7 +51,7 @@ impl Backlog {
         ensures { result ≡ [] }
     {
         Backlog {
-            writes: VecDeque::new(alloc),
+            writes: RankedList::new(alloc),
         }
     }
 
@@ -87,7 +88,10 @@ impl Backlog {
         ensures moves { IfOk result (λ what. (n : Need) → H.moves hold.old n what hold.new) }
         ensures same { IfOk result (λ _. H.config hold.new ≡ H.config hold.old) }
     {
-        let what = self.writes[place].advance(alloc, hold)?;
+        let Some(write) = self.writes.get_mut(place) else {
+            unreachable!()
+        };
+        let what = write.advance(alloc, hold)?;
         self.settle(place, is_end(&what));
         Ok(what)
     }

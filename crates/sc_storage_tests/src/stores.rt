@@ -1,7 +1,7 @@
 //! Any store asked as one.
 use crate::levels::{OneLevel, Storage as Layered, disk, disk_level, disk_store, remote, storage};
 use sc_disk::Disk;
-use sc_entry::{ByteText, Cache, CacheMode, CacheWrite, Items, Text};
+use sc_entry::{ByteText, Cache, CacheMode, CacheWrite, GetPathResult, Items, Text};
 use sc_model::LevelPolicy;
 use sc_stats::{ServerInfo, ServerStats};
 use sc_storage::{MultiLevelStorage, ReadOnlyStorage, Storage, StorageError, StorageFacts};
@@ -333,5 +333,28 @@ fn preprocessor_entry_is_put_where_it_may_be(rt: HostRuntime) -> Result<(), Fail
     assert!(rt; put_preprocessor_is(alloc, &mut store, "ok")?);
     assert_eq!(rt; store.current_size(), Some(2));
     assert_eq!(rt; preprocessor_len(alloc, &mut store)?, Some(2));
+    Ok(())
+}
+
+/// Where the file of `abc` stands: nothing where there is none, or where the store has no paths.
+fn path_of<S: Storage>(alloc: Global, store: &mut S) -> Result<ByteText, Fail> {
+    let key = Text::from_str(alloc, "abc")?;
+    match store.get_path(alloc, &key, 2)? {
+        GetPathResult::Found(path) => Ok(path),
+        GetPathResult::Miss => Ok(ByteText::new(alloc)),
+        GetPathResult::Unsupported => Ok(ByteText::new(alloc)),
+    }
+}
+
+#[test]
+fn disk_store_tells_where_a_file_stands(rt: HostRuntime) -> Result<(), Fail> {
+    let alloc = rt.alloc();
+    let mut disk = disk_store(alloc, 0, CacheMode::ReadWrite)?;
+    assert!(rt; path_of(alloc, &mut disk)?.is_empty());
+    assert!(rt; puts(alloc, &mut disk, "abc")?);
+    assert_eq!(rt;
+        path_of(alloc, &mut disk)?.as_slice(),
+        b"/0/a/b/c/abc".as_slice()
+    );
     Ok(())
 }

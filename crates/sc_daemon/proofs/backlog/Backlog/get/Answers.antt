@@ -1,4 +1,4 @@
-use Rattle.std.proofs.Common.{◌≡◌, ℕ, ◌<◌, List, Some, IfSome, subst}
+use Rattle.std.proofs.Common.{◌≡◌, List, Some, IfSome, subst}
 use Rattle.sc_daemon.proofs.Handing.{got}
 use Rattle.sc_daemon.specs.Backlogs.{Write, write_at}
 use Rattle.sc_daemon.proofs.backlog.Backlog.get.Goals as goal
@@ -6,4 +6,4 @@ use Rattle.sc_daemon.proofs.backlog.Backlog.get.Goals as goal
 pub returns-clause-some : goal.returns-clause-some
 returns-clause-some c =
     subst (λ (ws : List Write). IfSome c.get.result (λ w. write_at c.args.place ws ≡ Some w.now)) c.self.view_is
-    (got (λ w. w.now) c.self.inside.writes.items c.args.place c.get.result (λ some. subst (λ (n : ℕ). c.args.place < n) c.self.inside.writes.ok.0 (c.get.ensures.variant.0 some)) c.get.ensures.item.1)
+    (got (λ w. w.now) c.self.inside.writes c.args.place c.get.result c.get.ensures.value)
