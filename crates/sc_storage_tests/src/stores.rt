@@ -354,7 +354,7 @@ fn disk_store_tells_where_a_file_stands(rt: HostRuntime) -> Result<(), Fail> {
     assert!(rt; puts(alloc, &mut disk, "abc")?);
     assert_eq!(rt;
         path_of(alloc, &mut disk)?.as_slice(),
-        b"/0/a/b/c/abc".as_slice()
+        b"/0/a/b/abc".as_slice()
     );
     Ok(())
 }
