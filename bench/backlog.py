@@ -4,9 +4,10 @@
 Usage: bench/backlog.py [writes]
 
 Each script puts so many entries at a remote level that is written in the background, so that each put hands one write, and then
-makes the writes, each time the one in the middle of those that are left. The time is the whole program's, less that of the same
-script without its `back` lines.
+makes the writes, each time the one in the middle of those that are left. The time is the processor's, the whole program's less that
+of the same script without its `back` lines.
 """
+import resource
 import sys
 
 from drive import seconds
@@ -25,19 +26,31 @@ def backs(writes):
     return [f"back {left // 2}" for left in range(writes, 0, -1)]
 
 
+def processor_seconds(lines):
+    """How long the program uses a processor over a script, the least of three runs."""
+    def spent():
+        usage = resource.getrusage(resource.RUSAGE_CHILDREN)
+        return usage.ru_utime + usage.ru_stime
+
+    def once():
+        before = spent()
+        seconds(lines)
+        return spent() - before
+
+    return min(once() for _ in range(3))
+
+
 def rate(writes):
     """Handed writes a second."""
     lines = puts(writes)
-    without = min(seconds(lines) for _ in range(3))
-    with_all = min(seconds(lines + backs(writes)) for _ in range(3))
-    return writes / max(with_all - without, 1e-9)
+    return writes / max(processor_seconds(lines + backs(writes)) - processor_seconds(lines), 1e-9)
 
 
 def main():
-    most = int(sys.argv[1]) if len(sys.argv) > 1 else 100_000
+    most = int(sys.argv[1]) if len(sys.argv) > 1 else 300_000
     print("| writes left at first | writes a second |")
     print("|---|---|")
-    for writes in (most // 100, most // 10, most):
+    for writes in (most // 10, most // 3, most):
         print(f"| {writes:,} | {rate(writes):,.0f} |")
 
 
