@@ -14,8 +14,8 @@ use sc_ranked::RankedList;
 use std::alloc::Global;
 use std::marker::Model;
 
-/// The writes that were handed on and are not done, in order. Contracts see them as a list. A call costs a logarithm of their
-/// number.
+/// The writes that were handed on and are not done, in order. Contracts see them as a list. A call costs a logarithm of how
+/// many were handed on since none was left.
 #[derive(Drop)]
 pub struct Backlog {
     writes: RankedList<Write>,
