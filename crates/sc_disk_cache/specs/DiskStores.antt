@@ -20,7 +20,7 @@ use Rattle.sc_pair.specs.declared.part.Part.TheVariants.{Main, Pre}
 use Rattle.sc_disk_cache.specs.Devices.{calls_of}
 use Rattle.sc_disk_cache.specs.Reopened.{reopened}
 use Rattle.sc_disk_cache.specs.Shown.{Index, bytes_at, files_of}
-use Rattle.sc_disk_cache.specs.declared.disk_cache.DiskCache.{DiskCache}
+use Rattle.sc_disk_cache.specs.declared.entry_cache.EntryCache.{EntryCache}
 
 -- An open entry: the path of its file among those of both folders, the bytes that it declared, and those that it was
 -- filled with.
@@ -101,7 +101,7 @@ abbrev pub store_of : {D : Type 0} → CacheMode → ℕ → Option (PairCache D
 store_of mode capacity (Some c) t = opened_store mode capacity c.store
 store_of mode capacity None t = unopened_store mode capacity (state_of t)
 
-abbrev pub held_disk : {D : Type 0} {g : device.Ghosts D} → DiskCache D g → DiskStore
+abbrev pub held_disk : {D : Type 0} {g : device.Ghosts D} → EntryCache D g → DiskStore
 held_disk c = store_of c.mode c.pair.max_size c.pair.opened c.pair.disks
 
 -- the bytes of the files that it indexes, or that an opening would, whether or not its disks tell what they hold
@@ -109,7 +109,7 @@ abbrev pub bytes_of : {D : Type 0} → ℕ → Option (PairCache D) → Option T
 bytes_of capacity (Some c) t = total size_of c.store.index
 bytes_of capacity None t = total size_of (reopened capacity (told_files (state_of t).told))
 
-abbrev pub indexed_bytes : {D : Type 0} {g : device.Ghosts D} → DiskCache D g → ℕ
+abbrev pub indexed_bytes : {D : Type 0} {g : device.Ghosts D} → EntryCache D g → ℕ
 indexed_bytes c = bytes_of c.pair.max_size c.pair.opened c.pair.disks
 
 -- how many files these are

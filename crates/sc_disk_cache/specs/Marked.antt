@@ -11,13 +11,13 @@ use Rattle.sc_pair.specs.declared.pair_cache.PairCache.{PairCache}
 use Rattle.sc_pair.specs.declared.part.Part.TheVariants.{Main}
 use Rattle.sc_disk_cache.specs.DiskStores.{DiskStore, entry_path}
 use Rattle.sc_disk_cache.specs.Marks.{Fills, Forgets, Marks, OtherFills, Sweeps, fills_of, is_marked, mark_of}
-use Rattle.sc_disk_cache.specs.declared.disk_cache.DiskCache.{DiskCache}
+use Rattle.sc_disk_cache.specs.declared.entry_cache.EntryCache.{EntryCache}
 use Rattle.sc_disk_cache.specs.declared.filling.Filling.{Filling}
 use Rattle.sc_disk_cache.specs.declared.filling.Filling.TheVariants.{Filled as StillOpen, Refused as NotFilled}
 use Rattle.sc_disk_cache.specs.declared.reserving.Reservation.{Reservation}
 use Rattle.sc_disk_cache.specs.declared.reserving.Reservation.TheVariants.{Open as IsOpened, Refused as IsRefused}
 
-abbrev pub marks_of : {D : Type 0} {g : device.Ghosts D} → DiskCache D g → Marks
+abbrev pub marks_of : {D : Type 0} {g : device.Ghosts D} → EntryCache D g → Marks
 marks_of c = c.marks
 
 -- the same of a store that is opened; of one that isn't nothing goes

@@ -12,7 +12,7 @@ ghost use Rattle.sc_model.specs.declared.level.LevelKind.TheVariants.{Disk as Is
 ghost use Rattle.sc_pair.specs.Parts.{in_part};
 ghost use Rattle.sc_pair.specs.declared.part.Part.TheVariants.{Main};
 
-use crate::disk_cache::DiskCache;
+use crate::entry_cache::EntryCache;
 use crate::reading::{read, touch};
 use crate::whole::mode_answer;
 use sc_disk::{Disk, FileKey, is_store_key, make_key_path, normalize_key};
@@ -21,7 +21,7 @@ use sc_model::{Answer, Cause, Mode};
 use sc_pair::{Part, part_key};
 use std::alloc::Global;
 
-impl<D: Disk> DiskCache<D> {
+impl<D: Disk> EntryCache<D> {
     /// The bytes of the files of both folders, and those that open entries have declared. None until it is opened.
     pub fn current_size(&self) -> Option<u64>
         ensures size { result ≡ if_opened (held_disk self.now).level.opened (indexed_bytes self.now + (held_disk self.now).reserved) }
@@ -65,7 +65,7 @@ impl<D: Disk> DiskCache<D> {
     }
 }
 
-impl<D: Disk> DiskCache<D> {
+impl<D: Disk> EntryCache<D> {
     /// Whether a file stands at a path of the main part of the opened store. It becomes the most recently used.
     fn touch(&mut self, path: &FileKey) -> Result<bool, NoMemory>
         requires lent { is_some self.old.pair.opened ≡ true }
@@ -92,7 +92,7 @@ fn path_under(alloc: Global, root: &ByteText, path: &FileKey) -> Result<ByteText
     Ok(whole)
 }
 
-impl<D: Disk + Drop> DiskCache<D> {
+impl<D: Disk + Drop> EntryCache<D> {
     /// What stands at a path of the main part; the store is opened for it.
     fn find(&mut self, path: &FileKey, now: u64) -> Result<Answer, NoMemory>
         requires { is_file_key path.now ≡ true }

@@ -7,21 +7,21 @@ ghost use Rattle.sc_model.specs.World.{part_size};
 ghost use Rattle.sc_model.specs.declared.level.LevelKind.TheVariants.{Disk as IsDisk};
 ghost use Rattle.sc_pair.specs.Twos.{joined_state, joins};
 
-use crate::disk_cache::DiskCache;
+use crate::entry_cache::EntryCache;
 use crate::marks::Marks;
 use sc_disk::Disk;
 use sc_entry::{ByteText, CacheMode};
 use sc_pair::{LazyPair, Part};
 use std::alloc::Global;
 
-impl<D: Disk> DiskCache<D> {
+impl<D: Disk> EntryCache<D> {
     /// A store on two disks, of entries and of preprocessor entries, whose files take at most `max_size` bytes together.
     /// It isn't opened yet.
-    pub fn new(alloc: Global, main: D, pre: D, max_size: u64, mode: CacheMode) -> DiskCache<D>
+    pub fn new(alloc: Global, main: D, pre: D, max_size: u64, mode: CacheMode) -> EntryCache<D>
         ensures held { held_disk result ≡ unopened_store mode max_size (joined_state (joins (D.state main) (D.state pre))) }
         ensures marks { marks_of result ≡ no_marks }
     {
-        DiskCache {
+        EntryCache {
             alloc,
             pair: LazyPair::new(alloc, main, pre, max_size),
             mode,

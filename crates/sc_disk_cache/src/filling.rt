@@ -14,7 +14,7 @@ ghost use Rattle.sc_model.specs.World.{same_maps};
 ghost use Rattle.sc_model.specs.declared.level.Cause.TheVariants.{Io as IsIo};
 ghost use Rattle.sc_entry.specs.declared.cache_mode.CacheMode.{CacheMode};
 
-use crate::disk_cache::DiskCache;
+use crate::entry_cache::EntryCache;
 use sc_disk::{Disk, Error, FileKey, LruDiskCacheAddEntry};
 use sc_entry::NoMemory;
 use sc_model::{Cause, Written};
@@ -112,7 +112,7 @@ fn give_up<D: Disk>(cache: &mut PairCache<D>, entry: LruDiskCacheAddEntry)
     let _removed = cache.abandon(entry);
 }
 
-impl<D: Disk> DiskCache<D> {
+impl<D: Disk> EntryCache<D> {
     /// Whether an entry is open in this store.
     pub fn is_open(&self, entry: &LruDiskCacheAddEntry) -> bool
         ensures opened { result ≡ true → IsOpenAt entry.now (held_disk self.now) }

@@ -7,7 +7,7 @@ ghost use Rattle.sc_disk_cache.specs.Reopened.{IsReopenedSize};
 ghost use Rattle.sc_lru.specs.LruCache.{suffix_within, total};
 ghost use Rattle.sc_model.specs.World.{part_size};
 
-use crate::disk_cache::DiskCache;
+use crate::entry_cache::EntryCache;
 use sc_disk::{Listed, MemDisk, is_kept};
 use sc_entry::NoMemory;
 use sc_pair::Part;
@@ -21,7 +21,7 @@ pub struct HeldSize {
     pub files: usize,
 }
 
-impl DiskCache<MemDisk> {
+impl EntryCache<MemDisk> {
     /// How many bytes its files and open entries take, and how many files there are. Of a store that isn't opened, of the
     /// files that an opening would keep.
     pub fn held_size(&self) -> Result<HeldSize, NoMemory>

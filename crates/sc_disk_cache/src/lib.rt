@@ -2,7 +2,7 @@
 #![tactic(auto)]
 
 mod asking;
-mod disk_cache;
+mod entry_cache;
 mod facts;
 mod filling;
 mod holding;
@@ -13,7 +13,7 @@ mod reading;
 mod reserving;
 mod whole;
 
-pub use disk_cache::DiskCache;
+pub use entry_cache::EntryCache;
 pub use filling::{EntryError, Filling};
 pub use holding::HeldSize;
 pub use marks::Marks;

@@ -5,11 +5,11 @@ ghost use Rattle.sc_disk_cache.specs.Marked.{marks_of};
 ghost use Rattle.sc_disk_cache.specs.Moving.{Steady};
 ghost use Rattle.sc_entry.specs.Causes.{Rose};
 
-use crate::disk_cache::DiskCache;
+use crate::entry_cache::EntryCache;
 use sc_disk::{Disk, Error};
 use sc_entry::NoMemory;
 
-impl<D: Disk + Drop> DiskCache<D> {
+impl<D: Disk + Drop> EntryCache<D> {
     /// Opens the store, unless it is opened. False where its disks refuse.
     pub(crate) fn open(&mut self, now: u64) -> Result<bool, NoMemory>
         ensures steady { Steady (held_disk self.old) (held_disk self.new) }

@@ -10,7 +10,7 @@ ghost use Rattle.sc_model.specs.World.{early_cause as early};
 ghost use Rattle.sc_model.specs.declared.event.Written.TheVariants.{Refused as IsNotWritten};
 ghost use Rattle.sc_model.specs.declared.level.Cause.{Cause as CauseOf};
 
-use crate::disk_cache::DiskCache;
+use crate::entry_cache::EntryCache;
 use crate::filling::{Filling, commit, fill};
 use crate::reserving::{Reservation, early_cause, prepare};
 use sc_disk::{Disk, FileKey, normalize_key};
@@ -45,7 +45,7 @@ fn store<D: Disk>(
     }
 }
 
-impl<D: Disk> DiskCache<D> {
+impl<D: Disk> EntryCache<D> {
     /// Puts bytes at a path of the second part of the opened store.
     fn store_pre(&mut self, path: &FileKey, bytes: &[u8], now: u64) -> Result<Written, NoMemory>
         requires lent { is_some self.old.pair.opened ≡ true }
@@ -64,7 +64,7 @@ impl<D: Disk> DiskCache<D> {
     }
 }
 
-impl<D: Disk + Drop> DiskCache<D> {
+impl<D: Disk + Drop> EntryCache<D> {
     /// Puts a preprocessor entry under a key. The mode of a single store and then the key are looked at before the store is
     /// opened. The entry's size is not declared: it is measured once it was written, and files are evicted until it fits
     /// beside what open entries have declared.

@@ -14,7 +14,7 @@ ghost use Rattle.sc_model.specs.Script.{is_single as single};
 ghost use Rattle.sc_pair.specs.Parts.{in_part};
 ghost use Rattle.sc_pair.specs.declared.part.Part.TheVariants.{Main};
 
-use crate::disk_cache::DiskCache;
+use crate::entry_cache::EntryCache;
 use sc_disk::{Disk, Error, FileKey, LruDiskCacheAddEntry, is_store_key, make_key_path};
 use sc_entry::{CacheMode, NoMemory, Text};
 use sc_model::{Cause, Policy, Store};
@@ -92,7 +92,7 @@ pub(crate) fn early_cause(policy: &Policy, configured: CacheMode, key: &Text) ->
     }
 }
 
-impl<D: Disk> DiskCache<D> {
+impl<D: Disk> EntryCache<D> {
     /// Opens an entry in the main part of the opened store.
     fn prepare(&mut self, path: &FileKey, size: u64, now: u64) -> Result<Reservation, NoMemory>
         requires lent { is_some self.old.pair.opened ≡ true }
@@ -113,7 +113,7 @@ impl<D: Disk> DiskCache<D> {
     }
 }
 
-impl<D: Disk + Drop> DiskCache<D> {
+impl<D: Disk + Drop> EntryCache<D> {
     /// Opens an entry for a key, but for its mark.
     #[tactic(auto, using(crate::proofs::KeyPaths::entry_key))]
     fn reserve_entry(

@@ -1,5 +1,5 @@
 use sc_disk::{LruDiskCacheAddEntry, MemDisk};
-use sc_disk_cache::{DiskCache, EntryError, Filling, HeldSize, Reservation};
+use sc_disk_cache::{EntryCache, EntryError, Filling, HeldSize, Reservation};
 use sc_entry::{ByteText, CacheMode, CacheWrite, Calls, Items, NoMemory, Text};
 use sc_model::{Answer, Cause, Mode, Policy, Store, Written};
 use std::alloc::Global;
@@ -7,7 +7,7 @@ use std::collections::BTreeMap;
 use std::process::Abort;
 use std::test::Fail;
 
-type Cache = DiskCache<MemDisk>;
+type Cache = EntryCache<MemDisk>;
 
 /// An empty disk in memory, which refuses the calls of these numbers.
 fn disk_of(alloc: Global, root: &[u8], failing: &[u64]) -> Result<MemDisk, NoMemory> {
@@ -20,7 +20,7 @@ fn disk_of(alloc: Global, root: &[u8], failing: &[u64]) -> Result<MemDisk, NoMem
 fn cache_of(alloc: Global, size: u64, failing: &[u64]) -> Result<Cache, NoMemory> {
     let main = disk_of(alloc, b"/0", failing)?;
     let pre = disk_of(alloc, b"/0p", &[])?;
-    Ok(DiskCache::new(alloc, main, pre, size, CacheMode::ReadWrite))
+    Ok(EntryCache::new(alloc, main, pre, size, CacheMode::ReadWrite))
 }
 
 /// Opens an entry for a key, of this size.
@@ -245,7 +245,7 @@ fn fills_its_own_entries(rt: HostRuntime) -> Result<(), Fail> {
 fn read_only_cache(alloc: Global) -> Result<Cache, NoMemory> {
     let main = disk_of(alloc, b"/0", &[])?;
     let pre = disk_of(alloc, b"/0p", &[])?;
-    Ok(DiskCache::new(alloc, main, pre, 10, CacheMode::ReadOnly))
+    Ok(EntryCache::new(alloc, main, pre, 10, CacheMode::ReadOnly))
 }
 
 fn refuses_writes(rt: &impl Abort, alloc: Global, cache: &mut Cache) -> Result<(), Fail> {
@@ -295,7 +295,7 @@ fn pre_disk(alloc: Global) -> Result<MemDisk, NoMemory> {
 fn filled_cache(alloc: Global) -> Result<Cache, NoMemory> {
     let main = main_disk(alloc)?;
     let pre = pre_disk(alloc)?;
-    Ok(DiskCache::new(alloc, main, pre, 10, CacheMode::ReadWrite))
+    Ok(EntryCache::new(alloc, main, pre, 10, CacheMode::ReadWrite))
 }
 
 fn holds_the_same(rt: &impl Abort, alloc: Global, cache: &mut Cache) -> Result<(), Fail> {

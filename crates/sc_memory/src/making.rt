@@ -14,12 +14,11 @@ ghost use Rattle.sc_store.specs.Telling.{new_counters};
 use crate::memory::Memory;
 use sc_compile::{RunLine, ScriptWorkshop, ToolTable};
 use sc_disk::{MemDisk, make_key_path, normalize_key};
-use sc_disk_cache::DiskCache;
 use sc_entry::{ByteText, Calls, Items, NoMemory, Text};
 use sc_model::{LevelKind, Step};
 use sc_owned::Owned;
 use sc_script::{LevelRule, RunRule, Script};
-use sc_store::{DiskStorage, Level, Levels, MemRemote, RemoteStorage, Unvouched};
+use sc_store::{DiskCache, Layered, Level, MemRemote, RemoteStorage, Unvouched};
 use std::alloc::Global;
 use std::collections::BTreeMap;
 
@@ -129,8 +128,9 @@ fn disk_level(
     let main = disk(alloc, root, rule.holds.as_slice(), calls)?;
     let root = pre_root(alloc, level)?;
     let pre = disk(alloc, root, &[], Calls::new(alloc))?;
-    let cache = DiskCache::new(alloc, main, pre, rule.capacity, rule.mode);
-    Ok(Level::Disk(DiskStorage::new(cache, false, Items::new(alloc))))
+    let basedirs = Items::new(alloc);
+    let store = DiskCache::new(alloc, main, pre, rule.capacity, false, rule.mode, basedirs);
+    Ok(Level::Disk(store))
 }
 
 /// The level of this number.
@@ -207,7 +207,7 @@ pub fn make(alloc: Global, script: Script) -> Result<Made, NoMemory>
     ensures steps { IfOk result (λ made. made.steps ≡ script.steps) }
 {
     let levels = levels_of(alloc, script.levels)?;
-    let levels = Levels::new(levels, script.policy);
+    let levels = Layered::new(levels, script.policy);
     let shop = shop(alloc, script.runs)?;
     let finder = ToolTable::new(script.tools.into_vec());
     let owned = Owned::new(levels, shop, finder, script.tokens, script.limit as u32);

@@ -8,15 +8,15 @@ ghost use Rattle.sc_store.specs.Levels.{held_level};
 
 use crate::memory::Memory;
 use sc_disk::MemDisk;
-use sc_disk_cache::DiskCache;
+use sc_disk_cache::EntryCache;
 use sc_entry::NoMemory;
 use sc_owned::Owned;
 use sc_report::LevelSize;
-use sc_store::{Level, Levels, MemRemote, ReadOnlyLevel, RemoteStorage, Unvouched};
+use sc_store::{Layered, Level, MemRemote, ReadOnlyLevel, RemoteStorage, Unvouched};
 use std::alloc::Global;
 
 /// What a disk store holds. It need not be opened.
-fn disk_size(cache: &DiskCache<MemDisk>) -> Result<LevelSize, NoMemory>
+fn disk_size(cache: &EntryCache<MemDisk>) -> Result<LevelSize, NoMemory>
     ensures { (held_disk cache.now).told ≡ true → IfOk result (λ size. size ≡ size_of (held_disk cache.now).reserved (held_disk cache.now).level) }
 {
     cache.keeps();
@@ -51,7 +51,7 @@ fn size_of(level: &Level<MemRemote, MemDisk, Unvouched>) -> Result<LevelSize, No
 
 fn sizes_of(
     alloc: Global,
-    levels: &Levels<MemRemote, MemDisk, Unvouched>,
+    levels: &Layered<MemRemote, MemDisk, Unvouched>,
 ) -> Result<Vec<LevelSize>, NoMemory>
     ensures { levels.now.told ≡ true → IfOk result (λ sizes. sizes.items ≡ sizes_of (λ l. (room_in levels.now.rooms l).reserved) levels.now.levels) }
 {

@@ -7,7 +7,7 @@ ghost use Rattle.sc_store.specs.Telling.{new_counters};
 use crate::parts::Parts;
 use sc_entry::NoMemory;
 use sc_stats::LevelStats;
-use sc_store::Levels;
+use sc_store::Layered;
 use std::alloc::Global;
 use std::marker::Model;
 
@@ -15,7 +15,7 @@ use std::marker::Model;
 /// where they tell it, and what is open at its levels.
 #[derive(Drop)]
 pub struct Owned<P: Parts> {
-    pub(crate) levels: Levels<P::Store, P::Disk, P::Vouch>,
+    pub(crate) levels: Layered<P::Store, P::Disk, P::Vouch>,
     pub(crate) shop: P::Shop,
     pub(crate) finder: P::Finder,
     pub(crate) moment: u64,
@@ -45,7 +45,7 @@ impl<P: Parts> Owned<P> {
     /// A daemon over these levels, at moment 0, with so many tokens for runs (1 to 65,535); payloads have at most
     /// `limit` bytes (1 to 16,777,216).
     pub fn new(
-        levels: Levels<P::Store, P::Disk, P::Vouch>,
+        levels: Layered<P::Store, P::Disk, P::Vouch>,
         shop: P::Shop,
         finder: P::Finder,
         tokens: u64,
@@ -85,7 +85,7 @@ impl<P: Parts> Owned<P> {
     }
 
     /// Its levels.
-    pub fn levels(&self) -> &Levels<P::Store, P::Disk, P::Vouch>
+    pub fn levels(&self) -> &Layered<P::Store, P::Disk, P::Vouch>
         ensures facts { result.now.facts ≡ self.now.config.levels }
         ensures policy { result.now.policy ≡ self.now.config.policy }
         ensures told { result.now.told ≡ self.now.told }

@@ -7,7 +7,7 @@ use sc_model::{
     Placing, Policy, Put, Refusal, RunAnswer, RunOutput, Status, Written,
 };
 use sc_owned::{Owned, Parts};
-use sc_store::{Level, Levels, MemRemote, RemoteStorage, Unvouched};
+use sc_store::{Layered, Level, MemRemote, RemoteStorage, Unvouched};
 use std::alloc::Global;
 use std::process::Abort;
 use std::test::Fail;
@@ -100,7 +100,7 @@ fn owned(alloc: Global, fails: u64) -> Result<Owned<Memory>, Fail> {
     failing.push(fails)?;
     let remote = MemRemote::new(alloc, Items::new(alloc), failing)?;
     let store = RemoteStorage::new(alloc, remote, Items::new(alloc), CacheMode::ReadWrite);
-    let levels = Levels::new(vec![in alloc; Level::Remote(store)]?, Policy::Single);
+    let levels = Layered::new(vec![in alloc; Level::Remote(store)]?, Policy::Single);
     Ok(Owned::new(levels, shop(alloc)?, tools(alloc)?, 1, 64))
 }
 
@@ -111,7 +111,7 @@ fn daemon_tells_its_base_directories(rt: HostRuntime) -> Result<(), Fail> {
     basedirs.push(bytes(alloc, b"/home")?)?;
     let remote = MemRemote::new(alloc, Items::new(alloc), Items::new(alloc))?;
     let store = RemoteStorage::new(alloc, remote, basedirs, CacheMode::ReadWrite);
-    let levels = Levels::new(vec![in alloc; Level::Remote(store)]?, Policy::Single);
+    let levels = Layered::new(vec![in alloc; Level::Remote(store)]?, Policy::Single);
     let daemon: Owned<Memory> = Owned::new(levels, shop(alloc)?, tools(alloc)?, 1, 64);
     assert_eq!(rt; daemon.basedirs(alloc)?.len(), 1);
     assert!(rt; !daemon.use_preprocessor_cache_mode());

@@ -5,7 +5,7 @@ ghost use Rattle.sc_storage.specs.Checks as checks;
 use sc_disk::Disk;
 use sc_entry::{CacheMode, NoMemory};
 use sc_model::{Cause, LevelPolicy, Policy};
-use sc_store::{Checked, Levels, Remote, Vouch};
+use sc_store::{Checked, Layered, Remote, Vouch};
 use std::alloc::Global;
 
 /// How a check of levels goes on after one of them.
@@ -63,7 +63,7 @@ fn first_mode(count: usize) -> CacheMode
 /// The check of one level, and of no other.
 fn check_level<R: Remote, D: Disk + Drop, V: Vouch>(
     alloc: Global,
-    levels: &mut Levels<R, D, V>,
+    levels: &mut Layered<R, D, V>,
     level: usize,
 ) -> Result<Checked, NoMemory>
     requires { level < length levels.old.levels }
@@ -76,7 +76,7 @@ fn check_level<R: Remote, D: Disk + Drop, V: Vouch>(
 /// One level's turn in a check: a level that is off isn't checked.
 fn take_turn<R: Remote, D: Disk + Drop, V: Vouch>(
     alloc: Global,
-    levels: &mut Levels<R, D, V>,
+    levels: &mut Layered<R, D, V>,
     level: usize,
     mode: CacheMode,
 ) -> Result<Step, NoMemory>
@@ -96,7 +96,7 @@ fn take_turn<R: Remote, D: Disk + Drop, V: Vouch>(
 /// written where one can, or where one refused that need not be.
 pub(crate) fn check<R: Remote, D: Disk + Drop, V: Vouch>(
     alloc: Global,
-    levels: &mut Levels<R, D, V>,
+    levels: &mut Layered<R, D, V>,
 ) -> Result<Checked, NoMemory>
     ensures stays { checks.Stays levels.old levels.new }
     ensures checked { IfOk result (λ answer. checks.ChecksAll answer levels.old levels.new) }

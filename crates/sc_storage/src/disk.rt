@@ -14,12 +14,12 @@ use sc_disk::{Disk, LruDiskCacheAddEntry};
 use sc_entry::{ByteText, Cache, CacheMode, CacheWrite, GetPathResult, Items, NoMemory, Text};
 use sc_model::{Answer, Mode, Policy, Written};
 use sc_stats::LevelStats;
-use sc_store::{DiskStorage, EntryError, Filling, Reservation, Vouch};
+use sc_store::{DiskCache, EntryError, Filling, Reservation, Vouch};
 use std::alloc::Global;
 
 /// Looks a key up at a disk store.
 fn look_disk<D: Disk + Drop, V: Vouch>(
-    store: &mut DiskStorage<D, V>,
+    store: &mut DiskCache<D, V>,
     key: &Text,
     mode: Mode,
     now: u64,
@@ -34,7 +34,7 @@ fn look_disk<D: Disk + Drop, V: Vouch>(
 
 /// Fills an entry that is open.
 fn fill<D: Disk + Drop, V: Vouch>(
-    store: &mut DiskStorage<D, V>,
+    store: &mut DiskCache<D, V>,
     entry: LruDiskCacheAddEntry,
     bytes: &ByteText,
 ) -> Result<Filling, NoMemory>
@@ -54,7 +54,7 @@ fn fill<D: Disk + Drop, V: Vouch>(
 
 /// Commits an entry that is open.
 fn commit<D: Disk + Drop, V: Vouch>(
-    store: &mut DiskStorage<D, V>,
+    store: &mut DiskCache<D, V>,
     entry: LruDiskCacheAddEntry,
     now: u64,
 ) -> Result<Written, NoMemory>
@@ -75,7 +75,7 @@ fn commit<D: Disk + Drop, V: Vouch>(
 
 /// Puts bytes under a key. What it opens it closes, whatever it comes to.
 fn put_disk<D: Disk + Drop, V: Vouch>(
-    store: &mut DiskStorage<D, V>,
+    store: &mut DiskCache<D, V>,
     key: &Text,
     bytes: &ByteText,
     now: u64,
@@ -98,7 +98,7 @@ fn put_disk<D: Disk + Drop, V: Vouch>(
 
 /// Puts an entry of the preprocessor under a key.
 fn put_pre_disk<D: Disk + Drop, V: Vouch>(
-    store: &mut DiskStorage<D, V>,
+    store: &mut DiskCache<D, V>,
     key: &Text,
     bytes: &[u8],
     now: u64,
@@ -111,7 +111,7 @@ fn put_pre_disk<D: Disk + Drop, V: Vouch>(
     store.put_pre(&Policy::Single, key, bytes, now)
 }
 
-impl<D: Disk + Drop, V: Vouch> Storage for DiskStorage<D, V> {
+impl<D: Disk + Drop, V: Vouch> Storage for DiskCache<D, V> {
     ghost state = { λ s. State.Alone s };
 
     fn get(&mut self, alloc: Global, key: &Text, now: u64) -> Result<Cache, StorageError> {
@@ -198,12 +198,12 @@ impl<D: Disk + Drop, V: Vouch> Storage for DiskStorage<D, V> {
     }
 
     fn location(&self, alloc: Global) -> Result<Text, NoMemory> {
-        let text = DiskStorage::location(self, alloc)?;
+        let text = DiskCache::location(self, alloc)?;
         Ok(text)
     }
 
     fn cache_type_name(&self) -> &str {
-        DiskStorage::cache_type_name(self)
+        DiskCache::cache_type_name(self)
     }
 
     fn current_size(&self) -> Option<u64> {
@@ -213,18 +213,18 @@ impl<D: Disk + Drop, V: Vouch> Storage for DiskStorage<D, V> {
 
     fn max_size(&self) -> Option<u64> {
         self.keeps();
-        Some(DiskStorage::max_size(self))
+        Some(DiskCache::max_size(self))
     }
 
     fn multilevel_stats(&self, _alloc: Global) -> Result<Option<Items<LevelStats>>, NoMemory> {
         Ok(None)
     }
 
-    fn use_preprocessor_cache_mode(&self) -> bool {
-        DiskStorage::use_preprocessor_cache_mode(self)
+    fn preprocessor_cache_mode_config(&self) -> bool {
+        DiskCache::use_preprocessor_cache_mode(self)
     }
 
     fn basedirs(&self) -> &[ByteText] {
-        DiskStorage::basedirs(self)
+        DiskCache::basedirs(self)
     }
 }

@@ -65,7 +65,7 @@ impl<'a, S: Storage> StoreFacts for StorageFacts<'a, S> {
     }
 
     fn use_preprocessor_cache_mode(&self) -> bool {
-        self.store.use_preprocessor_cache_mode()
+        self.store.preprocessor_cache_mode_config()
     }
 
     fn basedirs(&self) -> &[ByteText] {

@@ -135,7 +135,7 @@ impl<R: Remote + Drop, D: Disk + Drop, V: Vouch> Storage for MultiLevelStorage<R
         Ok(Some(Items::from_vec(counters)))
     }
 
-    fn use_preprocessor_cache_mode(&self) -> bool {
+    fn preprocessor_cache_mode_config(&self) -> bool {
         MultiLevelStorage::use_preprocessor_cache_mode(self)
     }
 

@@ -160,7 +160,7 @@ impl<R: Remote + Drop, D: Disk + Drop, V: Vouch> Storage for Level<R, D, V> {
         Ok(None)
     }
 
-    fn use_preprocessor_cache_mode(&self) -> bool {
+    fn preprocessor_cache_mode_config(&self) -> bool {
         Level::use_preprocessor_cache_mode(self)
     }
 

@@ -13,7 +13,7 @@ use sc_disk::Disk;
 use sc_entry::{ByteText, Cache, CacheRead, Items, NoMemory, ReadEntryError, Text};
 use sc_model::{Answer, Handed, Mode};
 use sc_stats::LevelStats;
-use sc_store::{Levels, Remote, Vouch};
+use sc_store::{Layered, Remote, Vouch};
 use std::alloc::Global;
 
 /// What a lookup found, and at which level.
@@ -27,7 +27,7 @@ pub(crate) struct Hit {
 /// Looks a key up at one level, and at no other, and counts there what it answers.
 pub(crate) fn ask_level<R: Remote, D: Disk + Drop, V: Vouch>(
     alloc: Global,
-    levels: &mut Levels<R, D, V>,
+    levels: &mut Layered<R, D, V>,
     counters: &mut [LevelStats],
     level: usize,
     key: &Text,
@@ -60,7 +60,7 @@ fn hit_in(level: u64, answer: Answer) -> Option<Hit>
 /// Asks the levels in order, until one hits.
 fn find<R: Remote, D: Disk + Drop, V: Vouch>(
     alloc: Global,
-    levels: &mut Levels<R, D, V>,
+    levels: &mut Layered<R, D, V>,
     counters: &mut [LevelStats],
     key: &Text,
     mode: Mode,
@@ -98,7 +98,7 @@ pub(crate) fn entry_of(alloc: Global, bytes: ByteText) -> Result<Cache, NoMemory
 /// The writes that a hit hands on.
 fn handed_for<R: Remote, D: Disk, V: Vouch>(
     alloc: Global,
-    levels: &Levels<R, D, V>,
+    levels: &Layered<R, D, V>,
     key: &Text,
     mode: Mode,
     level: u64,
@@ -114,7 +114,7 @@ fn handed_for<R: Remote, D: Disk, V: Vouch>(
 /// Looks a key up, level by level. A hit's bytes go to the levels before it.
 pub(crate) fn look_up<R: Remote, D: Disk + Drop, V: Vouch>(
     alloc: Global,
-    levels: &mut Levels<R, D, V>,
+    levels: &mut Layered<R, D, V>,
     counters: &mut [LevelStats],
     key: &Text,
     mode: Mode,

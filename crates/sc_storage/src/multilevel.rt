@@ -28,7 +28,7 @@ use sc_disk::Disk;
 use sc_entry::{ByteText, Cache, CacheMode, CacheWrite, Items, NoMemory, Text};
 use sc_model::{Answer, LevelPolicy, Mode, Policy, Put, Written};
 use sc_stats::LevelStats;
-use sc_store::{Checked, Level, Levels, Remote, Vouch};
+use sc_store::{Checked, Layered, Level, Remote, Vouch};
 use sc_store_config::{ConfigError, StoreConfig, WriteErrorPolicy, storage_from_config};
 use std::alloc::Global;
 use std::marker::Model;
@@ -37,7 +37,7 @@ use std::marker::Model;
 /// and the base directories.
 #[derive(Drop)]
 pub struct MultiLevelStorage<R: Remote, D: Disk, V: Vouch> {
-    levels: Levels<R, D, V>,
+    levels: Layered<R, D, V>,
     counters: Vec<LevelStats>,
     basedirs: Vec<ByteText>,
 }
@@ -61,7 +61,7 @@ impl<R: Remote, D: Disk, V: Vouch> Model for MultiLevelStorage<R, D, V> {
 /// Levels as one store, of which nothing is counted yet.
 fn of_levels<R: Remote + Drop, D: Disk + Drop, V: Vouch>(
     alloc: Global,
-    levels: Levels<R, D, V>,
+    levels: Layered<R, D, V>,
 ) -> Result<MultiLevelStorage<R, D, V>, NoMemory>
     requires { is_single levels.policy ≡ false }
     ensures held { IfOk result (λ store. store.held ≡ levels) }
@@ -108,7 +108,7 @@ impl<R: Remote + Drop, D: Disk + Drop, V: Vouch> MultiLevelStorage<R, D, V> {
     ) -> Result<MultiLevelStorage<R, D, V>, NoMemory>
         ensures { IfOk result (λ store. IsNew (held_levels levels.items (ByLevel policies)) store) }
     {
-        let store = of_levels(alloc, Levels::new(levels, Policy::Levels(policies)))?;
+        let store = of_levels(alloc, Layered::new(levels, Policy::Levels(policies)))?;
         Ok(store)
     }
 
@@ -132,7 +132,7 @@ impl<R: Remote + Drop, D: Disk + Drop, V: Vouch> MultiLevelStorage<R, D, V> {
 
 impl<R: Remote, D: Disk, V: Vouch> MultiLevelStorage<R, D, V> {
     /// The levels.
-    pub fn levels(&self) -> &Levels<R, D, V>
+    pub fn levels(&self) -> &Layered<R, D, V>
         ensures { result.now ≡ self.now.held }
     {
         &self.levels

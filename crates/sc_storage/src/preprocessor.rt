@@ -11,7 +11,7 @@ ghost use Rattle.sc_storage.specs.Preprocessor as preprocessor;
 use sc_disk::Disk;
 use sc_entry::{NoMemory, Queue, Text};
 use sc_model::{Answer, Mode, Written};
-use sc_store::{Levels, Remote, Vouch};
+use sc_store::{Layered, Remote, Vouch};
 use std::alloc::Global;
 
 fn is_miss(answer: &Answer) -> bool
@@ -26,7 +26,7 @@ fn is_miss(answer: &Answer) -> bool
 /// Looks an entry of the preprocessor up at one level, and at no other.
 fn ask_level<R: Remote, D: Disk + Drop, V: Vouch>(
     alloc: Global,
-    levels: &mut Levels<R, D, V>,
+    levels: &mut Layered<R, D, V>,
     level: usize,
     key: &Text,
     now: u64,
@@ -41,7 +41,7 @@ fn ask_level<R: Remote, D: Disk + Drop, V: Vouch>(
 /// Asks the levels in order, until one finds the entry or refuses.
 pub(crate) fn ask_each<R: Remote, D: Disk + Drop, V: Vouch>(
     alloc: Global,
-    levels: &mut Levels<R, D, V>,
+    levels: &mut Layered<R, D, V>,
     key: &Text,
     now: u64,
 ) -> Result<Answer, NoMemory>
@@ -62,7 +62,7 @@ pub(crate) fn ask_each<R: Remote, D: Disk + Drop, V: Vouch>(
 
 /// Puts an entry of the preprocessor at one level, and at no other.
 fn put_level<R: Remote, D: Disk + Drop, V: Vouch>(
-    levels: &mut Levels<R, D, V>,
+    levels: &mut Layered<R, D, V>,
     level: usize,
     key: &Text,
     bytes: &[u8],
@@ -78,7 +78,7 @@ fn put_level<R: Remote, D: Disk + Drop, V: Vouch>(
 /// The levels that take such an entry.
 fn plan_of<R: Remote, D: Disk, V: Vouch>(
     alloc: Global,
-    levels: &Levels<R, D, V>,
+    levels: &Layered<R, D, V>,
 ) -> Result<Queue<u64>, NoMemory>
     requires { is_single levels.now.policy ≡ false }
     ensures plan { IfOk result (λ taking. taking ≡ plans.pre_plan levels.now.policy levels.now.facts) }
@@ -91,7 +91,7 @@ fn plan_of<R: Remote, D: Disk, V: Vouch>(
 /// Puts it at each of the levels that take it, in order, whatever that comes to.
 pub(crate) fn put_each<R: Remote, D: Disk + Drop, V: Vouch>(
     alloc: Global,
-    levels: &mut Levels<R, D, V>,
+    levels: &mut Layered<R, D, V>,
     key: &Text,
     bytes: &[u8],
     now: u64,

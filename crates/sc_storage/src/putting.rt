@@ -19,13 +19,13 @@ use sc_disk::{Disk, LruDiskCacheAddEntry};
 use sc_entry::{ByteText, Items, NoMemory, Queue, Text};
 use sc_model::{Bytes, Handed, LevelKind, Put, Refusal, Written};
 use sc_stats::LevelStats;
-use sc_store::{EntryError, Filling, Levels, Remote, Reservation, Vouch};
+use sc_store::{EntryError, Filling, Layered, Remote, Reservation, Vouch};
 use std::alloc::Global;
 
 /// Puts an entry at a remote level, and at no other.
 fn put_remote<R: Remote, D: Disk + Drop, V: Vouch>(
     alloc: Global,
-    levels: &mut Levels<R, D, V>,
+    levels: &mut Layered<R, D, V>,
     level: usize,
     key: &Text,
     bytes: &ByteText,
@@ -41,7 +41,7 @@ fn put_remote<R: Remote, D: Disk + Drop, V: Vouch>(
 
 /// Fills an entry that is open.
 fn fill<R: Remote, D: Disk + Drop, V: Vouch>(
-    levels: &mut Levels<R, D, V>,
+    levels: &mut Layered<R, D, V>,
     level: usize,
     entry: LruDiskCacheAddEntry,
     bytes: &ByteText,
@@ -65,7 +65,7 @@ fn fill<R: Remote, D: Disk + Drop, V: Vouch>(
 
 /// Commits an entry that is open.
 fn commit<R: Remote, D: Disk + Drop, V: Vouch>(
-    levels: &mut Levels<R, D, V>,
+    levels: &mut Layered<R, D, V>,
     level: usize,
     entry: LruDiskCacheAddEntry,
     now: u64,
@@ -89,7 +89,7 @@ fn commit<R: Remote, D: Disk + Drop, V: Vouch>(
 
 /// Puts an entry at a disk level, and at no other. What it opens it closes, whatever it comes to. The key gets this mark.
 fn put_disk<R: Remote, D: Disk + Drop, V: Vouch>(
-    levels: &mut Levels<R, D, V>,
+    levels: &mut Layered<R, D, V>,
     level: usize,
     key: &Text,
     bytes: &ByteText,
@@ -115,7 +115,7 @@ fn put_disk<R: Remote, D: Disk + Drop, V: Vouch>(
 /// Puts an entry at one level, and at no other, and counts there what it came to.
 pub(crate) fn write_level<R: Remote, D: Disk + Drop, V: Vouch>(
     alloc: Global,
-    levels: &mut Levels<R, D, V>,
+    levels: &mut Layered<R, D, V>,
     counters: &mut [LevelStats],
     backfill: bool,
     level: u64,
@@ -160,7 +160,7 @@ fn ends(refusal: Refusal) -> bool
 /// Puts an entry at each of these levels in order. The first refusal is the answer; that of level 0 ends the puts.
 fn write_each<R: Remote, D: Disk + Drop, V: Vouch>(
     alloc: Global,
-    levels: &mut Levels<R, D, V>,
+    levels: &mut Layered<R, D, V>,
     counters: &mut [LevelStats],
     plan: Queue<u64>,
     put: &Bytes,
@@ -187,7 +187,7 @@ fn write_each<R: Remote, D: Disk + Drop, V: Vouch>(
 /// Makes writes that were handed on, in order.
 pub(crate) fn write_handed<R: Remote, D: Disk + Drop, V: Vouch>(
     alloc: Global,
-    levels: &mut Levels<R, D, V>,
+    levels: &mut Layered<R, D, V>,
     counters: &mut [LevelStats],
     backfill: bool,
     handed: &[Handed],
@@ -218,7 +218,7 @@ pub(crate) fn write_handed<R: Remote, D: Disk + Drop, V: Vouch>(
 /// The levels that are written before the answer.
 fn plan_of<R: Remote, D: Disk, V: Vouch>(
     alloc: Global,
-    levels: &Levels<R, D, V>,
+    levels: &Layered<R, D, V>,
 ) -> Result<Queue<u64>, NoMemory>
     requires { is_single levels.now.policy ≡ false }
     ensures plan { IfOk result (λ levels_of. levels_of ≡ plans.plan levels.now.policy levels.now.facts) }
@@ -231,7 +231,7 @@ fn plan_of<R: Remote, D: Disk, V: Vouch>(
 /// The writes that a put hands on.
 fn handed_by<R: Remote, D: Disk, V: Vouch>(
     alloc: Global,
-    levels: &Levels<R, D, V>,
+    levels: &Layered<R, D, V>,
     put: &Bytes,
     refusal: Refusal,
 ) -> Result<Items<Handed>, NoMemory>
@@ -246,7 +246,7 @@ fn handed_by<R: Remote, D: Disk, V: Vouch>(
 /// handed on.
 pub(crate) fn put<R: Remote, D: Disk + Drop, V: Vouch>(
     alloc: Global,
-    levels: &mut Levels<R, D, V>,
+    levels: &mut Layered<R, D, V>,
     counters: &mut [LevelStats],
     key: &Text,
     bytes: ByteText,

@@ -108,8 +108,8 @@ impl<S: Storage + Drop> Storage for ReadOnlyStorage<S> {
         Ok(None)
     }
 
-    fn use_preprocessor_cache_mode(&self) -> bool {
-        self.store.use_preprocessor_cache_mode()
+    fn preprocessor_cache_mode_config(&self) -> bool {
+        self.store.preprocessor_cache_mode_config()
     }
 
     fn basedirs(&self) -> &[ByteText] {

@@ -149,7 +149,7 @@ impl<R: Remote, V: Vouch> Storage for RemoteStorage<R, V> {
         Ok(None)
     }
 
-    fn use_preprocessor_cache_mode(&self) -> bool {
+    fn preprocessor_cache_mode_config(&self) -> bool {
         RemoteStorage::use_preprocessor_cache_mode(self)
     }
 

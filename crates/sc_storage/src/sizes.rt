@@ -7,7 +7,7 @@ ghost use Rattle.sc_store.specs.Levels.{held_level};
 ghost use Rattle.sc_store.specs.Telling.{known};
 
 use sc_disk::Disk;
-use sc_store::{Level, Levels, ReadOnlyLevel, Remote, Vouch};
+use sc_store::{Layered, Level, ReadOnlyLevel, Remote, Vouch};
 
 /// What one level takes, as far as that is known.
 fn level_size<R: Remote, D: Disk, V: Vouch>(level: &Level<R, D, V>) -> u64
@@ -34,7 +34,7 @@ fn level_size<R: Remote, D: Disk, V: Vouch>(level: &Level<R, D, V>) -> u64
 }
 
 /// What all levels take, as far as that is known: None where that is nothing. The sum stops at the end of `u64`.
-pub(crate) fn current_size<R: Remote, D: Disk, V: Vouch>(levels: &Levels<R, D, V>) -> Option<u64>
+pub(crate) fn current_size<R: Remote, D: Disk, V: Vouch>(levels: &Layered<R, D, V>) -> Option<u64>
     ensures { levels.now.told ≡ true → result ≡ follows.some_size (size_sum levels.now) }
 {
     let count = levels.len();

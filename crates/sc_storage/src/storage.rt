@@ -126,7 +126,7 @@ pub trait Storage {
         ensures { IfOk result (λ levels. levels ≡ storages.levels_of (state self.now)) };
 
     /// Whether it is to keep entries of the preprocessor.
-    fn use_preprocessor_cache_mode(&self) -> bool
+    fn preprocessor_cache_mode_config(&self) -> bool
         ensures { result ≡ storages.flag_of (state self.now) };
 
     /// The base directories that it was given, in order, each once.

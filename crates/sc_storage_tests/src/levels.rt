@@ -4,7 +4,7 @@ use sc_entry::{ByteText, Cache, CacheMode, CacheWrite, Calls, Items, Text};
 use sc_model::{Answer, LevelPolicy, Mode, Put};
 use sc_stats::LevelStats;
 use sc_storage::MultiLevelStorage;
-use sc_store::{DiskCache, DiskStorage, Level, MemRemote, RemoteStorage, Unvouched};
+use sc_store::{DiskCache, Level, MemRemote, RemoteStorage, Unvouched};
 use sc_store_config::{DiskConfig, StoreConfig, WriteErrorPolicy};
 use std::alloc::Global;
 use std::collections::BTreeMap;
@@ -48,11 +48,10 @@ pub(crate) fn disk_store(
     alloc: Global,
     fails: u64,
     mode: CacheMode,
-) -> Result<DiskStorage<MemDisk, Unvouched>, Fail> {
+) -> Result<DiskCache<MemDisk, Unvouched>, Fail> {
     let main = disk(alloc, b"/0", fails)?;
     let pre = disk(alloc, b"/0p", 0)?;
-    let cache = DiskCache::new(alloc, main, pre, 100, mode);
-    Ok(DiskStorage::new(cache, true, Items::new(alloc)))
+    Ok(DiskCache::new(alloc, main, pre, 100, true, mode, Items::new(alloc)))
 }
 
 /// The same as a level.

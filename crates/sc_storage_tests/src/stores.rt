@@ -5,7 +5,7 @@ use sc_entry::{ByteText, Cache, CacheMode, CacheWrite, GetPathResult, Items, Tex
 use sc_model::LevelPolicy;
 use sc_stats::{ServerInfo, ServerStats};
 use sc_storage::{MultiLevelStorage, ReadOnlyStorage, Storage, StorageError, StorageFacts};
-use sc_store::{DiskCache, DiskStorage, Level, MemRemote, RemoteStorage, Unvouched};
+use sc_store::{DiskCache, Level, MemRemote, RemoteStorage, Unvouched};
 use std::alloc::Global;
 use std::test::Fail;
 
@@ -141,8 +141,8 @@ fn preprocessor_level(alloc: Global) -> Result<OneLevel, Fail> {
         Err(_) => return Err(Fail::new("no bytes")),
     }
     let main = disk(alloc, b"/0", 0)?;
-    let cache = DiskCache::new(alloc, main, pre, 100, CacheMode::ReadWrite);
-    Ok(Level::Disk(DiskStorage::new(cache, true, Items::new(alloc))))
+    let (mode, basedirs) = (CacheMode::ReadWrite, Items::new(alloc));
+    Ok(Level::Disk(DiskCache::new(alloc, main, pre, 100, true, mode, basedirs)))
 }
 
 /// Whether a check finds that a store is only read.

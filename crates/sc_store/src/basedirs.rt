@@ -5,7 +5,7 @@ ghost use Rattle.sc_store.specs.Basedirs.{IsSetOf, basedirs_of, collect};
 ghost use Rattle.sc_store.specs.Telling.{titles_of};
 
 use crate::level::Level;
-use crate::levels::Levels;
+use crate::levels::Layered;
 use crate::remote::Remote;
 use crate::vouch::Vouch;
 use sc_disk::Disk;
@@ -37,7 +37,7 @@ fn add<'a>(
 /// The base directories of all levels, in the order in which they first appear.
 pub(crate) fn collect_basedirs<R: Remote, D: Disk, V: Vouch>(
     alloc: Global,
-    levels: &Levels<R, D, V>,
+    levels: &Layered<R, D, V>,
 ) -> Result<Vec<ByteText>, NoMemory>
     ensures { IfOk result (λ basedirs. basedirs.items ≡ basedirs_of levels.now.titles) }
 {

@@ -20,7 +20,7 @@ ghost use Rattle.sc_store.specs.Levels.{held_level};
 ghost use Rattle.sc_store.specs.Telling.{level_max};
 
 use crate::checked::Checked;
-use crate::disk_storage::DiskStorage;
+use crate::disk_cache::DiskCache;
 use crate::read_only::ReadOnlyLevel;
 use crate::remote::Remote;
 use crate::remote_storage::RemoteStorage;
@@ -42,7 +42,7 @@ fn only_read() -> Cause
 #[derive(Drop)]
 pub enum Level<R: Remote, D: Disk, V: Vouch> {
     Remote(RemoteStorage<R, V>),
-    Disk(DiskStorage<D, V>),
+    Disk(DiskCache<D, V>),
     ReadOnly(ReadOnlyLevel<R, D, V>),
 }
 

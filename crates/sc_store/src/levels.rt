@@ -33,12 +33,12 @@ use std::marker::Model;
 /// The store of a daemon: its levels in order, and its policy. Contracts see what does not change of each level, the
 /// policy, whether every level tells what it holds, and what each holds where it tells that.
 #[derive(Drop)]
-pub struct Levels<R: Remote, D: Disk, V: Vouch> {
+pub struct Layered<R: Remote, D: Disk, V: Vouch> {
     pub(crate) levels: Vec<Level<R, D, V>>,
     pub(crate) policy: Policy,
 }
 
-impl<R: Remote, D: Disk, V: Vouch> Model for Levels<R, D, V> {
+impl<R: Remote, D: Disk, V: Vouch> Model for Layered<R, D, V> {
     ghost use Rattle.sc_store.specs.Held.{Held, held_code};
 
     ghost Value = { Held };
@@ -75,13 +75,13 @@ fn are_unreserved<R: Remote, D: Disk, V: Vouch>(levels: &[Level<R, D, V>]) -> bo
     true
 }
 
-impl<R: Remote, D: Disk, V: Vouch> Levels<R, D, V> {
+impl<R: Remote, D: Disk, V: Vouch> Layered<R, D, V> {
     /// The store of these levels, in their order.
-    pub fn new(levels: Vec<Level<R, D, V>>, policy: Policy) -> Levels<R, D, V>
+    pub fn new(levels: Vec<Level<R, D, V>>, policy: Policy) -> Layered<R, D, V>
         ensures { result ≡ held_levels levels.items policy }
     {
         keep_all(&levels);
-        Levels { levels, policy }
+        Layered { levels, policy }
     }
 
     /// What the levels keep, after each call and also after a refusal: each disk level's files and reservations take at most
@@ -154,7 +154,7 @@ impl<R: Remote, D: Disk, V: Vouch> Levels<R, D, V> {
     }
 }
 
-impl<R: Remote, D: Disk + Drop, V: Vouch> Levels<R, D, V> {
+impl<R: Remote, D: Disk + Drop, V: Vouch> Layered<R, D, V> {
     /// Looks a key up at one level, and at no other, at this moment.
     pub fn ask(
         &mut self,

@@ -3,7 +3,7 @@
 
 mod basedirs;
 mod checked;
-mod disk_storage;
+mod disk_cache;
 mod level;
 mod levels;
 mod mem_remote;
@@ -16,12 +16,12 @@ mod telling;
 mod vouch;
 
 pub use checked::Checked;
-pub use disk_storage::DiskStorage;
+pub use disk_cache::DiskCache;
 pub use level::Level;
-pub use levels::Levels;
+pub use levels::Layered;
 pub use mem_remote::MemRemote;
 pub use read_only::{ReadOnlyLevel, ReadOnlyStorage};
 pub use remote::{Remote, RemoteRead, RemoteWrite};
 pub use remote_storage::RemoteStorage;
-pub use sc_disk_cache::{DiskCache, EntryError, Filling, Reservation};
+pub use sc_disk_cache::{EntryCache, EntryError, Filling, Reservation};
 pub use vouch::{Unvouched, Vouch};

@@ -6,7 +6,7 @@ ghost use Rattle.sc_store.specs.Levels.{held_level};
 ghost use Rattle.sc_store.specs.Planning.{facts_of, planned, test_of};
 
 use crate::level::Level;
-use crate::levels::Levels;
+use crate::levels::Layered;
 use crate::remote::Remote;
 use crate::remote_storage::is_read_only;
 use crate::vouch::Vouch;
@@ -135,7 +135,7 @@ fn hit_bytes(key: &Text, bytes: &ByteText, mark: bool) -> Result<Bytes, NoMemory
     })
 }
 
-impl<R: Remote, D: Disk, V: Vouch> Levels<R, D, V> {
+impl<R: Remote, D: Disk, V: Vouch> Layered<R, D, V> {
     /// Whether one store stands alone, and is written by itself.
     pub fn is_single(&self) -> bool
         ensures { result ≡ single self.now.policy }

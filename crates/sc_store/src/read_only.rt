@@ -2,7 +2,7 @@
 ghost use Rattle.sc_store.specs.Held.{IsWithin};
 ghost use Rattle.sc_store.specs.Levels.{held_read_only};
 
-use crate::disk_storage::DiskStorage;
+use crate::disk_cache::DiskCache;
 use crate::remote::Remote;
 use crate::remote_storage::RemoteStorage;
 use crate::vouch::Vouch;
@@ -18,7 +18,7 @@ pub struct ReadOnlyStorage<S> {
 #[derive(Drop)]
 pub enum ReadOnlyLevel<R: Remote, D: Disk, V: Vouch> {
     Remote(ReadOnlyStorage<RemoteStorage<R, V>>),
-    Disk(ReadOnlyStorage<DiskStorage<D, V>>),
+    Disk(ReadOnlyStorage<DiskCache<D, V>>),
 }
 
 impl<R: Remote, D: Disk, V: Vouch> ReadOnlyLevel<R, D, V> {

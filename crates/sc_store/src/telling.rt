@@ -9,7 +9,7 @@ ghost use Rattle.sc_store.specs.Telling as telling;
 
 use crate::basedirs::{collect_basedirs, first_basedirs};
 use crate::level::Level;
-use crate::levels::Levels;
+use crate::levels::Layered;
 use crate::remote::Remote;
 use crate::remote_storage::is_read_only;
 use crate::vouch::Vouch;
@@ -168,7 +168,7 @@ fn first_max<R: Remote, D: Disk, V: Vouch>(levels: &[Level<R, D, V>]) -> Option<
     }
 }
 
-impl<R: Remote, D: Disk, V: Vouch> Levels<R, D, V> {
+impl<R: Remote, D: Disk, V: Vouch> Layered<R, D, V> {
     /// What type the store has, in a word.
     pub fn cache_type_name(&self) -> &str
         ensures { result.now ≡ telling.store_type self.now.policy self.now.titles }

@@ -14,7 +14,7 @@ use crate::write_error_policy::WriteErrorPolicy;
 use sc_disk::Disk;
 use sc_entry::{ByteText, Items, NoMemory, Text};
 use sc_model::{LevelPolicy, Policy};
-use sc_store::{DiskCache, DiskStorage, Level, Levels, Remote, RemoteStorage, Vouch};
+use sc_store::{DiskCache, Layered, Level, Remote, RemoteStorage, Vouch};
 use std::alloc::Global;
 
 /// A copy of the base directories.
@@ -45,12 +45,19 @@ pub(crate) fn build_disk<D: Disk + Drop, V: Vouch>(
     alloc: Global,
     config: DiskConfig<D>,
     basedirs: &[ByteText],
-) -> Result<DiskStorage<D, V>, NoMemory>
+) -> Result<DiskCache<D, V>, NoMemory>
     ensures { IfOk result (λ store. store ≡ configs.disk_as D.state basedirs.now config) }
 {
     let basedirs = copy_of(alloc, basedirs)?;
-    let cache = DiskCache::new(alloc, config.main, config.pre, config.max_size, config.mode);
-    Ok(DiskStorage::new(cache, config.use_preprocessor_cache_mode, basedirs))
+    Ok(DiskCache::new(
+        alloc,
+        config.main,
+        config.pre,
+        config.max_size,
+        config.use_preprocessor_cache_mode,
+        config.mode,
+        basedirs,
+    ))
 }
 
 /// The levels that a chain names, in its order.
@@ -119,7 +126,7 @@ fn single_level<R: Remote + Drop, D: Disk + Drop, V: Vouch>(
 fn single_store<R: Remote + Drop, D: Disk + Drop, V: Vouch>(
     alloc: Global,
     config: StoreConfig<R, D>,
-) -> Result<Levels<R, D, V>, NoMemory>
+) -> Result<Layered<R, D, V>, NoMemory>
     ensures { IfOk result (λ store. store ≡ configs.single_store (configs.remote_as R.names R.held R.fault_count R.loss_count R.calls config.basedirs config.skip_cache_check) (configs.disk_as D.state config.basedirs) config) }
 {
     let level = single_level(
@@ -131,14 +138,14 @@ fn single_store<R: Remote + Drop, D: Disk + Drop, V: Vouch>(
     )?;
     let mut levels = Vec::new(alloc);
     levels.push(level)?;
-    Ok(Levels::new(levels, Policy::Single))
+    Ok(Layered::new(levels, Policy::Single))
 }
 
 /// The store of a chain's levels.
 fn chain_store<R: Remote + Drop, D: Disk + Drop, V: Vouch>(
     alloc: Global,
     config: StoreConfig<R, D>,
-) -> Result<Levels<R, D, V>, ConfigError>
+) -> Result<Layered<R, D, V>, ConfigError>
     ensures store { IfOk result (λ store. configs.chain_store (configs.remote_as R.names R.held R.fault_count R.loss_count R.calls config.basedirs config.skip_cache_check) (configs.disk_as D.state config.basedirs) config ≡ Ok store) }
     ensures fault { IfErr result (λ error. configs.IsCause error (configs.chain_store (configs.remote_as R.names R.held R.fault_count R.loss_count R.calls config.basedirs config.skip_cache_check) (configs.disk_as D.state config.basedirs) config)) }
 {
@@ -159,7 +166,7 @@ fn chain_store<R: Remote + Drop, D: Disk + Drop, V: Vouch>(
         config.basedirs.as_slice(),
         config.skip_cache_check,
     )?;
-    Ok(Levels::new(levels, Policy::Levels(policies)))
+    Ok(Layered::new(levels, Policy::Levels(policies)))
 }
 
 /// The store that a configuration makes: the levels of the chain, where it names any; else the one remote store, where
@@ -169,7 +176,7 @@ fn chain_store<R: Remote + Drop, D: Disk + Drop, V: Vouch>(
 pub fn storage_from_config<R: Remote + Drop, D: Disk + Drop, V: Vouch>(
     alloc: Global,
     config: StoreConfig<R, D>,
-) -> Result<Levels<R, D, V>, ConfigError>
+) -> Result<Layered<R, D, V>, ConfigError>
     ensures store { IfOk result (λ store. configs.store_of (configs.remote_as R.names R.held R.fault_count R.loss_count R.calls config.basedirs config.skip_cache_check) (configs.disk_as D.state config.basedirs) config ≡ Ok store) }
     ensures fault { IfErr result (λ error. configs.IsCause error (configs.store_of (configs.remote_as R.names R.held R.fault_count R.loss_count R.calls config.basedirs config.skip_cache_check) (configs.disk_as D.state config.basedirs) config)) }
 {

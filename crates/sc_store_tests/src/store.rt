@@ -1,9 +1,9 @@
 use sc_disk::MemDisk;
-use sc_disk_cache::{DiskCache, Filling, Reservation};
+use sc_disk_cache::{Filling, Reservation};
 use sc_entry::{ByteText, CacheMode, Calls, Items, Text};
 use sc_model::{Answer, Cause, LevelKind, Mode, Policy, RemoteFault, Store, Written};
 use sc_store::{
-    Checked, DiskStorage, Level, Levels, MemRemote, ReadOnlyLevel, ReadOnlyStorage, Remote,
+    Checked, DiskCache, Layered, Level, MemRemote, ReadOnlyLevel, ReadOnlyStorage, Remote,
     RemoteRead, RemoteStorage, RemoteWrite, Unvouched,
 };
 use std::alloc::Global;
@@ -97,7 +97,7 @@ fn ample_remote(rt: HostRuntime) -> Result<(), Fail> {
 /// One lookup, told in words; the levels are known to the caller alone.
 fn ask(
     alloc: Global,
-    levels: &mut Levels<MemRemote, MemDisk, Unvouched>,
+    levels: &mut Layered<MemRemote, MemDisk, Unvouched>,
     level: usize,
     key: &str,
     mode: Mode,
@@ -115,7 +115,7 @@ fn ask(
 
 fn put(
     alloc: Global,
-    levels: &mut Levels<MemRemote, MemDisk, Unvouched>,
+    levels: &mut Layered<MemRemote, MemDisk, Unvouched>,
     level: usize,
     key: &str,
     from_run: bool,
@@ -133,7 +133,7 @@ fn put(
 }
 
 /// Two levels, the second read-only.
-fn small_levels(alloc: Global, fails: u64) -> Result<Levels<MemRemote, MemDisk, Unvouched>, Fail> {
+fn small_levels(alloc: Global, fails: u64) -> Result<Layered<MemRemote, MemDisk, Unvouched>, Fail> {
     let mut levels = Vec::new(alloc);
     let empty = MemRemote::new(alloc, Items::new(alloc), Items::new(alloc))?;
     levels.push(Level::Remote(RemoteStorage::new(
@@ -148,7 +148,7 @@ fn small_levels(alloc: Global, fails: u64) -> Result<Levels<MemRemote, MemDisk, 
         Items::new(alloc),
         CacheMode::ReadOnly,
     )))?;
-    Ok(Levels::new(levels, Policy::Levels(Items::new(alloc))))
+    Ok(Layered::new(levels, Policy::Levels(Items::new(alloc))))
 }
 
 #[test]
@@ -214,7 +214,7 @@ fn check(
     );
     let store = store.with_skip_cache_check(skips);
     let levels: Vec<Level<MemRemote, MemDisk, Unvouched>> = vec![in alloc; Level::Remote(store)]?;
-    let mut levels = Levels::new(levels, Policy::Single);
+    let mut levels = Layered::new(levels, Policy::Single);
     assert!(rt; levels.len() > 0);
     let found = told_checked(levels.check_step(alloc, 0)?);
     assert!(rt; levels.len() > 0);
@@ -292,7 +292,7 @@ fn levels_have_the_base_directories_of_all(rt: HostRuntime) -> Result<(), Fail> 
     let alloc = rt.alloc();
     let mut levels = vec![in alloc; given(alloc, [b"/home", b"/work"])?]?;
     levels.push(given(alloc, [b"/work", b"/opt"])?)?;
-    let levels = Levels::new(levels, Policy::Levels(Items::new(alloc)));
+    let levels = Layered::new(levels, Policy::Levels(Items::new(alloc)));
     assert_eq!(rt; levels.basedirs(alloc)?.len(), 3);
     assert!(rt; !levels.use_preprocessor_cache_mode());
     Ok(())
@@ -302,7 +302,7 @@ fn levels_have_the_base_directories_of_all(rt: HostRuntime) -> Result<(), Fail> 
 fn single_store_has_its_own_base_directories(rt: HostRuntime) -> Result<(), Fail> {
     let alloc = rt.alloc();
     let levels = vec![in alloc; given(alloc, [b"/home", b"/home"])?]?;
-    let single = Levels::new(levels, Policy::Single);
+    let single = Layered::new(levels, Policy::Single);
     assert_eq!(rt; single.basedirs(alloc)?.len(), 2);
     Ok(())
 }
@@ -318,13 +318,13 @@ fn single_read_only(rt: HostRuntime) -> Result<(), Fail> {
     );
     assert_eq!(rt; store.remote().faults(), 0);
     let levels = vec![in alloc; Level::Remote(store)]?;
-    let mut single = Levels::new(levels, Policy::Single);
+    let mut single = Layered::new(levels, Policy::Single);
     assert_eq!(rt; put(alloc, &mut single, 0, "no key", true)?, "read-only");
     Ok(())
 }
 
 /// A level that is only read, over a store that can be written and holds the entry under `abc`.
-fn read_only_level(alloc: Global) -> Result<Levels<MemRemote, MemDisk, Unvouched>, Fail> {
+fn read_only_level(alloc: Global) -> Result<Layered<MemRemote, MemDisk, Unvouched>, Fail> {
     let store = RemoteStorage::new(
         alloc,
         small_remote(alloc, 0)?,
@@ -333,7 +333,7 @@ fn read_only_level(alloc: Global) -> Result<Levels<MemRemote, MemDisk, Unvouched
     );
     let level = Level::ReadOnly(ReadOnlyLevel::Remote(ReadOnlyStorage { store }));
     let levels = vec![in alloc; level]?;
-    Ok(Levels::new(levels, Policy::Levels(Items::new(alloc))))
+    Ok(Layered::new(levels, Policy::Levels(Items::new(alloc))))
 }
 
 #[test]
@@ -376,24 +376,25 @@ fn disk(alloc: Global, root: &[u8]) -> Result<MemDisk, Fail> {
 }
 
 /// One level over two such disks, of 100 bytes.
-fn disk_level(alloc: Global) -> Result<Levels<MemRemote, MemDisk, Unvouched>, Fail> {
-    let cache = DiskCache::new(
+fn disk_level(alloc: Global) -> Result<Layered<MemRemote, MemDisk, Unvouched>, Fail> {
+    let store = DiskCache::new(
         alloc,
         disk(alloc, b"/0")?,
         disk(alloc, b"/0p")?,
         100,
+        true,
         CacheMode::ReadWrite,
+        Items::new(alloc),
     );
-    let store = DiskStorage::new(cache, true, Items::new(alloc));
     let levels = vec![in alloc; Level::Disk(store)]?;
-    Ok(Levels::new(levels, Policy::Single))
+    Ok(Layered::new(levels, Policy::Single))
 }
 
 /// Stores an entry at a disk level, in three steps.
 fn store(
     rt: &impl Abort,
     alloc: Global,
-    levels: &mut Levels<MemRemote, MemDisk, Unvouched>,
+    levels: &mut Layered<MemRemote, MemDisk, Unvouched>,
     key: &str,
     entry: &[u8],
 ) -> Result<Written, Fail> {

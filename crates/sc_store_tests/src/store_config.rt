@@ -1,7 +1,7 @@
 use sc_disk::MemDisk;
 use sc_entry::{ByteText, CacheMode, Calls, Items, NoMemory, Text};
 use sc_model::{LevelKind, LevelPolicy, Policy};
-use sc_store::{Level, Levels, MemRemote, Unvouched};
+use sc_store::{Layered, Level, MemRemote, Unvouched};
 use sc_store_config::{
     ConfigError, DiskConfig, NamedRemote, RemoteConfig, StoreConfig, WriteErrorPolicy,
     build_single_cache, storage_from_config,
@@ -66,7 +66,7 @@ fn config(alloc: Global, chain: &[&str]) -> Result<Config, NoMemory> {
     })
 }
 
-fn made(alloc: Global, config: Config) -> Result<Levels<MemRemote, MemDisk, Unvouched>, Fail> {
+fn made(alloc: Global, config: Config) -> Result<Layered<MemRemote, MemDisk, Unvouched>, Fail> {
     match storage_from_config(alloc, config) {
         Ok(levels) => Ok(levels),
         Err(_) => Err(Fail::new("no store")),
