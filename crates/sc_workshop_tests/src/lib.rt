@@ -1,0 +1,5 @@
+//! Tests of `sc_workshop`.
+#![tactic(auto)]
+
+#[cfg(test)]
+mod workshop;
