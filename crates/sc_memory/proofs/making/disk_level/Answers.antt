@@ -13,5 +13,5 @@ pub returns : goal.returns
 returns c =
     let rule = c.args.rule in let f = c.in_ok-calls.ensures in
     let m = main_root c.args.level in let p = pre_root c.args.level in
-    let both : c.new-3.result ≡ of_disk nothing_given (unopened_store rule.mode rule.capacity (joined_state (joins (first_disk m rule.holds (Some c.in_ok-calls.calls)) (first_disk p [] (Some c.new.result))))) = search rules in
+    let both : c.new-store.result ≡ of_disk nothing_given (unopened_store rule.mode rule.capacity (joined_state (joins (first_disk m rule.holds (Some c.in_ok-calls.calls)) (first_disk p [] (Some c.new.result))))) = search rules in
     both ∙ calls_told rule.mode rule.capacity m p rule.holds c.in_ok-calls.calls c.new.result rule.fails (fails_none_from c.new.result c.new.ensures.failing) (new_calls c.in_ok-calls.calls rule.fails f.failing f.made)
