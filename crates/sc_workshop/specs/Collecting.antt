@@ -17,9 +17,10 @@ abbrev pub TakesOutput : Option FileMap → FileObjectSource → List Object →
 TakesOutput held s before after f g true = TakesSource held s before after f g
 TakesOutput held s before after f g false = (s.optional ≡ false) × Rose f g
 
--- The first required output that the files refused, behind those that were collected.
+-- The files refused a required output; those before it gave their objects, or were optional.
 abbrev pub LacksOne : Option FileMap → List FileObjectSource → List (List ℕ) → Type 0
-LacksOne held outputs chain = (i : ℕ) × (s : FileObjectSource) × (slice_get outputs i ≡ Some s) × (s.optional ≡ false) × (chain ≡ unread s.key)
+LacksOne held outputs chain =
+    (i : ℕ) × (os : List Object) × (s : FileObjectSource) × Gathered held outputs i os × (slice_get outputs i ≡ Some s) × (s.optional ≡ false) × (chain ≡ unread s.key)
 
 -- Each output in its order gives an object of its name that holds what stands at its path; an optional one that the files
 -- refuse is left out, and a required one takes the place of all. f, g: the files' counts of faults before and after.

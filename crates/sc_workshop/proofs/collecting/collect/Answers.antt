@@ -19,7 +19,7 @@ returns-then-not-branch-clause-collects g c =
     let at = at_place c.args.outputs.now c.loop-output.output-index c.output-item.result c.loop-output-test.true c.output-item.is in
     let lack = lacking (g.F.Files.held c.loop-output.files) c.output-item.result c.loop-output.objects c.take_output.new.objects (g.F.Files.fault_count c.loop-output.files) (g.F.Files.fault_count c.take_output.new.files)
     c.in_ok-take_output.field-0 c.if-not-branch.true c.in_ok-take_output.ensures.step in
-    ((c.loop-output.output-index, c.output-item.result, at, lack.0, c.in_ok-chain.ensures), rose_later (g.F.Files.fault_count c.args.files.now) (g.F.Files.fault_count c.loop-output.files) (g.F.Files.fault_count c.take_output.new.files) c.loop-output.invariant.later lack.1)
+    ((c.loop-output.output-index, c.loop-output.objects, c.output-item.result, c.loop-output.invariant.gathered, at, lack.0, c.in_ok-chain.ensures), rose_later (g.F.Files.fault_count c.args.files.now) (g.F.Files.fault_count c.loop-output.files) (g.F.Files.fault_count c.take_output.new.files) c.loop-output.invariant.later lack.1)
 
 pub loop-output-preserved : goal.loop-output-preserved
 loop-output-preserved g c =
