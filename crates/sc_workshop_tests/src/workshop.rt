@@ -6,7 +6,7 @@ use sc_command::{
 use sc_compile::{SingleCompileCommand, Workshop};
 use sc_entry::{
     ByteText, CacheWrite, Calls, FileObjectSource, Files, HostFiles, Items, MemFiles, NoMemory,
-    Text,
+    Object, Text,
 };
 use sc_model::{Objects, Output, RunAnswer, Status, Variable};
 use sc_workshop::{
@@ -14,8 +14,6 @@ use sc_workshop::{
 };
 use std::alloc::Global;
 use std::test::Fail;
-
-type Shop = CommandWorkshop<MockCommandCreator, MemFiles>;
 
 fn word(alloc: Global, text: &str) -> Result<ByteText, NoMemory> {
     ByteText::from_slice(alloc, text.as_bytes())
@@ -72,7 +70,11 @@ fn files_of(alloc: Global, failing: &[u64]) -> Result<MemFiles, Fail> {
     Ok(files)
 }
 
-fn run(shop: &mut Shop, alloc: Global, outputs: &[FileObjectSource]) -> Result<RunAnswer, Fail> {
+fn run<W: Workshop>(
+    shop: &mut W,
+    alloc: Global,
+    outputs: &[FileObjectSource],
+) -> Result<RunAnswer, Fail> {
     let key = Text::from_str(alloc, "key1")?;
     let command = shell(alloc, "cc")?;
     Ok(shop.run(alloc, &key, &command, outputs)?)
@@ -119,6 +121,26 @@ fn in_words(alloc: Global, answer: &RunAnswer) -> Result<String, Fail> {
     }
 }
 
+/// What a run collected.
+fn objects_of(answer: &RunAnswer) -> &[Object] {
+    match answer {
+        RunAnswer::Output(out) => match &out.objects {
+            Objects::Collected(objects) => objects.as_slice(),
+            Objects::Broken(_chain) => &[],
+        },
+        RunAnswer::ProcessError(_output) => &[],
+        RunAnswer::Fault(_chain) => &[],
+    }
+}
+
+fn is_success(answer: &RunAnswer) -> bool {
+    match answer {
+        RunAnswer::Output(out) => is_told(&out.output, Status::Code(0)),
+        RunAnswer::ProcessError(_output) => false,
+        RunAnswer::Fault(_chain) => false,
+    }
+}
+
 #[test]
 fn collects_outputs(rt: HostRuntime) -> Result<(), Fail> {
     let alloc = rt.alloc();
@@ -126,15 +148,11 @@ fn collects_outputs(rt: HostRuntime) -> Result<(), Fail> {
     let outputs = [output(alloc, "obj", false)?, output(alloc, "dep", true)?];
     let answer = run(&mut shop, alloc, &outputs)?;
     assert_eq!(rt; in_words(alloc, &answer)?.as_str(), "objects obj");
-    let RunAnswer::Output(out) = answer else {
-        return Ok(());
-    };
-    assert!(rt; is_told(&out.output, Status::Code(0)));
-    let Objects::Collected(objects) = out.objects else {
-        return Ok(());
-    };
-    assert_eq!(rt; objects.as_slice()[0].bytes.as_slice(), b"AB".as_slice());
-    assert_eq!(rt; objects.as_slice()[0].mode, Some(420));
+    assert!(rt; is_success(&answer));
+    for object in objects_of(&answer) {
+        assert_eq!(rt; object.bytes.as_slice(), b"AB".as_slice());
+        assert_eq!(rt; object.mode, Some(420));
+    }
     Ok(())
 }
 
@@ -214,62 +232,78 @@ fn entry_of(alloc: Global) -> Result<ByteText, Fail> {
     Ok(ByteText::from_vec(entry.finish()))
 }
 
+/// What a placing comes to, in words.
+fn placed<W: Workshop>(
+    shop: &mut W,
+    alloc: Global,
+    outputs: &[FileObjectSource],
+    entry: &ByteText,
+) -> Result<String, Fail> {
+    let key = Text::from_str(alloc, "key1")?;
+    match shop.place(alloc, &key, outputs, entry)? {
+        Some(chain) => told(alloc, chain.as_slice()),
+        None => Ok(String::from_str(alloc, "done")?),
+    }
+}
+
 #[test]
 fn places_an_entry(rt: HostRuntime) -> Result<(), Fail> {
     let alloc = rt.alloc();
-    let mut files = files_of(alloc, &[3])?;
-    files.read(&word(alloc, "/o/obj")?)?;
-    let mut shop = CommandWorkshop::new(creator_of(alloc, 0)?, files);
-    let (key, entry) = (Text::from_str(alloc, "key1")?, entry_of(alloc)?);
-    let (obj, dep) = (output(alloc, "obj", false)?, output(alloc, "dep", false)?);
-    let wanted = [obj];
-    let texts = [
-        "file fault",
-        "",
-        "failed to decompress content",
-        "Failed to parse cache entry",
-    ];
-    let torn = word(alloc, "SCE1")?;
-    let lacking = [dep];
-    for (place, text) in texts.iter().enumerate() {
-        let outputs = if place == 2 {
-            lacking.as_slice()
-        } else {
-            wanted.as_slice()
-        };
-        let bytes = if place == 3 { &torn } else { &entry };
-        let chain = shop.place(alloc, &key, outputs, bytes)?;
-        let words = match &chain {
-            Some(chain) => told(alloc, chain.as_slice())?,
-            None => String::new(alloc),
-        };
-        assert_eq!(rt; words.as_str(), *text);
-    }
+    let mut shop = CommandWorkshop::new(creator_of(alloc, 0)?, files_of(alloc, &[2])?);
+    let (entry, torn) = (entry_of(alloc)?, word(alloc, "SCE1")?);
+    let (obj, dep) = (
+        [output(alloc, "obj", false)?],
+        [output(alloc, "dep", false)?],
+    );
+    let refused = placed(&mut shop, alloc, &obj, &entry)?;
+    assert_eq!(rt; refused.as_str(), "file fault");
+    let done = placed(&mut shop, alloc, &obj, &entry)?;
+    assert_eq!(rt; done.as_str(), "done");
+    let lacking = placed(&mut shop, alloc, &dep, &entry)?;
+    assert_eq!(rt; lacking.as_str(), "failed to decompress content");
+    let bad = placed(&mut shop, alloc, &obj, &torn)?;
+    assert_eq!(rt; bad.as_str(), "Failed to parse cache entry");
     assert_eq!(rt; shop.faults(), 3);
     assert_eq!(rt; shop.files().faults(), 1);
     Ok(())
+}
+
+/// What an execution comes to, in a word.
+fn end_of(came: Result<sc_command::Output, ExecuteError>) -> &'static str {
+    match came {
+        Ok(_output) => "output",
+        Err(error) => match error {
+            ExecuteError::NoMemory => "no memory",
+            ExecuteError::ProcessError(_output) => "process error",
+            ExecuteError::NoChild => "no child",
+            ExecuteError::Refused(_refusal) => "refused",
+        },
+    }
 }
 
 #[test]
 fn passes_all_on(rt: HostRuntime) -> Result<(), Fail> {
     let alloc = rt.alloc();
     let mut creator = creator_of(alloc, 256)?;
-    let command = CCompileCommand::new(shell(alloc, "cc")?);
     let inner = shell(alloc, "cc")?;
     assert_eq!(rt; inner.get_executable().as_slice(), b"/bin/sh".as_slice());
     assert_eq!(rt; inner.get_cwd().as_slice(), b"/".as_slice());
     assert_eq!(rt; inner.get_arguments().len(), 2);
     assert_eq!(rt; inner.get_env_vars().len(), 1);
-    match command.execute(&mut creator) {
-        Err(ExecuteError::ProcessError(output)) => assert_eq!(rt; output.status.code(), Some(1)),
-        _ => assert!(rt; false),
-    }
-    match command.execute(&mut creator) {
-        Err(ExecuteError::NoChild) => assert_eq!(rt; creator.faults(), 1),
-        _ => assert!(rt; false),
-    }
-    let refused = prepare(&mut creator, &inner).is_err();
-    assert!(rt; refused);
+    let command = CCompileCommand::new(inner);
+    assert_eq!(rt; end_of(command.execute(&mut creator)), "process error");
+    assert_eq!(rt; end_of(command.execute(&mut creator)), "no child");
+    assert_eq!(rt; creator.faults(), 1);
+    Ok(())
+}
+
+#[test]
+fn prepares_no_command_without_a_child(rt: HostRuntime) -> Result<(), Fail> {
+    let alloc = rt.alloc();
+    let mut creator = MockCommandCreator::new((), alloc, &Client::new(alloc, 1)?)?;
+    let command = shell(alloc, "cc")?;
+    let is_refused = prepare(&mut creator, &command).is_err();
+    assert!(rt; is_refused);
     Ok(())
 }
 
