@@ -11,33 +11,50 @@ use std::test::Fail;
 const SCRIPT: &[u8] =
     b"script 1\nconns 1\ntokens 3\nlevel remote rw\nhold 0 abc 12345\nfail 0 1\ntool /bin/cc 7 gcc\nrun abc 0 out - obj=x\nserve 0 2\n";
 
-/// What a lookup of the held key is answered.
-fn ask(rt: &impl Abort, alloc: Global, made: &mut Made) -> Result<Answer, Fail> {
+/// A daemon by this script.
+fn made(alloc: Global, script: &[u8]) -> Result<Made, Fail> {
+    read_scripts_are_good();
+    let script = read_script(alloc, script)?;
+    Ok(make(alloc, script)?)
+}
+
+/// Whether a lookup of the held key hits; nothing where it does neither that nor is refused.
+fn hits(rt: &impl Abort, alloc: Global, made: &mut Made) -> Result<Option<bool>, Fail> {
     let key = Text::from_str(alloc, "abc")?;
     assert!(rt; made.owned.levels().len() > 0);
     let lookup = made.owned.ask(alloc, 0, &key, Mode::Raw)?;
-    Ok(lookup.answer)
+    match lookup.answer {
+        Answer::Hit(_, false) => Ok(Some(true)),
+        Answer::Refused(_) => Ok(Some(false)),
+        _ => Ok(None),
+    }
+}
+
+/// Whether the daemon has one level, with so many bytes at so many paths.
+fn has_sizes(alloc: Global, made: &Made, bytes: u64, entries: u64) -> Result<bool, Fail> {
+    let sizes = level_sizes(alloc, &made.owned)?;
+    match sizes.first() {
+        Some(size) => Ok(sizes.len() == 1 && size.bytes == bytes && size.entries == entries),
+        None => Ok(false),
+    }
+}
+
+fn is_made(rt: &impl Abort, alloc: Global, made: &mut Made) -> Result<(), Fail> {
+    assert_eq!(rt; made.owned.tokens(), 3);
+    assert_eq!(rt; made.owned.limit(), 8388608);
+    assert_eq!(rt; made.inputs.len(), 1);
+    assert_eq!(rt; made.steps.len(), 2);
+    assert!(rt; has_sizes(alloc, made, 5, 1)?);
+    assert_eq!(rt; hits(rt, alloc, made)?, Some(false));
+    assert_eq!(rt; hits(rt, alloc, made)?, Some(true));
+    Ok(())
 }
 
 #[test]
 fn ample_make(rt: HostRuntime) -> Result<(), Fail> {
     let alloc = rt.alloc();
-    read_scripts_are_good();
-    let script = read_script(alloc, SCRIPT)?;
-    let mut made = make(alloc, script)?;
-    assert_eq!(rt; made.owned.tokens(), 3);
-    assert_eq!(rt; made.owned.limit(), 8388608);
-    assert_eq!(rt; made.inputs.len(), 1);
-    assert_eq!(rt; made.steps.len(), 2);
-    let sizes = level_sizes(alloc, &made.owned)?;
-    assert_eq!(rt; sizes.len(), 1);
-    assert_eq!(rt; sizes[0].bytes, 5);
-    assert_eq!(rt; sizes[0].entries, 1);
-    let refused = ask(&rt, alloc, &mut made)?;
-    assert!(rt; matches!(refused, Answer::Refused(_)));
-    let found = ask(&rt, alloc, &mut made)?;
-    assert!(rt; matches!(found, Answer::Hit(_, false)));
-    Ok(())
+    let mut made = made(alloc, SCRIPT)?;
+    is_made(&rt, alloc, &mut made)
 }
 
 /// A disk level that isn't opened, of whose files the newest two fit.
@@ -47,12 +64,7 @@ const DISK: &[u8] =
 #[test]
 fn ample_level_sizes(rt: HostRuntime) -> Result<(), Fail> {
     let alloc = rt.alloc();
-    read_scripts_are_good();
-    let script = read_script(alloc, DISK)?;
-    let made = make(alloc, script)?;
-    let sizes = level_sizes(alloc, &made.owned)?;
-    assert_eq!(rt; sizes.len(), 1);
-    assert_eq!(rt; sizes[0].bytes, 8);
-    assert_eq!(rt; sizes[0].entries, 2);
+    let made = made(alloc, DISK)?;
+    assert!(rt; has_sizes(alloc, &made, 8, 2)?);
     Ok(())
 }

@@ -94,26 +94,35 @@ fn tools(alloc: Global) -> Result<ToolTable, Fail> {
     Ok(ToolTable::new(tools))
 }
 
-/// A daemon over an empty store, which is to refuse the call of this number.
-fn owned(alloc: Global, fails: u64) -> Result<Owned<Memory>, Fail> {
+/// An empty store with one base directory, which is to refuse the call of this number.
+fn empty_store(alloc: Global, fails: u64) -> Result<RemoteStorage<MemRemote, Unvouched>, Fail> {
     let mut failing = Items::new(alloc);
     failing.push(fails)?;
     let remote = MemRemote::new(alloc, Items::new(alloc), failing)?;
-    let store = RemoteStorage::new(alloc, remote, Items::new(alloc), CacheMode::ReadWrite);
-    let levels = Layered::new(vec![in alloc; Level::Remote(store)]?, Policy::Single);
-    Ok(Owned::new(levels, shop(alloc)?, tools(alloc)?, 1, 64))
+    let mut basedirs = Items::new(alloc);
+    basedirs.push(bytes(alloc, b"/home")?)?;
+    Ok(RemoteStorage::new(alloc, remote, basedirs, CacheMode::ReadWrite))
+}
+
+/// A daemon over such a store.
+fn owned(alloc: Global, fails: u64) -> Result<Owned<Memory>, Fail> {
+    let (shop, tools) = (shop(alloc)?, tools(alloc)?);
+    let levels = vec![in alloc; Level::Remote(empty_store(alloc, fails)?)]?;
+    let levels = Layered::new(levels, Policy::Single);
+    Ok(Owned::new(levels, shop, tools, 1, 64))
+}
+
+/// How many base directories a daemon tells.
+fn basedir_count(alloc: Global, daemon: &Owned<Memory>) -> Result<usize, Fail> {
+    let basedirs = daemon.basedirs(alloc)?;
+    Ok(basedirs.len())
 }
 
 #[test]
 fn daemon_tells_its_base_directories(rt: HostRuntime) -> Result<(), Fail> {
     let alloc = rt.alloc();
-    let mut basedirs = Items::new(alloc);
-    basedirs.push(bytes(alloc, b"/home")?)?;
-    let remote = MemRemote::new(alloc, Items::new(alloc), Items::new(alloc))?;
-    let store = RemoteStorage::new(alloc, remote, basedirs, CacheMode::ReadWrite);
-    let levels = Layered::new(vec![in alloc; Level::Remote(store)]?, Policy::Single);
-    let daemon: Owned<Memory> = Owned::new(levels, shop(alloc)?, tools(alloc)?, 1, 64);
-    assert_eq!(rt; daemon.basedirs(alloc)?.len(), 1);
+    let daemon = owned(alloc, 0)?;
+    assert_eq!(rt; basedir_count(alloc, &daemon)?, 1);
     assert!(rt; !daemon.use_preprocessor_cache_mode());
     Ok(())
 }
@@ -136,25 +145,26 @@ fn told_placing(placing: &Placing) -> &[u8] {
     }
 }
 
-/// Asks the first level.
-fn ask_first(
+/// Whether the first level answers a lookup of the key `abc` so.
+fn answers(
     rt: &impl Abort,
     alloc: Global,
     daemon: &mut Owned<Memory>,
-    key: &Text,
-) -> Result<Answer, Fail> {
+    expected: &[u8],
+) -> Result<bool, Fail> {
     assert!(rt; daemon.levels().len() > 0);
-    let lookup = daemon.ask(alloc, 0, key, Mode::Whole)?;
-    Ok(lookup.answer)
+    let key = text(alloc, "abc")?;
+    let lookup = daemon.ask(alloc, 0, &key, Mode::Whole)?;
+    Ok(told_answer(&lookup.answer) == expected)
 }
 
-/// Puts an entry at the first level.
-fn write_first(
+/// Puts an entry at the first level, and tells whether it was done.
+fn writes(
     rt: &impl Abort,
     alloc: Global,
     daemon: &mut Owned<Memory>,
     key: &str,
-) -> Result<Written, Fail> {
+) -> Result<bool, Fail> {
     assert!(rt; daemon.levels().len() > 0);
     assert!(rt; matches!(daemon.kind(0), LevelKind::Remote));
     let put = Bytes {
@@ -162,20 +172,31 @@ fn write_first(
         bytes: bytes(alloc, ENTRY)?,
         run: true,
     };
-    Ok(daemon.write(alloc, 0, &put)?)
+    let written = daemon.write(alloc, 0, &put)?;
+    Ok(matches!(written, Written::Done))
+}
+
+fn hits_what_it_stored(
+    rt: &impl Abort,
+    alloc: Global,
+    daemon: &mut Owned<Memory>,
+) -> Result<(), Fail> {
+    assert!(rt; answers(rt, alloc, daemon, b"miss")?);
+    assert!(rt; writes(rt, alloc, daemon, "abc")?);
+    assert!(rt; answers(rt, alloc, daemon, ENTRY)?);
+    Ok(())
 }
 
 #[test]
 fn stored_entry_hits(rt: HostRuntime) -> Result<(), Fail> {
     let alloc = rt.alloc();
     let mut daemon = owned(alloc, 0)?;
-    let key = text(alloc, "abc")?;
-    let missed = ask_first(&rt, alloc, &mut daemon, &key)?;
-    assert_eq!(rt; told_answer(&missed), b"miss".as_slice());
-    let written = write_first(&rt, alloc, &mut daemon, "abc")?;
-    assert!(rt; matches!(written, Written::Done));
-    let hit = ask_first(&rt, alloc, &mut daemon, &key)?;
-    assert_eq!(rt; told_answer(&hit), ENTRY);
+    hits_what_it_stored(&rt, alloc, &mut daemon)
+}
+
+fn refuses_writes(rt: &impl Abort, alloc: Global, daemon: &mut Owned<Memory>) -> Result<(), Fail> {
+    assert!(rt; !writes(rt, alloc, daemon, "abc")?);
+    assert!(rt; !writes(rt, alloc, daemon, "no key")?);
     Ok(())
 }
 
@@ -183,11 +204,7 @@ fn stored_entry_hits(rt: HostRuntime) -> Result<(), Fail> {
 fn refused_write(rt: HostRuntime) -> Result<(), Fail> {
     let alloc = rt.alloc();
     let mut daemon = owned(alloc, 1)?;
-    let written = write_first(&rt, alloc, &mut daemon, "abc")?;
-    assert!(rt; matches!(written, Written::Refused(_)));
-    let bad = write_first(&rt, alloc, &mut daemon, "no key")?;
-    assert!(rt; matches!(bad, Written::Refused(_)));
-    Ok(())
+    refuses_writes(&rt, alloc, &mut daemon)
 }
 
 /// The one output of the compile.
@@ -201,60 +218,92 @@ fn wanted(alloc: Global) -> Result<Items<FileObjectSource>, Fail> {
     Ok(outputs)
 }
 
+/// Whether a compile is started.
+fn starts(alloc: Global, daemon: &mut Owned<Memory>, request: &Compile) -> Result<bool, Fail> {
+    let parsed = daemon.begin(alloc, request)?;
+    Ok(matches!(parsed, Parsed::Started(_)))
+}
+
+/// Whether this is a compile's key.
+fn has_key(
+    alloc: Global,
+    daemon: &mut Owned<Memory>,
+    request: &Compile,
+    key: &str,
+) -> Result<bool, Fail> {
+    let found = daemon.key(alloc, request, true)?;
+    Ok(found.key.as_str() == key)
+}
+
+fn starts_under_its_key(
+    rt: &impl Abort,
+    alloc: Global,
+    daemon: &mut Owned<Memory>,
+) -> Result<(), Fail> {
+    let request = compile(alloc)?;
+    assert!(rt; starts(alloc, daemon, &request)?);
+    assert!(rt; has_key(alloc, daemon, &request, "abc")?);
+    Ok(())
+}
+
 #[test]
 fn begins_and_finds_key(rt: HostRuntime) -> Result<(), Fail> {
     let alloc = rt.alloc();
     let mut daemon = owned(alloc, 0)?;
+    starts_under_its_key(&rt, alloc, &mut daemon)
+}
+
+/// Whether a run of the compile leaves output.
+fn has_output(alloc: Global, daemon: &mut Owned<Memory>) -> Result<bool, Fail> {
     let request = compile(alloc)?;
-    let parsed = daemon.begin(alloc, &request)?;
-    assert!(rt; matches!(parsed, Parsed::Started(_)));
-    let found = daemon.key(alloc, &request, true)?;
-    assert_eq!(rt; found.key.as_str(), "abc");
-    Ok(())
+    let outputs = wanted(alloc)?;
+    let key = text(alloc, "abc")?;
+    let answer = daemon.run(alloc, &request, &key, outputs.as_slice())?;
+    Ok(matches!(answer, RunAnswer::Output(_)))
 }
 
 #[test]
 fn runs_once(rt: HostRuntime) -> Result<(), Fail> {
     let alloc = rt.alloc();
     let mut daemon = owned(alloc, 0)?;
-    let request = compile(alloc)?;
-    let outputs = wanted(alloc)?;
-    let answer = daemon.run(alloc, &request, &text(alloc, "abc")?, outputs.as_slice())?;
-    assert!(rt; matches!(answer, RunAnswer::Output(_)));
+    assert!(rt; has_output(alloc, &mut daemon)?);
     assert_eq!(rt; daemon.shop().run_count(), 1);
     Ok(())
 }
 
-/// What becomes of a hit's bytes, and how many placings were done then.
-fn place(alloc: Global, entry: &[u8]) -> Result<(Placing, usize), Fail> {
-    let mut daemon = owned(alloc, 0)?;
+/// Whether this becomes of a hit's bytes.
+fn places(
+    alloc: Global,
+    daemon: &mut Owned<Memory>,
+    entry: &[u8],
+    expected: &[u8],
+) -> Result<bool, Fail> {
     let outputs = wanted(alloc)?;
     let entry = bytes(alloc, entry)?;
-    let placing = daemon.place(alloc, &text(alloc, "abc")?, outputs.as_slice(), &entry)?;
-    let count = daemon.shop().placing_count();
-    Ok((placing, count))
+    let key = text(alloc, "abc")?;
+    let placing = daemon.place(alloc, &key, outputs.as_slice(), &entry)?;
+    Ok(told_placing(&placing) == expected)
 }
 
 #[test]
 fn places_whole_entry(rt: HostRuntime) -> Result<(), Fail> {
-    let (placing, count) = place(rt.alloc(), ENTRY)?;
-    assert_eq!(rt; told_placing(&placing), b"done".as_slice());
-    assert_eq!(rt; count, 1);
+    let alloc = rt.alloc();
+    let mut daemon = owned(alloc, 0)?;
+    assert!(rt; places(alloc, &mut daemon, ENTRY, b"done")?);
+    assert_eq!(rt; daemon.shop().placing_count(), 1);
     Ok(())
 }
 
 #[test]
 fn places_nothing_of_lacking_entry(rt: HostRuntime) -> Result<(), Fail> {
-    let (placing, count) = place(rt.alloc(), EMPTY)?;
-    assert_eq!(rt; told_placing(&placing), b"obj".as_slice());
-    assert_eq!(rt; count, 0);
+    let alloc = rt.alloc();
+    let mut daemon = owned(alloc, 0)?;
+    assert!(rt; places(alloc, &mut daemon, EMPTY, b"obj")?);
+    assert_eq!(rt; daemon.shop().placing_count(), 0);
     Ok(())
 }
 
-#[test]
-fn tells_of_itself(rt: HostRuntime) -> Result<(), Fail> {
-    let alloc = rt.alloc();
-    let mut daemon = owned(alloc, 0)?;
+fn tells_sizes(rt: &impl Abort, daemon: &mut Owned<Memory>) {
     assert_eq!(rt; daemon.limit(), 64);
     assert_eq!(rt; daemon.tokens(), 1);
     assert_eq!(rt; daemon.level_count(), 1);
@@ -262,16 +311,35 @@ fn tells_of_itself(rt: HostRuntime) -> Result<(), Fail> {
     daemon.pass(5);
     daemon.pass(u64::MAX);
     assert_eq!(rt; daemon.now(), u64::MAX);
+}
+
+/// Whether a plan is the first level alone.
+fn plans_the_first(alloc: Global, daemon: &Owned<Memory>) -> Result<bool, Fail> {
     let mut plan = daemon.plan(alloc)?;
-    assert_eq!(rt; plan.pop_front(), Some(0));
-    assert!(rt; plan.is_empty());
+    Ok(plan.pop_front() == Some(0) && plan.is_empty())
+}
+
+/// Whether a put ends without a write that is handed on.
+fn ends_a_put(alloc: Global, daemon: &Owned<Memory>) -> Result<bool, Fail> {
     let put = Bytes {
         key: Text::new(alloc),
         bytes: ByteText::new(alloc),
         run: false,
     };
     let end = daemon.put_end(alloc, &put, Refusal::NoneYet)?;
-    assert!(rt; matches!(end.answer, Put::Done));
-    assert!(rt; end.handed.is_empty());
+    Ok(matches!(end.answer, Put::Done) && end.handed.is_empty())
+}
+
+fn tells_plans(rt: &impl Abort, alloc: Global, daemon: &Owned<Memory>) -> Result<(), Fail> {
+    assert!(rt; plans_the_first(alloc, daemon)?);
+    assert!(rt; ends_a_put(alloc, daemon)?);
     Ok(())
+}
+
+#[test]
+fn tells_of_itself(rt: HostRuntime) -> Result<(), Fail> {
+    let alloc = rt.alloc();
+    let mut daemon = owned(alloc, 0)?;
+    tells_sizes(&rt, &mut daemon);
+    tells_plans(&rt, alloc, &daemon)
 }

@@ -111,21 +111,28 @@ fn fill_texts(stats: &mut ServerStats, alloc: Global) -> Result<(), Fail> {
     Ok(())
 }
 
+fn level_named(alloc: Global, name: &str, location: &str) -> Result<LevelStats, Fail> {
+    let name = Text::from_str(alloc, name)?;
+    Ok(LevelStats::named(name, Text::from_str(alloc, location)?))
+}
+
+fn fill_level(level: &mut LevelStats) {
+    level.hits = 1;
+    level.misses = 3;
+    level.writes = 2;
+    level.write_failures = 5;
+    level.backfills_from = 6;
+    level.backfills_to = 7;
+    level.hit_duration = Span::from_nanoseconds(5);
+    level.write_duration = Span::new(3, 0);
+}
+
 fn two_levels(alloc: Global) -> Result<Items<LevelStats>, Fail> {
-    let name = Text::from_str(alloc, "L0 (disk)")?;
-    let mut disk = LevelStats::named(name, Text::from_str(alloc, "/ö")?);
-    disk.hits = 1;
-    disk.misses = 3;
-    disk.writes = 2;
-    disk.write_failures = 5;
-    disk.backfills_from = 6;
-    disk.backfills_to = 7;
-    disk.hit_duration = Span::from_nanoseconds(5);
-    disk.write_duration = Span::new(3, 0);
+    let mut disk = level_named(alloc, "L0 (disk)", "/ö")?;
+    fill_level(&mut disk);
     let mut levels = Items::new(alloc);
     levels.push(disk)?;
-    let name = Text::from_str(alloc, "Lé")?;
-    levels.push(LevelStats::named(name, Text::from_str(alloc, "redis")?))?;
+    levels.push(level_named(alloc, "Lé", "redis")?)?;
     Ok(levels)
 }
 
@@ -269,16 +276,19 @@ fn latencies_round_half_to_even(rt: HostRuntime) {
     assert_eq!(rt; level.hit_rate(), 25);
 }
 
+/// Statistics of so many requests, each of them a hit.
+fn all_hits(alloc: Global, requests: u64) -> Result<ServerStats, Fail> {
+    let mut stats = ServerStats::new(alloc);
+    stats.compile_requests = requests;
+    count(&mut stats.cache_hits.counts, alloc, "Rust", requests)?;
+    Ok(stats)
+}
+
 #[test]
 fn counters_stop_at_their_end(rt: HostRuntime) -> Result<(), Fail> {
     let alloc = rt.alloc();
-    let mut one = ServerStats::new(alloc);
-    one.compile_requests = 1;
-    count(&mut one.cache_hits.counts, alloc, "Rust", 1)?;
-    let mut stats = ServerStats::new(alloc);
-    stats.compile_requests = u64::MAX;
-    count(&mut stats.cache_hits.counts, alloc, "Rust", u64::MAX)?;
-    stats.add_assign(&one)?;
+    let mut stats = all_hits(alloc, u64::MAX)?;
+    stats.add_assign(&all_hits(alloc, 1)?)?;
     assert_eq!(rt; stats.compile_requests, u64::MAX);
     assert_eq!(rt; stats.cache_hits.all(), u64::MAX);
     Ok(())
@@ -309,29 +319,47 @@ fn languages_are_added_by_key(rt: HostRuntime) -> Result<(), Fail> {
     Ok(())
 }
 
+fn refuse(stats: &mut ServerStats, alloc: Global, why: &str, extra: &str) -> Result<(), Fail> {
+    let extra = if extra.is_empty() { None } else { Some(extra) };
+    Ok(stats.record_not_cacheable(alloc, why, extra)?)
+}
+
+/// How often a reason was counted.
+fn refused(stats: &ServerStats, alloc: Global, reason: &str) -> Result<u64, Fail> {
+    let reason = Text::from_str(alloc, reason)?;
+    Ok(stats.not_cached.get(&reason))
+}
+
+/// Counts four requests that can't be cached.
+fn refuse_four(stats: &mut ServerStats, alloc: Global) -> Result<(), Fail> {
+    refuse(stats, alloc, "-E", "dylib")?;
+    refuse(stats, alloc, "crate-type", "dylib")?;
+    refuse(stats, alloc, "crate-type", "no crate-type passed")?;
+    refuse(stats, alloc, "crate-type", "")
+}
+
+/// Whether their reasons were counted.
+fn counts_four(stats: &ServerStats, alloc: Global) -> Result<bool, Fail> {
+    Ok(
+        stats.requests_not_cacheable == 4
+            && refused(stats, alloc, "-E")? == 1
+            && refused(stats, alloc, "crate-type (dylib)")? == 1
+            && refused(stats, alloc, "crate-type")? == 2,
+    )
+}
+
 #[test]
 fn ample_record_not_cacheable(rt: HostRuntime) -> Result<(), Fail> {
     let alloc = rt.alloc();
     let mut stats = ServerStats::new(alloc);
-    stats.record_not_cacheable(alloc, "-E", Some("dylib"))?;
-    stats.record_not_cacheable(alloc, "crate-type", Some("dylib"))?;
-    let absent = Some("no crate-type passed");
-    stats.record_not_cacheable(alloc, "crate-type", absent)?;
-    stats.record_not_cacheable(alloc, "crate-type", None)?;
-    assert_eq!(rt; stats.requests_not_cacheable, 4);
-    let preprocess = Text::from_str(alloc, "-E")?;
-    assert_eq!(rt; stats.not_cached.get(&preprocess), 1);
-    let dylib = Text::from_str(alloc, "crate-type (dylib)")?;
-    assert_eq!(rt; stats.not_cached.get(&dylib), 1);
-    let bare = Text::from_str(alloc, "crate-type")?;
-    assert_eq!(rt; stats.not_cached.get(&bare), 2);
+    refuse_four(&mut stats, alloc)?;
+    assert!(rt; counts_four(&stats, alloc)?);
     Ok(())
 }
 
 fn levels_named(alloc: Global, name: &str) -> Result<MultiLevelStats, Fail> {
-    let name = Text::from_str(alloc, name)?;
     let mut levels = Items::new(alloc);
-    levels.push(LevelStats::named(name, Text::new(alloc)))?;
+    levels.push(level_named(alloc, name, "")?)?;
     Ok(MultiLevelStats::from_levels(levels))
 }
 

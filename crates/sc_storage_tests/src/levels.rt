@@ -8,6 +8,7 @@ use sc_store::{DiskCache, Level, MemRemote, RemoteStorage, Unvouched};
 use sc_store_config::{DiskConfig, StoreConfig, WriteErrorPolicy};
 use std::alloc::Global;
 use std::collections::BTreeMap;
+use std::process::Abort;
 use std::test::Fail;
 
 pub(crate) type Storage = MultiLevelStorage<MemRemote, MemDisk, Unvouched>;
@@ -107,20 +108,43 @@ fn counted(alloc: Global, counters: &[LevelStats], level: usize) -> Result<Strin
     Ok(text)
 }
 
+/// Remote levels, which hold these bytes under `abc`, where there are any.
+pub(crate) fn remotes(alloc: Global, held: &[&[u8]]) -> Result<Vec<OneLevel>, Fail> {
+    let mut levels = Vec::new(alloc);
+    for bytes in held {
+        levels.push(remote(alloc, bytes)?)?;
+    }
+    Ok(levels)
+}
+
+/// Whether a level counted so.
+fn has_counted(alloc: Global, store: &Storage, level: usize, expected: &str) -> Result<bool, Fail> {
+    let text = counted(alloc, store.stats(), level)?;
+    Ok(text.as_str() == expected)
+}
+
+/// Whether these bytes stand under `abc`.
+fn holds(alloc: Global, store: &mut Storage, expected: &[u8]) -> Result<bool, Fail> {
+    let bytes = get_raw(alloc, store)?;
+    Ok(bytes.as_slice() == expected)
+}
+
+fn looks_up_and_puts(rt: &impl Abort, alloc: Global, store: &mut Storage) -> Result<(), Fail> {
+    assert!(rt; holds(alloc, store, b"AAA")?);
+    assert!(rt; holds(alloc, store, b"AAA")?);
+    assert_eq!(rt; put(alloc, store, b"BB")?, "done");
+    assert!(rt; has_counted(alloc, store, 0, "1 1 1 0 0 1")?);
+    assert!(rt; has_counted(alloc, store, 1, "0 1 1 0 0 1")?);
+    assert!(rt; has_counted(alloc, store, 2, "1 0 0 0 2 0")?);
+    Ok(())
+}
+
 #[test]
 fn hit_is_put_at_the_levels_before_it(rt: HostRuntime) -> Result<(), Fail> {
     let alloc = rt.alloc();
-    let mut levels = vec![in alloc; remote(alloc, b"")?]?;
-    levels.push(remote(alloc, b"")?)?;
-    levels.push(remote(alloc, b"AAA")?)?;
-    let mut store = storage(alloc, levels, &[REQUIRED, BACKGROUND, LevelPolicy::Off])?;
-    assert_eq!(rt; get_raw(alloc, &mut store)?.as_slice(), b"AAA".as_slice());
-    assert_eq!(rt; get_raw(alloc, &mut store)?.as_slice(), b"AAA".as_slice());
-    assert_eq!(rt; put(alloc, &mut store, b"BB")?, "done");
-    assert_eq!(rt; counted(alloc, store.stats(), 0)?.as_str(), "1 1 1 0 0 1");
-    assert_eq!(rt; counted(alloc, store.stats(), 1)?.as_str(), "0 1 1 0 0 1");
-    assert_eq!(rt; counted(alloc, store.stats(), 2)?.as_str(), "1 0 0 0 2 0");
-    Ok(())
+    let policies = [REQUIRED, BACKGROUND, LevelPolicy::Off];
+    let mut store = storage(alloc, remotes(alloc, &[b"", b"", b"AAA"])?, &policies)?;
+    looks_up_and_puts(&rt, alloc, &mut store)
 }
 
 /// Asks a level for the bytes under `abc`, and says whether it has them.
@@ -150,42 +174,66 @@ fn write(alloc: Global, store: &mut Storage, level: usize, backfill: bool) -> Re
     Ok(())
 }
 
+fn takes_single_steps(rt: &impl Abort, alloc: Global, store: &mut Storage) -> Result<(), Fail> {
+    assert!(rt; !looks_up(alloc, store, 0)?);
+    assert!(rt; looks_up(alloc, store, 1)?);
+    write(alloc, store, 0, true)?;
+    write(alloc, store, 1, false)?;
+    assert!(rt; has_counted(alloc, store, 0, "0 1 0 0 0 1")?);
+    assert!(rt; has_counted(alloc, store, 1, "1 0 1 0 1 0")?);
+    Ok(())
+}
+
 #[test]
 fn single_steps_touch_one_level(rt: HostRuntime) -> Result<(), Fail> {
     let alloc = rt.alloc();
-    let mut levels = vec![in alloc; remote(alloc, b"")?]?;
-    levels.push(remote(alloc, b"AAA")?)?;
-    let mut store = Storage::new(alloc, levels)?;
-    assert!(rt; !looks_up(alloc, &mut store, 0)?);
-    assert!(rt; looks_up(alloc, &mut store, 1)?);
-    write(alloc, &mut store, 0, true)?;
-    write(alloc, &mut store, 1, false)?;
-    assert_eq!(rt; counted(alloc, store.stats(), 0)?.as_str(), "0 1 0 0 0 1");
-    assert_eq!(rt; counted(alloc, store.stats(), 1)?.as_str(), "1 0 1 0 1 0");
+    let mut store = Storage::new(alloc, remotes(alloc, &[b"", b"AAA"])?)?;
+    takes_single_steps(&rt, alloc, &mut store)
+}
+
+/// A level over a disk, whose call of this number is refused, and one over an empty remote.
+fn disk_and_remote(alloc: Global, fails: u64, mode: CacheMode) -> Result<Vec<OneLevel>, Fail> {
+    let mut levels = Vec::new(alloc);
+    levels.push(disk_level(alloc, fails, mode)?)?;
+    levels.push(remote(alloc, b"")?)?;
+    Ok(levels)
+}
+
+/// Whether a put ends so, and both levels count so.
+fn puts(
+    rt: &impl Abort,
+    alloc: Global,
+    store: &mut Storage,
+    end: &str,
+    counts: [&str; 2],
+) -> Result<(), Fail> {
+    assert_eq!(rt; put(alloc, store, b"BB")?, end);
+    assert!(rt; has_counted(alloc, store, 0, counts[0])?);
+    assert!(rt; has_counted(alloc, store, 1, counts[1])?);
     Ok(())
 }
 
 #[test]
 fn refusal_of_level_0_ends_the_put(rt: HostRuntime) -> Result<(), Fail> {
     let alloc = rt.alloc();
-    let mut levels = vec![in alloc; disk_level(alloc, 2, RW)?]?;
-    levels.push(remote(alloc, b"")?)?;
-    let mut store = Storage::new(alloc, levels)?;
-    assert_eq!(rt; put(alloc, &mut store, b"BB")?, "refused by level 0");
-    assert_eq!(rt; counted(alloc, store.stats(), 0)?.as_str(), "0 0 0 1 0 0");
-    assert_eq!(rt; counted(alloc, store.stats(), 1)?.as_str(), "0 0 0 0 0 0");
-    Ok(())
+    let mut store = Storage::new(alloc, disk_and_remote(alloc, 2, RW)?)?;
+    let counts = ["0 0 0 1 0 0", "0 0 0 0 0 0"];
+    puts(&rt, alloc, &mut store, "refused by level 0", counts)
 }
 
 #[test]
 fn read_only_level_is_left_out(rt: HostRuntime) -> Result<(), Fail> {
     let alloc = rt.alloc();
-    let mut levels = vec![in alloc; disk_level(alloc, 0, CacheMode::ReadOnly)?]?;
-    levels.push(remote(alloc, b"")?)?;
+    let levels = disk_and_remote(alloc, 0, CacheMode::ReadOnly)?;
     let mut store = Storage::with_write_error_policy(alloc, levels, WriteErrorPolicy::All)?;
-    assert_eq!(rt; put(alloc, &mut store, b"BB")?, "done");
-    assert_eq!(rt; counted(alloc, store.stats(), 0)?.as_str(), "0 0 0 0 0 0");
-    assert_eq!(rt; counted(alloc, store.stats(), 1)?.as_str(), "0 0 1 0 0 0");
+    let counts = ["0 0 0 0 0 0", "0 0 1 0 0 0"];
+    puts(&rt, alloc, &mut store, "done", counts)
+}
+
+fn holds_nothing(rt: &impl Abort, alloc: Global, store: &mut Storage) -> Result<(), Fail> {
+    assert_eq!(rt; put(alloc, store, b"BB")?, "no levels");
+    assert!(rt; holds(alloc, store, b"")?);
+    assert_eq!(rt; store.current_size(), None);
     Ok(())
 }
 
@@ -193,9 +241,31 @@ fn read_only_level_is_left_out(rt: HostRuntime) -> Result<(), Fail> {
 fn no_levels_hold_nothing(rt: HostRuntime) -> Result<(), Fail> {
     let alloc = rt.alloc();
     let mut store = storage(alloc, Vec::new(alloc), &[])?;
-    assert_eq!(rt; put(alloc, &mut store, b"BB")?, "no levels");
-    assert_eq!(rt; get_raw(alloc, &mut store)?.as_slice(), b"".as_slice());
+    holds_nothing(&rt, alloc, &mut store)
+}
+
+/// Puts an entry with `hi` on standard output under `abc`.
+fn put_entry(alloc: Global, store: &mut Storage) -> Result<&'static str, Fail> {
+    let key = Text::from_str(alloc, "abc")?;
+    let mut entry = CacheWrite::new(alloc)?;
+    entry.put_stdout(b"hi")?;
+    Ok(told(store.put(alloc, &key, entry, 1)?))
+}
+
+/// Whether the entry under `abc` has this on standard output.
+fn entry_has(alloc: Global, store: &mut Storage, output: &[u8]) -> Result<bool, Fail> {
+    let key = Text::from_str(alloc, "abc")?;
+    match store.get(alloc, &key, 2)? {
+        Cache::Hit(found) => Ok(found.get_stdout() == output),
+        _ => Ok(false),
+    }
+}
+
+fn finds_what_it_put(rt: &impl Abort, alloc: Global, store: &mut Storage) -> Result<(), Fail> {
     assert_eq!(rt; store.current_size(), None);
+    assert_eq!(rt; put_entry(alloc, store)?, "done");
+    assert!(rt; entry_has(alloc, store, b"hi")?);
+    assert_eq!(rt; store.current_size(), Some(25));
     Ok(())
 }
 
@@ -204,17 +274,7 @@ fn entry_is_found_again(rt: HostRuntime) -> Result<(), Fail> {
     let alloc = rt.alloc();
     let levels = vec![in alloc; disk_level(alloc, 0, RW)?]?;
     let mut store = storage(alloc, levels, &[REQUIRED])?;
-    assert_eq!(rt; store.current_size(), None);
-    let mut entry = CacheWrite::new(alloc)?;
-    entry.put_stdout(b"hi")?;
-    let key = Text::from_str(alloc, "abc")?;
-    assert_eq!(rt; told(store.put(alloc, &key, entry, 1)?), "done");
-    let Cache::Hit(found) = store.get(alloc, &key, 2)? else {
-        return Err(Fail::new("no hit"));
-    };
-    assert_eq!(rt; found.get_stdout(), b"hi".as_slice());
-    assert_eq!(rt; store.current_size(), Some(25));
-    Ok(())
+    finds_what_it_put(&rt, alloc, &mut store)
 }
 
 /// A disk store of 100 bytes under this root.

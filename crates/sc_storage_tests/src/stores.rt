@@ -1,12 +1,15 @@
 //! Any store asked as one.
-use crate::levels::{OneLevel, Storage as Layered, disk, disk_level, disk_store, remote, storage};
-use sc_disk::Disk;
+use crate::levels::{
+    OneLevel, Storage as Layered, disk, disk_level, disk_store, remote, remotes, storage,
+};
+use sc_disk::{Disk, MemDisk};
 use sc_entry::{ByteText, Cache, CacheMode, CacheWrite, GetPathResult, Items, Text};
 use sc_model::LevelPolicy;
 use sc_stats::{ServerInfo, ServerStats};
 use sc_storage::{MultiLevelStorage, ReadOnlyStorage, Storage, StorageError, StorageFacts};
 use sc_store::{DiskCache, Level, MemRemote, RemoteStorage, Unvouched};
 use std::alloc::Global;
+use std::process::Abort;
 use std::test::Fail;
 
 /// How a call ended, in words.
@@ -154,12 +157,10 @@ fn is_read_only<S: Storage>(alloc: Global, store: &mut S) -> Result<bool, Fail> 
     }
 }
 
+type OneRemote = RemoteStorage<MemRemote, Unvouched>;
+
 /// A remote store that holds nothing. Its call of this number is refused.
-fn remote_store(
-    alloc: Global,
-    fails: u64,
-    mode: CacheMode,
-) -> Result<RemoteStorage<MemRemote, Unvouched>, Fail> {
+fn remote_store(alloc: Global, fails: u64, mode: CacheMode) -> Result<OneRemote, Fail> {
     let mut failing = Items::new(alloc);
     failing.push(fails)?;
     let remote = MemRemote::new(alloc, Items::new(alloc), failing)?;
@@ -180,7 +181,26 @@ fn remote_store_holds_what_was_put(rt: HostRuntime) -> Result<(), Fail> {
     let alloc = rt.alloc();
     let mut remote = remote_store(alloc, 0, CacheMode::ReadWrite)?;
     assert!(rt; holds_what_was_put(alloc, &mut remote)?);
+    Ok(())
+}
+
+#[test]
+fn remote_store_is_found_writable(rt: HostRuntime) -> Result<(), Fail> {
+    let alloc = rt.alloc();
+    let mut remote = remote_store(alloc, 0, CacheMode::ReadWrite)?;
     assert!(rt; !is_read_only(alloc, &mut remote)?);
+    Ok(())
+}
+
+/// Whether a store tells what its levels counted.
+fn tells_of_levels<S: Storage>(alloc: Global, store: &S) -> Result<bool, Fail> {
+    let counted = store.multilevel_stats(alloc)?;
+    Ok(counted.is_some())
+}
+
+fn holds_and_tells(rt: &impl Abort, alloc: Global, store: &mut Layered) -> Result<(), Fail> {
+    assert!(rt; holds_what_was_put(alloc, store)?);
+    assert!(rt; tells_of_levels(alloc, store)?);
     Ok(())
 }
 
@@ -189,8 +209,13 @@ fn levels_hold_what_was_put(rt: HostRuntime) -> Result<(), Fail> {
     let alloc = rt.alloc();
     let levels = vec![in alloc; disk_level(alloc, 0, CacheMode::ReadWrite)?]?;
     let mut store = storage(alloc, levels, &[LevelPolicy::Required])?;
-    assert!(rt; holds_what_was_put(alloc, &mut store)?);
-    assert!(rt; store.multilevel_stats(alloc)?.is_some());
+    holds_and_tells(&rt, alloc, &mut store)
+}
+
+fn tells_refusals(rt: &impl Abort, alloc: Global, remote: &mut OneRemote) -> Result<(), Fail> {
+    assert!(rt; refusal_is(alloc, remote, "remote fault: Other")?);
+    assert!(rt; put_raw_is(alloc, remote, b"BB", "ok")?);
+    assert!(rt; refusal_is(alloc, remote, "Failed to parse cache entry")?);
     Ok(())
 }
 
@@ -198,10 +223,7 @@ fn levels_hold_what_was_put(rt: HostRuntime) -> Result<(), Fail> {
 fn refusals_of_a_remote_store_are_told(rt: HostRuntime) -> Result<(), Fail> {
     let alloc = rt.alloc();
     let mut remote = remote_store(alloc, 1, CacheMode::ReadWrite)?;
-    assert!(rt; refusal_is(alloc, &mut remote, "remote fault: Other")?);
-    assert!(rt; put_raw_is(alloc, &mut remote, b"BB", "ok")?);
-    assert!(rt; refusal_is(alloc, &mut remote, "Failed to parse cache entry")?);
-    Ok(())
+    tells_refusals(&rt, alloc, &mut remote)
 }
 
 #[test]
@@ -239,22 +261,32 @@ fn put_over_no_levels_is_refused(rt: HostRuntime) -> Result<(), Fail> {
 }
 
 /// A store that is only read, over two levels of which the second holds `AAA` under `abc`.
-fn read_only_store(alloc: Global) -> Result<ReadOnlyStorage<Layered>, Fail> {
-    let mut levels = vec![in alloc; remote(alloc, b"")?]?;
-    levels.push(remote(alloc, b"AAA")?)?;
-    let store = MultiLevelStorage::new(alloc, levels)?;
+type ReadOnly = ReadOnlyStorage<Layered>;
+
+fn read_only_store(alloc: Global) -> Result<ReadOnly, Fail> {
+    let store = MultiLevelStorage::new(alloc, remotes(alloc, &[b"", b"AAA"])?)?;
     Ok(ReadOnlyStorage { store })
+}
+
+fn refuses_puts(rt: &impl Abort, alloc: Global, store: &mut ReadOnly) -> Result<(), Fail> {
+    let only_read = "Cannot write to read-only storage";
+    assert!(rt; put_is(alloc, store, only_read)?);
+    assert!(rt; put_preprocessor_is(alloc, store, only_read)?);
+    let expected = "put_raw not implemented for this storage backend";
+    assert!(rt; put_raw_is(alloc, store, b"BB", expected)?);
+    Ok(())
 }
 
 #[test]
 fn store_that_is_only_read_takes_no_puts(rt: HostRuntime) -> Result<(), Fail> {
     let alloc = rt.alloc();
     let mut store = read_only_store(alloc)?;
-    let only_read = "Cannot write to read-only storage";
-    assert!(rt; put_is(alloc, &mut store, only_read)?);
-    assert!(rt; put_preprocessor_is(alloc, &mut store, only_read)?);
-    let expected = "put_raw not implemented for this storage backend";
-    assert!(rt; put_raw_is(alloc, &mut store, b"BB", expected)?);
+    refuses_puts(&rt, alloc, &mut store)
+}
+
+fn is_looked_up(rt: &impl Abort, alloc: Global, store: &mut ReadOnly) -> Result<(), Fail> {
+    assert_eq!(rt; raw_len(alloc, store)?, 3);
+    assert!(rt; is_read_only(alloc, store)?);
     Ok(())
 }
 
@@ -262,8 +294,19 @@ fn store_that_is_only_read_takes_no_puts(rt: HostRuntime) -> Result<(), Fail> {
 fn store_that_is_only_read_is_looked_up(rt: HostRuntime) -> Result<(), Fail> {
     let alloc = rt.alloc();
     let mut store = read_only_store(alloc)?;
-    assert_eq!(rt; raw_len(alloc, &mut store)?, 3);
-    assert!(rt; is_read_only(alloc, &mut store)?);
+    is_looked_up(&rt, alloc, &mut store)
+}
+
+/// Whether a store says that it stands here.
+fn stands_at<S: Storage>(alloc: Global, store: &S, expected: &str) -> Result<bool, Fail> {
+    let location = store.location(alloc)?;
+    Ok(location.as_str() == expected)
+}
+
+fn tells_of_its_store(rt: &impl Abort, alloc: Global, store: &ReadOnly) -> Result<(), Fail> {
+    assert!(rt; stands_at(alloc, store, "Multi-level (2 levels)")?);
+    assert!(rt; !tells_of_levels(alloc, store)?);
+    assert_eq!(rt; store.store.stats().len(), 2);
     Ok(())
 }
 
@@ -271,38 +314,48 @@ fn store_that_is_only_read_is_looked_up(rt: HostRuntime) -> Result<(), Fail> {
 fn store_that_is_only_read_tells_of_the_one_in_it(rt: HostRuntime) -> Result<(), Fail> {
     let alloc = rt.alloc();
     let store = read_only_store(alloc)?;
-    assert_eq!(rt; store.location(alloc)?.as_str(), "Multi-level (2 levels)");
-    assert!(rt; store.multilevel_stats(alloc)?.is_none());
-    assert_eq!(rt; store.store.stats().len(), 2);
-    Ok(())
+    tells_of_its_store(&rt, alloc, &store)
 }
 
-/// What statistics are told of a store of which nothing was counted.
-fn info_of<S: Storage>(alloc: Global, store: &S) -> Result<ServerInfo, Fail> {
+/// Whether statistics are told that a store stands here, and that it has levels or none.
+fn statistics_tell<S: Storage>(
+    alloc: Global,
+    store: &S,
+    location: &str,
+    has_levels: bool,
+) -> Result<bool, Fail> {
     let facts = StorageFacts::new(store);
-    Ok(ServerInfo::new(alloc, ServerStats::new(alloc), Some(&facts))?)
+    let info = ServerInfo::new(alloc, ServerStats::new(alloc), Some(&facts))?;
+    Ok(info.cache_location.as_str() == location && info.stats.multi_level.is_some() == has_levels)
+}
+
+fn statistics_are_told(rt: &impl Abort, alloc: Global, store: &ReadOnly) -> Result<(), Fail> {
+    let location = "Multi-level (2 levels)";
+    assert!(rt; statistics_tell(alloc, &store.store, location, true)?);
+    assert!(rt; statistics_tell(alloc, store, location, false)?);
+    Ok(())
 }
 
 #[test]
 fn statistics_are_told_of_a_store(rt: HostRuntime) -> Result<(), Fail> {
     let alloc = rt.alloc();
     let store = read_only_store(alloc)?;
-    let info = info_of(alloc, &store.store)?;
-    assert_eq!(rt; info.cache_location.as_str(), "Multi-level (2 levels)");
-    assert!(rt; info.stats.multi_level.is_some());
-    let hidden = info_of(alloc, &store)?;
-    assert_eq!(rt; hidden.cache_location.as_str(), "Multi-level (2 levels)");
-    assert!(rt; hidden.stats.multi_level.is_none());
-    Ok(())
+    statistics_are_told(&rt, alloc, &store)
+}
+
+/// A remote level, one that holds a preprocessor entry, and one that can't be opened.
+fn preprocessor_levels(alloc: Global) -> Result<Vec<OneLevel>, Fail> {
+    let mut levels = Vec::new(alloc);
+    levels.push(remote(alloc, b"AAA")?)?;
+    levels.push(preprocessor_level(alloc)?)?;
+    levels.push(disk_level(alloc, 1, CacheMode::ReadWrite)?)?;
+    Ok(levels)
 }
 
 #[test]
 fn preprocessor_entry_is_the_first_that_is_found(rt: HostRuntime) -> Result<(), Fail> {
     let alloc = rt.alloc();
-    let mut levels = vec![in alloc; remote(alloc, b"AAA")?]?;
-    levels.push(preprocessor_level(alloc)?)?;
-    levels.push(disk_level(alloc, 1, CacheMode::ReadWrite)?)?;
-    let mut store = storage(alloc, levels, &[])?;
+    let mut store = storage(alloc, preprocessor_levels(alloc)?, &[])?;
     assert_eq!(rt; preprocessor_len(alloc, &mut store)?, Some(1));
     Ok(())
 }
@@ -324,37 +377,56 @@ fn remote_store_keeps_no_preprocessor_entries(rt: HostRuntime) -> Result<(), Fai
     Ok(())
 }
 
-#[test]
-fn preprocessor_entry_is_put_where_it_may_be(rt: HostRuntime) -> Result<(), Fail> {
-    let alloc = rt.alloc();
-    let mut levels = vec![in alloc; disk_level(alloc, 0, CacheMode::ReadOnly)?]?;
+/// Two disk levels, the first of which is only read.
+fn two_disks(alloc: Global) -> Result<Vec<OneLevel>, Fail> {
+    let mut levels = Vec::new(alloc);
+    levels.push(disk_level(alloc, 0, CacheMode::ReadOnly)?)?;
     levels.push(disk_level(alloc, 0, CacheMode::ReadWrite)?)?;
-    let mut store = storage(alloc, levels, &[])?;
-    assert!(rt; put_preprocessor_is(alloc, &mut store, "ok")?);
+    Ok(levels)
+}
+
+fn keeps_preprocessor_entry(
+    rt: &impl Abort,
+    alloc: Global,
+    store: &mut Layered,
+) -> Result<(), Fail> {
+    assert!(rt; put_preprocessor_is(alloc, store, "ok")?);
     assert_eq!(rt; store.current_size(), Some(2));
-    assert_eq!(rt; preprocessor_len(alloc, &mut store)?, Some(2));
+    assert_eq!(rt; preprocessor_len(alloc, store)?, Some(2));
     Ok(())
 }
 
-/// Where the file of `abc` stands: nothing where there is none, or where the store has no paths.
-fn path_of<S: Storage>(alloc: Global, store: &mut S) -> Result<ByteText, Fail> {
+#[test]
+fn preprocessor_entry_is_put_where_it_may_be(rt: HostRuntime) -> Result<(), Fail> {
+    let alloc = rt.alloc();
+    let mut store = storage(alloc, two_disks(alloc)?, &[])?;
+    keeps_preprocessor_entry(&rt, alloc, &mut store)
+}
+
+/// Whether the file of `abc` stands here; nowhere where there is none.
+fn stands_there<S: Storage>(alloc: Global, store: &mut S, expected: &[u8]) -> Result<bool, Fail> {
     let key = Text::from_str(alloc, "abc")?;
     match store.get_path(alloc, &key, 2)? {
-        GetPathResult::Found(path) => Ok(path),
-        GetPathResult::Miss => Ok(ByteText::new(alloc)),
-        GetPathResult::Unsupported => Ok(ByteText::new(alloc)),
+        GetPathResult::Found(path) => Ok(path.as_slice() == expected),
+        GetPathResult::Miss => Ok(expected.is_empty()),
+        GetPathResult::Unsupported => Ok(false),
     }
+}
+
+fn tells_the_path(
+    rt: &impl Abort,
+    alloc: Global,
+    disk: &mut DiskCache<MemDisk, Unvouched>,
+) -> Result<(), Fail> {
+    assert!(rt; stands_there(alloc, disk, b"")?);
+    assert!(rt; puts(alloc, disk, "abc")?);
+    assert!(rt; stands_there(alloc, disk, b"/0/a/b/abc")?);
+    Ok(())
 }
 
 #[test]
 fn disk_store_tells_where_a_file_stands(rt: HostRuntime) -> Result<(), Fail> {
     let alloc = rt.alloc();
     let mut disk = disk_store(alloc, 0, CacheMode::ReadWrite)?;
-    assert!(rt; path_of(alloc, &mut disk)?.is_empty());
-    assert!(rt; puts(alloc, &mut disk, "abc")?);
-    assert_eq!(rt;
-        path_of(alloc, &mut disk)?.as_slice(),
-        b"/0/a/b/abc".as_slice()
-    );
-    Ok(())
+    tells_the_path(&rt, alloc, &mut disk)
 }

@@ -1,4 +1,0 @@
-use Rattle.sc_owned_tests.proofs.memory.ample_make.Goals as goal
-
-pub make-requires : goal.make-requires
-make-requires g c = record { good = c.read_scripts_are_good.ensures _ _ c.in_ok-script.ensures }
