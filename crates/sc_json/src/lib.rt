@@ -2,14 +2,10 @@
 #![tactic(auto)]
 
 mod dist;
-#[cfg(test)]
-mod expected;
 mod fields;
 mod info;
 mod levels;
 mod stats;
-#[cfg(test)]
-mod tests;
 mod text;
 
 pub use dist::DistInfoJson;
