@@ -70,6 +70,31 @@ fn told_written(how: Written) -> &'static str {
     }
 }
 
+/// Whether a read of this path is answered so.
+fn reads(alloc: Global, remote: &mut MemRemote, path: &str, expected: &[u8]) -> Result<bool, Fail> {
+    let path = text(alloc, path)?;
+    let found = remote.read(alloc, &path)?;
+    Ok(told_read(&found) == expected)
+}
+
+/// Whether a write to this path is done.
+fn writes(alloc: Global, remote: &mut MemRemote, path: &str, word: &[u8]) -> Result<bool, Fail> {
+    let path = text(alloc, path)?;
+    let written = remote.write(alloc, &path, &bytes(alloc, word)?)?;
+    Ok(matches!(written, RemoteWrite::Done))
+}
+
+fn reads_and_writes(rt: &impl Abort, alloc: Global, remote: &mut MemRemote) -> Result<(), Fail> {
+    assert!(rt; reads(alloc, remote, "a/b/c/abc", ENTRY)?);
+    assert!(rt; reads(alloc, remote, "a/b/c/abc", b"other")?);
+    assert_eq!(rt; remote.faults(), 1);
+    assert!(rt; reads(alloc, remote, "x/y/z/xyz", b"not found")?);
+    assert!(rt; writes(alloc, remote, "x/y/z/xyz", b"new")?);
+    assert!(rt; reads(alloc, remote, "x/y/z/xyz", b"new")?);
+    assert_eq!(rt; remote.faults(), 1);
+    Ok(())
+}
+
 #[test]
 fn ample_remote(rt: HostRuntime) -> Result<(), Fail> {
     let alloc = rt.alloc();
@@ -77,27 +102,15 @@ fn ample_remote(rt: HostRuntime) -> Result<(), Fail> {
     assert_eq!(rt; remote.scheme(), "memory");
     assert_eq!(rt; remote.name(), "m");
     assert_eq!(rt; remote.root(), "/");
-    let path = text(alloc, "a/b/c/abc")?;
-    let found = remote.read(alloc, &path)?;
-    assert_eq!(rt; told_read(&found), ENTRY);
-    let refused = remote.read(alloc, &path)?;
-    assert_eq!(rt; told_read(&refused), b"other".as_slice());
-    assert_eq!(rt; remote.faults(), 1);
-    let absent = text(alloc, "x/y/z/xyz")?;
-    let none = remote.read(alloc, &absent)?;
-    assert_eq!(rt; told_read(&none), b"not found".as_slice());
-    let written = remote.write(alloc, &absent, &bytes(alloc, b"new")?)?;
-    assert!(rt; matches!(written, RemoteWrite::Done));
-    let found = remote.read(alloc, &absent)?;
-    assert_eq!(rt; told_read(&found), b"new".as_slice());
-    assert_eq!(rt; remote.faults(), 1);
-    Ok(())
+    reads_and_writes(&rt, alloc, &mut remote)
 }
+
+type Levels = Layered<MemRemote, MemDisk, Unvouched>;
 
 /// One lookup, told in words; the levels are known to the caller alone.
 fn ask(
     alloc: Global,
-    levels: &mut Layered<MemRemote, MemDisk, Unvouched>,
+    levels: &mut Levels,
     level: usize,
     key: &str,
     mode: Mode,
@@ -115,7 +128,7 @@ fn ask(
 
 fn put(
     alloc: Global,
-    levels: &mut Layered<MemRemote, MemDisk, Unvouched>,
+    levels: &mut Levels,
     level: usize,
     key: &str,
     from_run: bool,
@@ -133,7 +146,7 @@ fn put(
 }
 
 /// Two levels, the second read-only.
-fn small_levels(alloc: Global, fails: u64) -> Result<Layered<MemRemote, MemDisk, Unvouched>, Fail> {
+fn small_levels(alloc: Global, fails: u64) -> Result<Levels, Fail> {
     let mut levels = Vec::new(alloc);
     let empty = MemRemote::new(alloc, Items::new(alloc), Items::new(alloc))?;
     levels.push(Level::Remote(RemoteStorage::new(
@@ -151,10 +164,19 @@ fn small_levels(alloc: Global, fails: u64) -> Result<Layered<MemRemote, MemDisk,
     Ok(Layered::new(levels, Policy::Levels(Items::new(alloc))))
 }
 
-#[test]
-fn ample_ask(rt: HostRuntime) -> Result<(), Fail> {
-    let alloc = rt.alloc();
-    let mut levels = small_levels(alloc, 4)?;
+/// Whether a lookup is answered so.
+fn answers(
+    alloc: Global,
+    levels: &mut Levels,
+    place: (usize, &str),
+    mode: Mode,
+    expected: &[u8],
+) -> Result<bool, Fail> {
+    let answer = ask(alloc, levels, place.0, place.1, mode)?;
+    Ok(told_answer(&answer) == expected)
+}
+
+fn asks_each_way(rt: &impl Abort, alloc: Global, levels: &mut Levels) -> Result<(), Fail> {
     let rows: [(usize, &str, Mode, &[u8]); 9] = [
         (0, "abc", Mode::Whole, b"miss"),
         (1, "abc", Mode::Whole, ENTRY),
@@ -167,27 +189,34 @@ fn ample_ask(rt: HostRuntime) -> Result<(), Fail> {
         (1, "xyz", Mode::Whole, b"miss"),
     ];
     for (level, key, mode, expected) in rows {
-        let answer = ask(alloc, &mut levels, level, key, mode)?;
-        assert_eq!(rt; told_answer(&answer), expected, "{level} {key}");
+        let is_told = answers(alloc, levels, (level, key), mode, expected)?;
+        assert!(rt; is_told, "{level} {key}");
     }
     Ok(())
 }
 
 #[test]
-fn ample_put_step(rt: HostRuntime) -> Result<(), Fail> {
+fn ample_ask(rt: HostRuntime) -> Result<(), Fail> {
     let alloc = rt.alloc();
-    let mut levels = small_levels(alloc, 1)?;
-    assert_eq!(rt; put(alloc, &mut levels, 0, "new", true)?, "done");
-    assert_eq!(rt; put(alloc, &mut levels, 0, "no key", true)?, "bad key");
-    assert_eq!(rt; put(alloc, &mut levels, 1, "new", true)?, "remote fault");
-    let found = ask(alloc, &mut levels, 0, "new", Mode::Whole)?;
-    assert_eq!(rt; told_answer(&found), b"marked".as_slice());
-    assert_eq!(rt; put(alloc, &mut levels, 0, "new", false)?, "done");
-    let found = ask(alloc, &mut levels, 0, "new", Mode::Whole)?;
-    assert_eq!(rt; told_answer(&found), ENTRY);
-    let none = ask(alloc, &mut levels, 1, "new", Mode::Whole)?;
-    assert_eq!(rt; told_answer(&none), b"miss".as_slice());
+    let mut levels = small_levels(alloc, 4)?;
+    asks_each_way(&rt, alloc, &mut levels)
+}
+
+fn puts_and_asks(rt: &impl Abort, alloc: Global, levels: &mut Levels) -> Result<(), Fail> {
+    assert_eq!(rt; put(alloc, levels, 0, "new", true)?, "done");
+    assert_eq!(rt; put(alloc, levels, 0, "no key", true)?, "bad key");
+    assert_eq!(rt; put(alloc, levels, 1, "new", true)?, "remote fault");
+    assert!(rt; answers(alloc, levels, (0, "new"), Mode::Whole, b"marked")?);
+    assert_eq!(rt; put(alloc, levels, 0, "new", false)?, "done");
+    assert!(rt; answers(alloc, levels, (0, "new"), Mode::Whole, ENTRY)?);
+    assert!(rt; answers(alloc, levels, (1, "new"), Mode::Whole, b"miss")?);
     Ok(())
+}
+
+#[test]
+fn ample_put_step(rt: HostRuntime) -> Result<(), Fail> {
+    let mut levels = small_levels(rt.alloc(), 1)?;
+    puts_and_asks(&rt, rt.alloc(), &mut levels)
 }
 
 fn told_checked(checked: Checked) -> &'static str {
@@ -287,13 +316,24 @@ fn given(alloc: Global, words: [&[u8]; 2]) -> Result<Level<MemRemote, MemDisk, U
     Ok(Level::Remote(RemoteStorage::new(alloc, remote, basedirs, CacheMode::ReadWrite)))
 }
 
+/// Two levels with base directories.
+fn two_given(alloc: Global) -> Result<Levels, Fail> {
+    let mut levels = Vec::new(alloc);
+    levels.push(given(alloc, [b"/home", b"/work"])?)?;
+    levels.push(given(alloc, [b"/work", b"/opt"])?)?;
+    Ok(Layered::new(levels, Policy::Levels(Items::new(alloc))))
+}
+
+fn basedir_count(alloc: Global, levels: &Levels) -> Result<usize, Fail> {
+    let basedirs = levels.basedirs(alloc)?;
+    Ok(basedirs.len())
+}
+
 #[test]
 fn levels_have_the_base_directories_of_all(rt: HostRuntime) -> Result<(), Fail> {
     let alloc = rt.alloc();
-    let mut levels = vec![in alloc; given(alloc, [b"/home", b"/work"])?]?;
-    levels.push(given(alloc, [b"/work", b"/opt"])?)?;
-    let levels = Layered::new(levels, Policy::Levels(Items::new(alloc)));
-    assert_eq!(rt; levels.basedirs(alloc)?.len(), 3);
+    let levels = two_given(alloc)?;
+    assert_eq!(rt; basedir_count(alloc, &levels)?, 3);
     assert!(rt; !levels.use_preprocessor_cache_mode());
     Ok(())
 }
@@ -303,7 +343,7 @@ fn single_store_has_its_own_base_directories(rt: HostRuntime) -> Result<(), Fail
     let alloc = rt.alloc();
     let levels = vec![in alloc; given(alloc, [b"/home", b"/home"])?]?;
     let single = Layered::new(levels, Policy::Single);
-    assert_eq!(rt; single.basedirs(alloc)?.len(), 2);
+    assert_eq!(rt; basedir_count(alloc, &single)?, 2);
     Ok(())
 }
 
@@ -324,7 +364,7 @@ fn single_read_only(rt: HostRuntime) -> Result<(), Fail> {
 }
 
 /// A level that is only read, over a store that can be written and holds the entry under `abc`.
-fn read_only_level(alloc: Global) -> Result<Layered<MemRemote, MemDisk, Unvouched>, Fail> {
+fn read_only_level(alloc: Global) -> Result<Levels, Fail> {
     let store = RemoteStorage::new(
         alloc,
         small_remote(alloc, 0)?,
@@ -336,14 +376,17 @@ fn read_only_level(alloc: Global) -> Result<Layered<MemRemote, MemDisk, Unvouche
     Ok(Layered::new(levels, Policy::Levels(Items::new(alloc))))
 }
 
+fn is_only_read(rt: &impl Abort, alloc: Global, levels: &mut Levels) -> Result<(), Fail> {
+    assert_eq!(rt; put(alloc, levels, 0, "abc", true)?, "only read");
+    assert!(rt; answers(alloc, levels, (0, "abc"), Mode::Whole, ENTRY)?);
+    Ok(())
+}
+
 #[test]
 fn level_that_is_only_read_takes_no_put(rt: HostRuntime) -> Result<(), Fail> {
     let alloc = rt.alloc();
     let mut levels = read_only_level(alloc)?;
-    assert_eq!(rt; put(alloc, &mut levels, 0, "abc", true)?, "only read");
-    let found = ask(alloc, &mut levels, 0, "abc", Mode::Whole)?;
-    assert_eq!(rt; told_answer(&found), ENTRY);
-    Ok(())
+    is_only_read(&rt, alloc, &mut levels)
 }
 
 #[test]
@@ -376,7 +419,7 @@ fn disk(alloc: Global, root: &[u8]) -> Result<MemDisk, Fail> {
 }
 
 /// One level over two such disks, of 100 bytes.
-fn disk_level(alloc: Global) -> Result<Layered<MemRemote, MemDisk, Unvouched>, Fail> {
+fn disk_level(alloc: Global) -> Result<Levels, Fail> {
     let store = DiskCache::new(
         alloc,
         disk(alloc, b"/0")?,
@@ -394,7 +437,7 @@ fn disk_level(alloc: Global) -> Result<Layered<MemRemote, MemDisk, Unvouched>, F
 fn store(
     rt: &impl Abort,
     alloc: Global,
-    levels: &mut Layered<MemRemote, MemDisk, Unvouched>,
+    levels: &mut Levels,
     key: &str,
     entry: &[u8],
 ) -> Result<Written, Fail> {
@@ -415,16 +458,31 @@ fn store(
     }
 }
 
+/// Whether a lookup of `abc` at a disk level gives the entry.
+fn hits(rt: &impl Abort, alloc: Global, levels: &mut Levels) -> Result<bool, Fail> {
+    assert!(rt; levels.len() > 0);
+    let hit = levels.ask(alloc, 0, &text(alloc, "abc")?, Mode::Whole, 3)?;
+    Ok(told_answer(&hit) == ENTRY)
+}
+
+/// Whether the levels stand here.
+fn stand_at(alloc: Global, levels: &Levels, expected: &str) -> Result<bool, Fail> {
+    let location = levels.location(alloc)?;
+    Ok(location.as_str() == expected)
+}
+
+fn hits_what_it_stored(rt: &impl Abort, alloc: Global, levels: &mut Levels) -> Result<(), Fail> {
+    let written = store(rt, alloc, levels, "abc", ENTRY)?;
+    assert_eq!(rt; told_written(written), "done");
+    assert!(rt; levels.is_unreserved());
+    assert!(rt; hits(rt, alloc, levels)?);
+    assert!(rt; stand_at(alloc, levels, "Local disk: \"/0\"")?);
+    Ok(())
+}
+
 #[test]
 fn disk_level_hits_what_it_stored(rt: HostRuntime) -> Result<(), Fail> {
     let alloc = rt.alloc();
     let mut levels = disk_level(alloc)?;
-    let written = store(&rt, alloc, &mut levels, "abc", ENTRY)?;
-    assert_eq!(rt; told_written(written), "done");
-    assert!(rt; levels.is_unreserved());
-    assert!(rt; levels.len() > 0);
-    let hit = levels.ask(alloc, 0, &text(alloc, "abc")?, Mode::Whole, 3)?;
-    assert_eq!(rt; told_answer(&hit), ENTRY);
-    assert_eq!(rt; levels.location(alloc)?.as_str(), "Local disk: \"/0\"");
-    Ok(())
+    hits_what_it_stored(&rt, alloc, &mut levels)
 }

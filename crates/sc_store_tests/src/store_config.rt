@@ -44,29 +44,44 @@ fn names(alloc: Global, words: &[&str]) -> Result<Items<Text>, NoMemory> {
     Ok(names)
 }
 
-/// A configuration with this chain, a disk, a remote `r1` that is read-only, and a fallback disk.
-fn config(alloc: Global, chain: &[&str]) -> Result<Config, NoMemory> {
+/// A remote `r1` that is read-only.
+fn remotes(alloc: Global) -> Result<Items<NamedRemote<MemRemote>>, NoMemory> {
+    let config = remote(alloc, CacheMode::ReadOnly)?;
     let mut remotes = Items::new(alloc);
     remotes.push(NamedRemote {
         name: Text::from_str(alloc, "r1")?,
-        config: remote(alloc, CacheMode::ReadOnly)?,
+        config,
     })?;
+    Ok(remotes)
+}
+
+fn home(alloc: Global) -> Result<Items<ByteText>, NoMemory> {
     let mut basedirs = Items::new(alloc);
     basedirs.push(ByteText::from_slice(alloc, b"/home")?)?;
+    Ok(basedirs)
+}
+
+/// A configuration with this chain, a disk, a remote `r1` that is read-only, and a fallback disk.
+fn config(alloc: Global, chain: &[&str]) -> Result<Config, NoMemory> {
+    let chain = names(alloc, chain)?;
+    let (basedirs, remotes) = (home(alloc)?, remotes(alloc)?);
+    let disk = disk_config(alloc, b"/0")?;
     Ok(StoreConfig {
-        chain: names(alloc, chain)?,
+        chain,
         level_policies: None,
         write_error_policy: WriteErrorPolicy::new(),
-        disk: Some(disk_config(alloc, b"/0")?),
+        fallback: disk_config(alloc, b"/fallback")?,
+        disk: Some(disk),
         remotes,
         remote: None,
-        fallback: disk_config(alloc, b"/fallback")?,
         basedirs,
         skip_cache_check: true,
     })
 }
 
-fn made(alloc: Global, config: Config) -> Result<Layered<MemRemote, MemDisk, Unvouched>, Fail> {
+type Levels = Layered<MemRemote, MemDisk, Unvouched>;
+
+fn made(alloc: Global, config: Config) -> Result<Levels, Fail> {
     match storage_from_config(alloc, config) {
         Ok(levels) => Ok(levels),
         Err(_) => Err(Fail::new("no store")),
@@ -87,12 +102,14 @@ fn told_mode(mode: CacheMode) -> &'static str {
     }
 }
 
-/// A level's kind, mode and location.
+/// What is told of a level: its kind, its mode and its location.
+type Row = (&'static str, &'static str, &'static str);
+
 fn check_level(
     rt: &impl Abort,
     alloc: Global,
     level: &Level<MemRemote, MemDisk, Unvouched>,
-    expected: (&str, &str, &str),
+    expected: Row,
 ) -> Result<(), Fail> {
     let location = level.location(alloc)?;
     assert_eq!(rt; told_kind(level.kind()), expected.0);
@@ -104,20 +121,32 @@ fn check_level(
 
 const REMOTE: &str = "memory, name: m, prefix: /";
 
+fn check_chain(
+    rt: &impl Abort,
+    alloc: Global,
+    levels: &Levels,
+    expected: [Row; 2],
+) -> Result<(), Fail> {
+    assert!(rt; matches!(levels.policy(), Policy::Levels(_)));
+    assert_eq!(rt; levels.len(), 2);
+    check_level(rt, alloc, levels.get(0), expected[0])?;
+    check_level(rt, alloc, levels.get(1), expected[1])
+}
+
 #[test]
 fn chain_is_in_order(rt: HostRuntime) -> Result<(), Fail> {
     let alloc = rt.alloc();
-    let levels = made(alloc, config(alloc, &[" DISK ", "r1"])?)?;
-    assert!(rt; matches!(levels.policy(), Policy::Levels(_)));
-    assert_eq!(rt; levels.len(), 2);
     let disk = ("disk", "read-write", "Local disk: \"/0\"");
-    check_level(&rt, alloc, levels.get(0), disk)?;
-    check_level(&rt, alloc, levels.get(1), ("remote", "read-only", REMOTE))?;
+    let levels = made(alloc, config(alloc, &[" DISK ", "r1"])?)?;
+    check_chain(&rt, alloc, &levels, [disk, ("remote", "read-only", REMOTE)])
+}
+
+#[test]
+fn chain_may_begin_with_a_remote(rt: HostRuntime) -> Result<(), Fail> {
+    let alloc = rt.alloc();
+    let disk = ("disk", "read-write", "Local disk: \"/0\"");
     let levels = made(alloc, config(alloc, &["r1", "disk\n"])?)?;
-    assert_eq!(rt; levels.len(), 2);
-    check_level(&rt, alloc, levels.get(0), ("remote", "read-only", REMOTE))?;
-    check_level(&rt, alloc, levels.get(1), disk)?;
-    Ok(())
+    check_chain(&rt, alloc, &levels, [("remote", "read-only", REMOTE), disk])
 }
 
 /// The text of the error that a chain gives.
@@ -128,35 +157,52 @@ fn refusal(alloc: Global, chain: &[&str]) -> Result<String, Fail> {
     }
 }
 
+/// Whether this is that text.
+fn refuses(alloc: Global, chain: &[&str], expected: &str) -> Result<bool, Fail> {
+    let text = refusal(alloc, chain)?;
+    Ok(text.as_str() == expected)
+}
+
 #[test]
 fn first_unknown_name_is_told(rt: HostRuntime) -> Result<(), Fail> {
     let alloc = rt.alloc();
-    let text = refusal(alloc, &["disk", "\u{a0}r2 ", "r3"])?;
-    assert_eq!(rt; text.as_str(), "Cache level 'r2' is not configured");
-    let text = refusal(alloc, &["disk", "r1", " Disk"])?;
-    assert_eq!(rt; text.as_str(), "Cache level 'Disk' is not configured");
-    let text = refusal(alloc, &["R1"])?;
-    assert_eq!(rt; text.as_str(), "Cache level 'R1' is not configured");
+    let chain = ["disk", "\u{a0}r2 ", "r3"];
+    assert!(rt; refuses(alloc, &chain, "Cache level 'r2' is not configured")?);
+    let chain = ["disk", "r1", " Disk"];
+    assert!(rt; refuses(alloc, &chain, "Cache level 'Disk' is not configured")?);
+    assert!(rt; refuses(alloc, &["R1"], "Cache level 'R1' is not configured")?);
     let text = format!(in alloc; "{}", ConfigError::NoMemory)?;
     assert_eq!(rt; text.as_str(), "out of memory");
     Ok(())
 }
 
+fn check_single(
+    rt: &impl Abort,
+    alloc: Global,
+    levels: &Levels,
+    expected: Row,
+) -> Result<(), Fail> {
+    assert!(rt; matches!(levels.policy(), Policy::Single));
+    assert_eq!(rt; levels.len(), 1);
+    check_level(rt, alloc, levels.get(0), expected)
+}
+
 #[test]
-fn one_level_without_a_chain(rt: HostRuntime) -> Result<(), Fail> {
+fn one_remote_without_a_chain(rt: HostRuntime) -> Result<(), Fail> {
     let alloc = rt.alloc();
+    let remote = remote(alloc, CacheMode::ReadWrite)?;
     let mut single = config(alloc, &[])?;
-    single.remote = Some(remote(alloc, CacheMode::ReadWrite)?);
+    single.remote = Some(remote);
     let levels = made(alloc, single)?;
-    assert!(rt; matches!(levels.policy(), Policy::Single));
-    assert_eq!(rt; levels.len(), 1);
-    check_level(&rt, alloc, levels.get(0), ("remote", "read-write", REMOTE))?;
+    check_single(&rt, alloc, &levels, ("remote", "read-write", REMOTE))
+}
+
+#[test]
+fn fallback_without_a_chain(rt: HostRuntime) -> Result<(), Fail> {
+    let alloc = rt.alloc();
     let levels = made(alloc, config(alloc, &[])?)?;
-    assert!(rt; matches!(levels.policy(), Policy::Single));
-    assert_eq!(rt; levels.len(), 1);
     let fallback = ("disk", "read-write", "Local disk: \"/fallback\"");
-    check_level(&rt, alloc, levels.get(0), fallback)?;
-    Ok(())
+    check_single(&rt, alloc, &levels, fallback)
 }
 
 #[test]
