@@ -11,7 +11,7 @@ use Rattle.sc_model.specs.declared.event.Mode.TheVariants.{Size}
 use Rattle.sc_model.specs.declared.event.Told.{Told}
 use Rattle.sc_model.specs.declared.event.Told.TheVariants.{Stats as TellsStats}
 use Rattle.sc_model.specs.declared.event.What.{What}
-use Rattle.sc_model.specs.declared.event.What.TheVariants.{Asked, Began, Committed, Dist, Filled, Passed, Reserved}
+use Rattle.sc_model.specs.declared.event.What.TheVariants.{Asked, Began, Committed, Filled, Passed, Reserved}
 use Rattle.sc_model.specs.declared.message.Request.{Request}
 use Rattle.sc_model.specs.declared.phase.Phase.{Phase}
 
@@ -24,12 +24,11 @@ abbrev pub IsPlainMode : Mode → Type 0
 IsPlainMode Size = ⊥
 IsPlainMode _ = Unit {0}
 
--- events over remote stores without a distributed client: nothing is reserved, and no others' events are told
+-- events over remote stores: nothing is reserved, and no others' events are told
 abbrev pub IsPlain : What → Type 0
 IsPlain (Passed n) = ⊥
 IsPlain (Began q told) = IsPlainTold told
 IsPlain (Asked l k mode a hs) = IsPlainMode mode
-IsPlain (Dist d) = ⊥
 IsPlain (Reserved l k n w) = ⊥
 IsPlain (Filled l k b mark w) = ⊥
 IsPlain (Committed l k b w) = ⊥

@@ -10,7 +10,7 @@ use Rattle.sc_model.specs.Follows.{Fits, kind_at}
 use Rattle.sc_model.specs.Machine.{after, due_at}
 use Rattle.sc_model.specs.There.{AreHanded, AreLevels, handed_in}
 use Rattle.sc_model.specs.declared.event.What.{What}
-use Rattle.sc_model.specs.declared.event.What.TheVariants.{Dist, Passed}
+use Rattle.sc_model.specs.declared.event.What.TheVariants.{Passed}
 use Rattle.sc_model.specs.declared.level.LevelKind.TheVariants.{Disk}
 use Rattle.sc_model.specs.declared.message.Request.{Request}
 use Rattle.sc_model.specs.declared.phase.Ending.{Ending}
@@ -47,10 +47,9 @@ hand_of (Some e) (AtFill b l ls f ending) = hand_at (Some e) l (length b.bytes)
 hand_of (Some e) (AtCommit b l ls f ending) = hand_at (Some e) l (length b.bytes)
 hand_of (Some e) p = None
 
--- an event of a request without a distributed client: no time passes
+-- an event of a request: no time passes
 abbrev pub IsOwn : What → Type 0
 IsOwn (Passed n) = ⊥
-IsOwn (Dist d) = ⊥
 IsOwn _ = Unit {0}
 
 -- The event is the one that is due, the phase after it is the machine's, and it can be stood at with the entry that is held

@@ -1,7 +1,7 @@
 -- Where a job stands after a run that gave an output, by its judgement.
-use Rattle.std.specs.Prelude.{ℕ, true}
+use Rattle.std.specs.Prelude.{ℕ, Bool, List}
 use Rattle.sc_job.specs.Setups.{Config, setup}
-use Rattle.sc_model.specs.Job.{Judged, finish_judged, judged_verdict, notes_in, run_bytes}
+use Rattle.sc_model.specs.Job.{Judged, finish_judged, judged_verdict, run_bytes}
 use Rattle.sc_model.specs.Machine.{ending_of, judged_phase}
 use Rattle.sc_model.specs.declared.event.RunOutput.{RunOutput}
 use Rattle.sc_model.specs.declared.message.Compile.{Compile as CompileRequest}
@@ -9,7 +9,8 @@ use Rattle.sc_model.specs.declared.message.Request.TheVariants.{Compile}
 use Rattle.sc_model.specs.declared.phase.Phase.{Phase}
 use Rattle.sc_model.specs.declared.phase.Work.{Work}
 
-abbrev pub ran_by : Config → CompileRequest → Work → ℕ → RunOutput → Judged → Phase
-ran_by k c work d out j =
-    judged_phase j (judged_verdict j work.miss work.dist d) work.job.task (run_bytes (setup k) work.job true out)
-    (ending_of (notes_in (setup k) (Compile c) work.job.task.kind out.output.stderr) (finish_judged (setup k) (Compile c) j out.output))
+-- mark: whether it ran here; notes: what its compiler told
+abbrev pub ran_by : Config → CompileRequest → Work → (mark : Bool) (notes : List (List ℕ)) → ℕ → RunOutput → Judged → Phase
+ran_by k c work mark notes d out j =
+    judged_phase j (judged_verdict j work.miss work.dist d) work.job.task (run_bytes (setup k) work.job mark out)
+    (ending_of notes (finish_judged (setup k) (Compile c) j out.output))

@@ -1,5 +1,5 @@
--- The phases that a request without a distributed client can stand at.
-use Rattle.std.specs.Prelude.{◌≡◌, ◌<◌, false, length, Option, Some, None}
+-- The phases that a request can stand at.
+use Rattle.std.specs.Prelude.{◌<◌, length, Option, Some, None}
 use Rattle.sc_model.specs.There.{AreLevels}
 use Rattle.sc_wire.specs.Requests.{IsServed}
 use Rattle.sc_hold.specs.Quiet.{IsQuietVerdict}
@@ -7,9 +7,8 @@ use Rattle.sc_job.specs.Setups.{Config}
 use Rattle.sc_model.specs.declared.message.Request.{Request}
 use Rattle.sc_model.specs.declared.message.Request.TheVariants.{Compile, GetStats, StorageGetRaw, StoragePutRaw}
 use Rattle.sc_model.specs.declared.phase.Ending.{Ending}
-use Rattle.sc_model.specs.declared.phase.Job.{Job}
 use Rattle.sc_model.specs.declared.phase.Phase.{Phase}
-use Rattle.sc_model.specs.declared.phase.Phase.TheVariants.{AtAsk, AtBegin, AtEnd, AtEnded, AtFinish, AtKey, AtOver, AtPlace, AtRun, AtSend, AtStarted, AtStore, AtTake, AtWrite, RawAsk, SizeAsk}
+use Rattle.sc_model.specs.declared.phase.Phase.TheVariants.{AtAsk, AtBegin, AtDist, AtEnd, AtEnded, AtFinish, AtKey, AtOver, AtPlace, AtRun, AtSend, AtStarted, AtStore, AtTake, AtWrite, RawAsk, SizeAsk}
 
 abbrev pub IsCompile : Request → Type 0
 IsCompile (Compile c) = Unit {0}
@@ -29,21 +28,18 @@ IsWriter (Compile c) (Some ending) = Unit {0}
 IsWriter (StoragePutRaw k b) None = Unit {0}
 IsWriter r ending = ⊥
 
--- a job that no client was given for
-abbrev pub IsLocal : Job → Type 0
-IsLocal job = job.client ≡ false
-
 -- What can be gone on with where no entry of a disk level is held: every phase but those after the last reply.
 abbrev pub Serves : Config → Phase → Request → Type 0
 Serves k AtBegin r = IsServed r
 Serves k (AtSend f) r = IsServed r
 Serves k (AtStarted task) r = IsCompile r
 Serves k (AtKey task first) r = IsCompile r
-Serves k (AtAsk job l) r = IsCompile r × IsLocal job × (l < length k.levels)
-Serves k (AtPlace job b d) r = IsCompile r × IsLocal job
-Serves k (AtTake work) r = IsCompile r × IsLocal work.job
-Serves k (AtRun work) r = IsCompile r × IsLocal work.job
-Serves k (AtEnd v task ending) r = IsCompile r × IsQuietVerdict v
+Serves k (AtAsk job l) r = IsCompile r × (l < length k.levels)
+Serves k (AtPlace job b d) r = IsCompile r
+Serves k (AtDist work) r = IsCompile r
+Serves k (AtTake work) r = IsCompile r
+Serves k (AtRun work) r = IsCompile r
+Serves k (AtEnd v task ending) r = IsCompile r
 Serves k (AtStore v task b ending) r = IsCompile r × IsQuietVerdict v
 Serves k (AtWrite b ls f ending) r = AreLevels (length k.levels) ls × IsWriter r ending
 Serves k (AtFinish ns last) r = IsCompile r

@@ -10,7 +10,7 @@ use Rattle.sc_model.specs.declared.event.Answer.TheVariants.{Size as SizeIs}
 use Rattle.sc_model.specs.declared.event.Mode.TheVariants.{Size as Sizes}
 use Rattle.sc_model.specs.declared.event.Told.TheVariants.{Stats as TellsStats}
 use Rattle.sc_model.specs.declared.event.What.{What}
-use Rattle.sc_model.specs.declared.event.What.TheVariants.{Asked, Began, Committed, Dist, Filled, Passed, Reserved}
+use Rattle.sc_model.specs.declared.event.What.TheVariants.{Asked, Began, Committed, Filled, Passed, Reserved}
 use Rattle.sc_model.specs.declared.level.Policy.{Policy}
 use Rattle.sc_model.specs.declared.message.Request.{Request}
 use Rattle.sc_model.specs.declared.phase.Phase.{Phase}
@@ -23,10 +23,9 @@ SaysCounted p stats levels (Began q (TellsStats told)) = told ≡ stats
 SaysCounted p stats levels (Asked l k Sizes (SizeIs n c) hs) = c ≡ counters_at p levels l
 SaysCounted p stats levels _ = Unit {0}
 
--- an event over remote stores without a distributed client: no time passes, and nothing is reserved
+-- an event over remote stores: no time passes, and nothing is reserved
 abbrev pub IsStill : What → Type 0
 IsStill (Passed n) = ⊥
-IsStill (Dist d) = ⊥
 IsStill (Reserved l k n w) = ⊥
 IsStill (Filled l k b mark w) = ⊥
 IsStill (Committed l k b w) = ⊥

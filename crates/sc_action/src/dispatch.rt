@@ -19,10 +19,12 @@ use crate::acted::{Acted, Action, holding_none};
 use crate::early::{act_begin, act_key};
 use crate::lookup::{act_ask, act_place};
 use crate::raw::{act_begin_get, act_begin_put, act_raw_ask};
-use crate::running::{act_run, act_take};
+use crate::running::{act_dist, act_run, act_take};
 use crate::sending::{act_finish, act_send, act_started};
 use crate::storing::{act_end, act_store};
-use crate::telling::{act_begin_stats, act_handshake, act_record, act_size_ask, act_zero};
+use crate::telling::{
+    act_begin_stats, act_dist_status, act_handshake, act_record, act_size_ask, act_zero,
+};
 use crate::writing::{act_writing, is_write};
 use sc_disk::LruDiskCacheAddEntry;
 use sc_entry::{ByteText, NoMemory, Text};
@@ -55,6 +57,7 @@ fn act_compile<H: Hold>(
         Phase::AtPlace(job, entry, duration) => act_place(
             alloc, hold, request, job, entry, duration,
         ),
+        Phase::AtDist(work) => act_dist(alloc, hold, request, work),
         Phase::AtTake(work) => act_take(hold, request, work),
         Phase::AtRun(work) => act_run(alloc, hold, request, work),
         Phase::AtEnd(verdict, task, ending) => act_end(hold, request, verdict, task, ending),
@@ -201,6 +204,27 @@ fn act_storage_handshake<H: Hold>(
     }
 }
 
+/// Does the action that is due of a request for where the distributed client stands.
+fn act_told_dist<H: Hold>(
+    alloc: Global,
+    hold: &mut H,
+    phase: Phase,
+    out: &mut Vec<u8>,
+) -> Result<Acted, NoMemory>
+    requires { Serves (H.config hold.old) phase requests.DistStatus }
+    ensures acts { IfOk result (λ a. ActsFor (H.config hold.old) requests.DistStatus phase (H.moment hold.old) a) }
+    ensures says { IfOk result (λ a. (p : PolicyType) (stats : Stats) (levels : List Counters) → SaysCounted p stats levels a.what) }
+    ensures moves { IfOk result (λ a. H.moves hold.old (need_at (setup (H.config hold.old)) requests.DistStatus phase) a.what hold.new) }
+    ensures same { IfOk result (λ a. H.config hold.new ≡ H.config hold.old) }
+    ensures sent { IfOk result (λ a. Adds (H.config hold.old) (sent_by a.what) out.old.items out.new.items) }
+{
+    match phase {
+        Phase::AtBegin => act_dist_status(alloc, hold),
+        Phase::AtSend(reply) => act_send(alloc, hold, reply, out),
+        _ => unreachable!(),
+    }
+}
+
 /// Does the action that is due of a request that writes nothing now.
 fn act_plain<H: Hold>(
     alloc: Global,
@@ -227,6 +251,7 @@ fn act_plain<H: Hold>(
         Request::ZeroStats => act_zero_stats(alloc, hold, phase, out),
         Request::RecordStats(delta) => act_record_stats(alloc, hold, delta, phase, out),
         Request::StorageHandshake => act_storage_handshake(alloc, hold, phase, out),
+        Request::DistStatus => act_told_dist(alloc, hold, phase, out),
         _ => unreachable!(),
     }
 }

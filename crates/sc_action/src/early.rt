@@ -1,9 +1,9 @@
 //! The actions of a compile up to its lookup.
-ghost use Rattle.std.specs.Prelude.{◌≡◌, [], IfOk};
+ghost use Rattle.std.specs.Prelude.{◌≡◌, [], length, IfOk};
 ghost use Rattle.sc_action.specs.Acts.{Acts};
 ghost use Rattle.sc_action.specs.Serves.{Stands};
 ghost use Rattle.sc_job.specs.Setups.{Config, setup};
-ghost use Rattle.sc_model.specs.Machine.{begin_compile_phase, need_at};
+ghost use Rattle.sc_model.specs.Machine.{begin_compile_phase, key_phase, need_at};
 ghost use Rattle.sc_model.specs.Trace.{sent_by};
 ghost use Rattle.sc_model.specs.declared.message.Request.TheVariants.{Compile as CompileOf};
 ghost use Rattle.sc_model.specs.declared.message.Compile.{Compile as CompileRequest};
@@ -11,10 +11,12 @@ ghost use Rattle.sc_model.specs.declared.message.Compile.{Compile as CompileRequ
 use crate::acted::Acted;
 use crate::control::control_of;
 use crate::turn::keyed;
-use sc_entry::{ByteText, NoMemory};
-use sc_hold::Hold;
+use sc_entry::{ByteText, NoMemory, Queue};
+use sc_hold::{Hold, Keying};
+use sc_job::{finish_fatal, finish_output};
 use sc_model::{
-    Compile, CompileResponse, Job, KeyStep, Parsed, Phase, Request, Response, Task, Told, What,
+    ColorMode, Compile, CompileResponse, Ending, Job, KeyStep, Parsed, Phase, Request, Response,
+    Task, Told, Verdict, What,
 };
 use std::alloc::Global;
 
@@ -54,6 +56,43 @@ pub fn act_begin<H: Hold>(alloc: Global, hold: &mut H, request: &Compile) -> Res
     })
 }
 
+/// Where a compile stands after its key step: it goes on with a key, and ends without one.
+fn after_key(
+    alloc: Global,
+    request: &Compile,
+    task: Task,
+    first: bool,
+    keying: &Keying,
+    levels: u64,
+    now: u64,
+) -> Result<Phase, NoMemory>
+    ensures phase { IfOk result (λ p. (k : Config) → length k.levels ≡ levels → p ≡ key_phase (setup k) (CompileOf request.now) task now first keying.now.client keying.now.step) }
+    ensures stands { IfOk result (λ p. (k : Config) → length k.levels ≡ levels → Stands k p (CompileOf request.now)) }
+{
+    match &keying.step {
+        KeyStep::Key(found) => {
+            let job = Job {
+                task,
+                found: found.clone()?,
+                at: now,
+                client: keying.client,
+                first,
+            };
+            Ok(keyed(job, control_of(request, first), levels, now))
+        }
+        KeyStep::ProcessError(out) => {
+            let last = finish_output(ColorMode::Auto, out)?;
+            let notes = Queue::new(alloc);
+            Ok(Phase::AtEnd(Verdict::Error, task, Ending { notes, last }))
+        }
+        KeyStep::Fault(chain) => {
+            let last = finish_fatal(alloc, ColorMode::Auto, chain.as_slice())?;
+            let notes = Queue::new(alloc);
+            Ok(Phase::AtEnd(Verdict::Fault, task, Ending { notes, last }))
+        }
+    }
+}
+
 /// Finds the key of a compile.
 pub fn act_key<H: Hold>(
     alloc: Global,
@@ -69,17 +108,10 @@ pub fn act_key<H: Hold>(
 {
     let now = hold.now();
     let levels = hold.level_count();
-    let found = hold.key(alloc, request, first)?;
-    let job = Job {
-        task,
-        found: found.clone()?,
-        at: now,
-        client: false,
-        first,
-    };
-    let phase = keyed(job, control_of(request, first), levels, now);
+    let keying = hold.key(alloc, request, first)?;
+    let phase = after_key(alloc, request, task, first, &keying, levels, now)?;
     Ok(Acted {
-        what: What::Keyed(first, false, KeyStep::Key(found)),
+        what: What::Keyed(first, keying.client, keying.step),
         phase,
     })
 }

@@ -1,7 +1,7 @@
 //! The actions of a lookup: a level is asked, and a hit's outputs are placed.
 ghost use Rattle.std.specs.Prelude.{◌≡◌, ◌<◌, [], length, IfOk};
 ghost use Rattle.sc_action.specs.Acts.{Acts};
-ghost use Rattle.sc_action.specs.Serves.{IsLocal, Stands};
+ghost use Rattle.sc_action.specs.Serves.{Stands};
 ghost use Rattle.sc_job.specs.Setups.{Config, setup};
 ghost use Rattle.sc_model.specs.Machine.{need_at, placed_phase};
 ghost use Rattle.sc_model.specs.Trace.{sent_by};
@@ -27,7 +27,6 @@ pub fn act_ask<H: Hold>(
     job: Job,
     level: u64,
 ) -> Result<Acted, NoMemory>
-    requires local { IsLocal job }
     requires level { level < length (H.config hold.old).levels }
     ensures acts { IfOk result (λ a. Acts (H.config hold.old) (CompileOf request.now) (Phase.AtAsk job level) (H.moment hold.old) a) }
     ensures moves { IfOk result (λ a. H.moves hold.old (need_at (setup (H.config hold.old)) (CompileOf request.now) (Phase.AtAsk job level)) a.what hold.new) }
@@ -78,7 +77,6 @@ fn placed(
     now: u64,
     placing: &Placing,
 ) -> Result<Phase, NoMemory>
-    requires { IsLocal job }
     ensures phase { IfOk result (λ p. (k : Config) (c : CompileRequest) → p ≡ placed_phase (setup k) (CompileOf c) job entry duration now placing.now) }
     ensures stands { IfOk result (λ p. (k : Config) (c : CompileRequest) → Stands k p (CompileOf c)) }
 {
@@ -108,7 +106,6 @@ pub fn act_place<H: Hold>(
     entry: ByteText,
     duration: u64,
 ) -> Result<Acted, NoMemory>
-    requires local { IsLocal job }
     ensures acts { IfOk result (λ a. Acts (H.config hold.old) (CompileOf request.now) (Phase.AtPlace job entry duration) (H.moment hold.old) a) }
     ensures moves { IfOk result (λ a. H.moves hold.old (need_at (setup (H.config hold.old)) (CompileOf request.now) (Phase.AtPlace job entry duration)) a.what hold.new) }
     ensures same { IfOk result (λ a. H.config hold.new ≡ H.config hold.old) }

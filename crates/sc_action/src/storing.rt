@@ -21,7 +21,7 @@ use sc_hold::Hold;
 use sc_model::{Bytes, Compile, Ending, Mode, Phase, Refusal, Task, Verdict, What, Written};
 use std::alloc::Global;
 
-/// Tells the outcome of a job that stores nothing.
+/// Tells the outcome of a job that stores nothing. Where a server refused it, the distributed client is made anew.
 pub fn act_end<H: Hold>(
     hold: &mut H,
     request: &Compile,
@@ -29,12 +29,14 @@ pub fn act_end<H: Hold>(
     task: Task,
     ending: Ending,
 ) -> Result<Acted, NoMemory>
-    requires { IsQuietVerdict verdict }
     ensures acts { IfOk result (λ a. Acts (H.config hold.old) (CompileOf request.now) (Phase.AtEnd verdict task ending) (H.moment hold.old) a) }
     ensures moves { IfOk result (λ a. H.moves hold.old (need_at (setup (H.config hold.old)) (CompileOf request.now) (Phase.AtEnd verdict task ending)) a.what hold.new) }
     ensures same { IfOk result (λ a. H.config hold.new ≡ H.config hold.old) }
     ensures unsent { IfOk result (λ a. sent_by a.what ≡ []) }
 {
+    if matches!(&verdict, Verdict::Http) {
+        hold.reset_state();
+    }
     Ok(Acted {
         what: What::Outcome(verdict, counted_task(request, task)),
         phase: Phase::AtFinish(ending.notes, ending.last),

@@ -1,4 +1,4 @@
-//! The actions of requests for what a daemon has counted, and for what its store tells of itself.
+//! The actions of requests for what a daemon has counted, and for what its store and its distributed client tell of themselves.
 ghost use Rattle.std.specs.Prelude.{◌≡◌, ◌+◌, ◌<◌, ◌++◌, [], List, length, map, IfOk};
 ghost use Rattle.std.specs.Str.Lossy.{utf8_lossy};
 ghost use Rattle.sc_action.specs.Serves.{Stands};
@@ -85,6 +85,22 @@ pub fn act_handshake<H: Hold>(alloc: Global, hold: &mut H) -> Result<Acted, NoMe
     Ok(Acted {
         what: What::Began(Request::StorageHandshake, Told::Handshake(told)),
         phase: Phase::AtSend(Response::StorageHandshake(info)),
+    })
+}
+
+/// Begins a request for where the distributed client stands.
+pub fn act_dist_status<H: Hold>(alloc: Global, hold: &mut H) -> Result<Acted, NoMemory>
+    ensures acts { IfOk result (λ a. ActsFor (H.config hold.old) requests.DistStatus Phase.AtBegin (H.moment hold.old) a) }
+    ensures says { IfOk result (λ a. (p : PolicyType) (stats : Stats) (levels : List Counters) → SaysCounted p stats levels a.what) }
+    ensures moves { IfOk result (λ a. H.moves hold.old (need_at (setup (H.config hold.old)) requests.DistStatus Phase.AtBegin) a.what hold.new) }
+    ensures same { IfOk result (λ a. H.config hold.new ≡ H.config hold.old) }
+    ensures unsent { IfOk result (λ a. sent_by a.what ≡ []) }
+{
+    let info = hold.dist_status(alloc)?;
+    let told = info.clone()?;
+    Ok(Acted {
+        what: What::Began(Request::DistStatus, Told::Dist(info)),
+        phase: Phase::AtSend(Response::DistStatus(told)),
     })
 }
 

@@ -1,7 +1,7 @@
 //! Where a job goes on: to a lookup at its next level, or to its run.
 ghost use Rattle.std.specs.Prelude.{◌≡◌, ◌+◌, ◌<◌, length, IfOk};
 ghost use Rattle.sc_action.specs.Controls.{control_of as control_in};
-ghost use Rattle.sc_action.specs.Serves.{IsLocal, Stands};
+ghost use Rattle.sc_action.specs.Serves.{Stands};
 ghost use Rattle.sc_job.specs.Setups.{Config, setup};
 ghost use Rattle.sc_model.specs.Job as jobs;
 ghost use Rattle.sc_model.specs.Machine.{control_phase, missed_phase, phase_next, whole_phase, work_of as work_record, work_phase};
@@ -28,27 +28,32 @@ fn work_of(job: Job, miss: MissType, from: u64) -> Work
     }
 }
 
-/// A job goes on to its run.
+/// A job goes on to its run: by its distributed client, where it has one.
 fn to_work(job: Job, miss: MissType, now: u64) -> Phase
-    requires { IsLocal job }
     ensures phase { result ≡ work_phase job miss now }
     ensures stands { (k : Config) (c : CompileRequest) → Stands k result (CompileOf c) }
 {
-    Phase::AtTake(work_of(job, miss, now))
+    let work = work_of(job, miss, now);
+    if work.job.client {
+        Phase::AtDist(work)
+    } else {
+        Phase::AtTake(work)
+    }
 }
 
-/// A miss at the default control.
+/// A miss at the default control: a job with a distributed client looks for its key once more, unless it was preprocessed here.
 pub fn to_miss(job: Job, miss: MissType, now: u64) -> Phase
-    requires { IsLocal job }
     ensures phase { result ≡ missed_phase job miss now }
     ensures stands { (k : Config) (c : CompileRequest) → Stands k result (CompileOf c) }
 {
-    Phase::AtTake(work_of(job, miss, now))
+    if !job.found.locally_preprocessed && job.client {
+        return Phase::AtKey(job.task, false);
+    }
+    to_work(job, miss, now)
 }
 
 /// A lookup's next level, or a miss after the last.
 fn next_level(job: Job, level: u64, levels: u64, miss: MissType, now: u64) -> Phase
-    requires { IsLocal job }
     ensures phase { (k : Config) → length k.levels ≡ levels → result ≡ phase_next (setup k) level (Phase.AtAsk job level) (missed_phase job miss now) }
     ensures stands { (k : Config) (c : CompileRequest) → length k.levels ≡ levels → Stands k result (CompileOf c) }
 {
@@ -61,7 +66,6 @@ fn next_level(job: Job, level: u64, levels: u64, miss: MissType, now: u64) -> Ph
 
 /// Where a job stands once its key is found.
 pub fn keyed(job: Job, control: Control, levels: u64, now: u64) -> Phase
-    requires { IsLocal job }
     ensures phase { (k : Config) → length k.levels ≡ levels → result ≡ control_phase (setup k) (control_in control) job now }
     ensures stands { (k : Config) (c : CompileRequest) → length k.levels ≡ levels → Stands k result (CompileOf c) }
 {
@@ -87,7 +91,6 @@ fn if_late(late: bool, miss: MissType) -> MissType
 
 /// Where a job stands after a level's hit: one that came too late is a miss.
 fn hit(job: Job, level: u64, bytes: &ByteText, mark: bool, now: u64) -> Result<Phase, NoMemory>
-    requires { IsLocal job }
     ensures phase { IfOk result (λ p. (k : Config) → p ≡ whole_phase (setup k) job now level (Answer.Hit bytes.now mark)) }
     ensures stands { IfOk result (λ p. (k : Config) (c : CompileRequest) → Stands k p (CompileOf c)) }
 {
@@ -100,7 +103,6 @@ fn hit(job: Job, level: u64, bytes: &ByteText, mark: bool, now: u64) -> Result<P
 
 /// Where a job stands after a level gave nothing.
 fn missed(job: Job, level: u64, levels: u64, miss: MissType, now: u64) -> Phase
-    requires local { IsLocal job }
     requires level { level < levels }
     ensures phase { (k : Config) → length k.levels ≡ levels → result ≡ phase_next (setup k) (level + 1) (Phase.AtAsk job (level + 1)) (missed_phase job (jobs.if_late (jobs.is_late job now) miss) now) }
     ensures stands { (k : Config) (c : CompileRequest) → length k.levels ≡ levels → Stands k result (CompileOf c) }
@@ -130,7 +132,6 @@ pub fn asked(
     answer: &Answer,
     now: u64,
 ) -> Result<Phase, NoMemory>
-    requires local { IsLocal job }
     requires level { level < levels }
     ensures phase { IfOk result (λ p. (k : Config) → length k.levels ≡ levels → is_single k.policy ≡ single → p ≡ whole_phase (setup k) job now level answer.now) }
     ensures stands { IfOk result (λ p. (k : Config) (c : CompileRequest) → length k.levels ≡ levels → Stands k p (CompileOf c)) }

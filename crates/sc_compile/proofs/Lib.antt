@@ -5,4 +5,3 @@ pub mod Named
 pub mod Naming
 pub mod Objects
 pub mod Outputs
-pub mod Shelves

@@ -1,11 +1,11 @@
 -- The outputs that words name have names of their own.
-use Rattle.std.proofs.Common.{◌≡◌, ℕ, Bool, true, false, ◌&&◌, ◌||◌, if◌then◌else◌, List, [], ◌∷◌, ◌++◌, length, map, suc, Option, Some, None, codes, refl, ap, sym, ◌∙◌, append_assoc}
+use Rattle.std.proofs.Common.{◌≡◌, ℕ, Bool, true, false, not, ◌&&◌, ◌||◌, if◌then◌else◌, List, [], ◌∷◌, ◌++◌, length, map, suc, Option, Some, None, codes, refl, ap, sym, ◌∙◌, append_assoc}
 use Rattle.std.specs.Str.{bytes_eq, is_utf8}
 use Rattle.std.proofs.lemmas.List.{append-nil}
 use Rattle.sc_entry.specs.declared.object.FileObjectSource.{FileObjectSource}
 use Rattle.sc_model.specs.declared.message.Compile.{Compile}
 use Rattle.sc_compile.specs.GoodNames.{are_outputs}
-use Rattle.sc_compile.specs.Plain.{PlainArguments, arguments, arguments_after, arguments_of, first_of, has_key, is_new_name, key_found, output_of, output_onto, outputs_onto, placed_in, plain_key, required}
+use Rattle.sc_compile.specs.Plain.{PlainArguments, arguments, arguments_after, arguments_of, first_of, has_key, is_new_name, flag, is_optional, key_found, output_of, output_onto, outputs_onto, placed_in, plain_key, with_options}
 use Rattle.sc_compile.specs.Words.{◌>>=◌, cut_at, only_if}
 use Rattle.sc_compile.specs.declared.first_word.FirstWord.{FirstWord}
 use Rattle.sc_compile.specs.declared.first_word.FirstWord.TheVariants.{Key, Cannot, Other}
@@ -30,48 +30,54 @@ new_if : (b : Bool) (before : List FileObjectSource) (o p : FileObjectSource) �
 new_if true before o p is e = let same : p ≡ o = cc in ap (λ (x : FileObjectSource). is_new_name before x.key) (sym same) ∙ is
 new_if false before o p is e = absurd (cc)
 
-new_cut : (cut : Option (List ℕ × List ℕ)) (before : List FileObjectSource) (o : FileObjectSource) → (cut >>= (λ p. only_if (is_new_name before p.0) (required p.0 p.1))) ≡ Some o → is_new_name before o.key ≡ true
-new_cut None before o e = absurd (cc)
-new_cut (Some p) before o e = new_if (is_new_name before p.0) before o (required p.0 p.1) refl e
+new_cut : (cut : Option (List ℕ × List ℕ)) (optional : Bool) (before : List FileObjectSource) (o : FileObjectSource)
+    → (cut >>= (λ p. only_if (is_new_name before p.0) (record { key = p.0; path = p.1; optional = optional }))) ≡ Some o → is_new_name before o.key ≡ true
+new_cut None optional before o e = absurd (cc)
+new_cut (Some p) optional before o e = new_if (is_new_name before p.0) before o (record { key = p.0; path = p.1; optional = optional }) refl e
 
 both : (a b : Bool) → a ≡ true → b ≡ true → (a && b) ≡ true
 both a b f g = rw (f, g) refl
 
 -- what reading more words keeps
 abbrev Keeps : List (List ℕ) → Type 0
-Keeps ws = (before os : List FileObjectSource) (left : List (List ℕ)) → are_outputs [] before ≡ true → outputs_onto before ws ≡ Some (os, left) → are_outputs [] os ≡ true
+Keeps ws = (optional : Bool) (before os : List FileObjectSource) (left : List (List ℕ)) → are_outputs [] before ≡ true → outputs_onto optional before ws ≡ Some (os, left) → are_outputs [] os ≡ true
 
-keeps_with : (r : Option FileObjectSource) (before os : List FileObjectSource) (p : List ℕ) (ws left : List (List ℕ)) → Keeps ws → output_of before p ≡ r → are_outputs [] before ≡ true
-    → (r >>= (λ o. outputs_onto (before ++ o ∷ []) ws)) ≡ Some (os, left) → are_outputs [] os ≡ true
-keeps_with None before os p ws left keeps is so e = absurd (cc)
-keeps_with (Some o) before os p ws left keeps is so e =
-    keeps (before ++ o ∷ []) os left (outputs_more [] before o ∙ both (are_outputs [] before) (is_new_name before o.key) so (new_cut (cut_at 61 p) before o is)) e
+keeps_with : (r : Option FileObjectSource) (optional : Bool) (before os : List FileObjectSource) (p : List ℕ) (ws left : List (List ℕ)) → Keeps ws → output_of optional before p ≡ r → are_outputs [] before ≡ true
+    → (r >>= (λ o. outputs_onto optional (before ++ o ∷ []) ws)) ≡ Some (os, left) → are_outputs [] os ≡ true
+keeps_with None optional before os p ws left keeps is so e = absurd (cc)
+keeps_with (Some o) optional before os p ws left keeps is so e =
+    keeps optional (before ++ o ∷ []) os left (outputs_more [] before o ∙ both (are_outputs [] before) (is_new_name before o.key) so (new_cut (cut_at 61 p) optional before o is)) e
 
-keeps_if : (end more : Bool) (before os : List FileObjectSource) (ws left : List (List ℕ)) → (output_onto before ws ≡ Some (os, left) → are_outputs [] os ≡ true) → are_outputs [] before ≡ true
-    → (if end then Some (before, ws) else if more then output_onto before ws else None) ≡ Some (os, left) → are_outputs [] os ≡ true
+keeps_if : (end : Bool) (more : Option Bool) (before os : List FileObjectSource) (ws left : List (List ℕ)) → ((optional : Bool) → output_onto optional before ws ≡ Some (os, left) → are_outputs [] os ≡ true) → are_outputs [] before ≡ true
+    → (if end then Some (before, ws) else more >>= (λ o. output_onto o before ws)) ≡ Some (os, left) → are_outputs [] os ≡ true
 keeps_if true more before os ws left on so e =
     let pair : ◌≡◌ {A = List FileObjectSource × List (List ℕ)} (before, ws) (os, left) = cc in
     ap (λ (x : List FileObjectSource × List (List ℕ)). are_outputs [] x.0) (sym pair) ∙ so
-keeps_if false true before os ws left on so e = on e
-keeps_if false false before os ws left on so e = absurd (cc)
+keeps_if false (Some optional) before os ws left on so e = on optional e
+keeps_if false None before os ws left on so e = absurd (cc)
 
 keeps_on : (ws : List (List ℕ)) → Keeps ws
-keeps_on [] before os left so e = absurd (cc)
-keeps_on (w ∷ []) before os left so e = keeps_if (bytes_eq w (codes "--")) (bytes_eq w (codes "--out")) before os [] left (λ f. absurd (cc)) so e
-keeps_on (w ∷ p ∷ ws) before os left so e =
-    keeps_if (bytes_eq w (codes "--")) (bytes_eq w (codes "--out")) before os (p ∷ ws) left (λ f. keeps_with (output_of before p) before os p ws left (keeps_on ws) refl so f) so e
+keeps_on [] optional before os left so e = absurd (cc)
+keeps_on (w ∷ []) optional before os left so e = keeps_if (bytes_eq w (codes "--")) (is_optional optional w) before os [] left (λ o f. absurd (cc)) so e
+keeps_on (w ∷ p ∷ ws) optional before os left so e =
+    keeps_if (bytes_eq w (codes "--")) (is_optional optional w) before os (p ∷ ws) left (λ o f. keeps_with (output_of o before p) o before os p ws left (keeps_on ws) refl so f) so e
 
 abbrev AreNamed : Option PlainArguments → Type 0
 AreNamed None = Unit {0}
 AreNamed (Some a) = are_outputs [] a.outputs ≡ true
 
-read_named : (r : Option (List FileObjectSource × List (List ℕ))) (ws : List (List ℕ)) (key : List ℕ) → outputs_onto [] ws ≡ r
-    → AreNamed (r >>= (λ o. Some (record { key = key; outputs = o.0; words = o.1 })))
-read_named None ws key is = tt
-read_named (Some o) ws key is = keeps_on ws [] o.0 o.1 refl is
+read_named : (r : Option (List FileObjectSource × List (List ℕ))) (ws : List (List ℕ)) (key : List ℕ) (here stored : Bool) → outputs_onto false [] ws ≡ r
+    → AreNamed (r >>= (λ o. Some (record { key = key; locally_preprocessed = here; cacheable = stored; outputs = o.0; words = o.1 })))
+read_named None ws key here stored is = tt
+read_named (Some o) ws key here stored is = keeps_on ws false [] o.0 o.1 refl is
 
-text_named : (b : Bool) (key : List ℕ) (ws : List (List ℕ)) → AreNamed (only_if b key >>= (λ k. outputs_onto [] ws >>= (λ o. Some (record { key = k; outputs = o.0; words = o.1 }))))
-text_named true key ws = read_named (outputs_onto [] ws) ws key refl
+options_named : (key : List ℕ) (dep : Bool × List (List ℕ)) → AreNamed (with_options key dep)
+options_named key dep =
+    let unstored : Bool × List (List ℕ) = flag (codes "--no-store") dep.1 in
+    read_named (outputs_onto false [] unstored.1) unstored.1 key (not dep.0) (not unstored.0) refl
+
+text_named : (b : Bool) (key : List ℕ) (ws : List (List ℕ)) → AreNamed (only_if b key >>= (λ k. with_options k (flag (codes "--dep") ws)))
+text_named true key ws = options_named key (flag (codes "--dep") ws)
 text_named false key ws = tt
 
 of_named : (ws : List (List ℕ)) → AreNamed (arguments_of ws)

@@ -1,6 +1,5 @@
 -- What a workshop over lines answers to a run.
-use Rattle.std.specs.Prelude.{ℕ, zero, suc, Bool, true, false, if◌then◌else◌, List, [], ◌∷◌, ◌++◌, Option, Some, None, codes}
-use Rattle.std.specs.Str.{bytes_eq}
+use Rattle.std.specs.Prelude.{ℕ, Bool, true, false, List, [], ◌∷◌, ◌++◌, Option, Some, None, codes}
 use Rattle.sc_entry.specs.declared.object.FileObjectSource.{FileObjectSource}
 use Rattle.sc_entry.specs.declared.object.Object.{Object}
 use Rattle.sc_model.specs.World.{first_missing}
@@ -8,28 +7,17 @@ use Rattle.sc_model.specs.declared.event.Objects.{Objects}
 use Rattle.sc_model.specs.declared.event.Objects.TheVariants.{Broken, Collected}
 use Rattle.sc_model.specs.declared.event.RunAnswer.{RunAnswer}
 use Rattle.sc_model.specs.declared.event.RunAnswer.TheVariants.{Fault, Output, ProcessError}
+use Rattle.sc_model.specs.declared.event.RunOutput.{RunOutput}
+use Rattle.sc_table.specs.Books.{next_value}
 use Rattle.sc_compile.specs.declared.run_line.RunLine.{RunLine}
 
 -- what was run, under which key, and what it answered
 abbrev pub Runs : Type 0
 Runs = List (List ℕ × RunAnswer)
 
--- a key's answers, in the order of its lines
-abbrev pub answers_of : List ℕ → List RunLine → List RunAnswer
-answers_of key [] = []
-answers_of key (l ∷ ls) = if bytes_eq l.key key then l.answer ∷ answers_of key ls else answers_of key ls
-
--- how often a key was run
-abbrev pub count_runs : List ℕ → Runs → ℕ
-count_runs key [] = 0
-count_runs key (r ∷ rs) = if bytes_eq (r.0) key then suc (count_runs key rs) else count_runs key rs
-
--- the one after so many of a list; behind the last, the last
-abbrev pub next_of : {A : Type 0} → ℕ → List A → Option A
-next_of n [] = None
-next_of n (a ∷ []) = Some a
-next_of zero (a ∷ b ∷ rest) = Some a
-next_of (suc n) (a ∷ b ∷ rest) = next_of n (b ∷ rest)
+-- the line that the next run under a key takes: each takes the key's next line, and those behind the last take the last
+abbrev pub next_line : List RunLine → List ℕ → Runs → Option RunLine
+next_line lines key runs = next_value (λ (l : RunLine). l.key) key lines runs
 
 -- a required output that isn't there takes the place of the objects
 abbrev pub collected : List Object → Option (List ℕ) → Objects
@@ -40,21 +28,25 @@ abbrev pub collected_from : List FileObjectSource → Objects → Objects
 collected_from outputs (Collected os) = collected os (first_missing (Some os) outputs)
 collected_from outputs (Broken chain) = Broken chain
 
+-- a run's output, of which these outputs are wanted
+abbrev pub output_with : List FileObjectSource → RunOutput → RunOutput
+output_with outputs out = record { output = out.output; objects = collected_from outputs out.objects }
+
 abbrev pub with_outputs : List FileObjectSource → RunAnswer → RunAnswer
-with_outputs outputs (Output out) = Output (record { output = out.output; objects = collected_from outputs out.objects })
+with_outputs outputs (Output out) = Output (output_with outputs out)
 with_outputs outputs (ProcessError out) = ProcessError out
 with_outputs outputs (Fault chain) = Fault chain
 
 abbrev pub no_answer : List ℕ → RunAnswer
 no_answer key = Fault ((codes "no answer for " ++ key) ∷ [])
 
-abbrev pub answer_by : List ℕ → List FileObjectSource → Option RunAnswer → RunAnswer
+abbrev pub answer_by : List ℕ → List FileObjectSource → Option RunLine → RunAnswer
 answer_by key outputs None = no_answer key
-answer_by key outputs (Some a) = with_outputs outputs a
+answer_by key outputs (Some line) = with_outputs outputs line.answer
 
--- The next run's answer under a key: each run takes the key's next line, and those behind the last take the last.
+-- The next run's answer under a key.
 abbrev pub script_answer : List RunLine → List ℕ → Runs → List FileObjectSource → RunAnswer
-script_answer lines key runs outputs = answer_by key outputs (next_of (count_runs key runs) (answers_of key lines))
+script_answer lines key runs outputs = answer_by key outputs (next_line lines key runs)
 
 -- The same, where the lines and the runs before are told.
 abbrev pub told_answer : Option (List RunLine) → List ℕ → Option Runs → List FileObjectSource → Option RunAnswer

@@ -1,6 +1,7 @@
 pub mod Answers
 pub mod Commands
 pub mod GoodNames
+pub mod KeySteps
 pub mod Lines
 pub mod Names
 pub mod Placings

@@ -1,14 +1,16 @@
 -- What a table of tools answers on a path, and what compilers behind such a table tell.
-use Rattle.std.specs.Prelude.{ℕ, Bool, ◌==◌, if◌then◌else◌, List, [], ◌∷◌, Option, Some, None, codes, slice_index_or, option_map}
-use Rattle.std.specs.Str.{bytes_eq}
+use Rattle.std.specs.Prelude.{ℕ, Bool, ◌==◌, List, Option, Some, None, codes, slice_index_or, option_map}
+use Rattle.sc_language.specs.Languages.{lang_comp_kind, lang_kind}
 use Rattle.sc_model.specs.Script.{Compilers}
 use Rattle.sc_model.specs.declared.event.KeyStep.{KeyStep}
-use Rattle.sc_model.specs.declared.event.KeyStep.TheVariants.{Key}
 use Rattle.sc_model.specs.declared.event.Parsed.{Parsed}
 use Rattle.sc_model.specs.declared.event.Parsed.TheVariants.{Unsupported}
 use Rattle.sc_model.specs.declared.message.ColorMode.TheVariants.{Auto}
 use Rattle.sc_model.specs.declared.message.Compile.{Compile}
+use Rattle.sc_table.specs.Tables.{first_of}
 use Rattle.sc_compile.specs.Plain.{PlainArguments, arguments, is_note, plain_key, plain_parsed, plain_pretty}
+use Rattle.sc_compile.specs.KeySteps.{refusal_of, step_by}
+use Rattle.sc_compile.specs.declared.key_line.KeyLine.{KeyLine}
 use Rattle.sc_compile.specs.declared.tool.Detected.{Detected}
 use Rattle.sc_compile.specs.declared.tool.Detected.TheVariants.{Compiler as Found, Refused}
 use Rattle.sc_compile.specs.declared.tool.Tool.{Tool}
@@ -17,8 +19,7 @@ use Rattle.sc_compile.specs.declared.tool.ToolKind.TheVariants.{Compiler, NotACo
 
 -- the first tool of a path
 abbrev pub tool_at : List Tool → List ℕ → Option Tool
-tool_at [] path = None
-tool_at (t ∷ ts) path = if bytes_eq t.path path then Some t else tool_at ts path
+tool_at tools path = first_of (λ (t : Tool). t.path) path tools
 
 -- when the file of a path was changed, where there is one
 abbrev pub moment_of : List Tool → List ℕ → Option ℕ
@@ -45,27 +46,28 @@ abbrev pub reading : Option (List Tool) → Compile → Option Parsed
 reading None c = None
 reading (Some tools) c = Some (read_as c (detected_of tools c.exe))
 
-abbrev pub key_told : Compile → Option PlainArguments → Option KeyStep
-key_told c None = None
-key_told c (Some a) = Some (Key (plain_key c))
+abbrev pub key_told : List KeyLine → Compile → Option PlainArguments → Option KeyStep
+key_told lines c None = None
+key_told lines c (Some a) = Some (step_by (plain_key c) (refusal_of lines (plain_key c).key))
 
--- the key step's answer, where the words are good
-abbrev pub told_key : Compile → Option KeyStep
-told_key c = key_told c (arguments c.args)
+-- the key step's answer, where the lines are told and the words are good
+abbrev pub told_key : Option (List KeyLine) → Compile → Option KeyStep
+told_key None c = None
+told_key (Some lines) c = key_told lines c (arguments c.args)
 
 -- a preprocessor entry is valid where its first byte is `P`
 abbrev pub begins_with_p : List ℕ → Bool
 begins_with_p bytes = slice_index_or bytes 0 0 == 80
 
--- What plain compilers behind a table tell.
-abbrev pub plain_compilers : Option (List Tool) → Compilers
-plain_compilers table = record {
+-- What plain compilers behind a table tell, whose key steps are refused by these lines.
+abbrev pub plain_compilers : Option (List Tool) → Option (List KeyLine) → Compilers
+plain_compilers table lines = record {
   reads = λ c. reading table c;
-  keys = λ c control. told_key c;
+  keys = λ c control. told_key lines c;
   color = λ c. Auto;
   pretty = λ c. plain_pretty c;
   is_note = λ c line. is_note line;
   is_valid = begins_with_p;
-  kind_text = λ task. codes "C/C++";
-  full_text = λ task. codes "c [gcc]";
+  kind_text = λ task. lang_kind task.language;
+  full_text = λ task. lang_comp_kind task.kind task.language;
 }

@@ -1,10 +1,10 @@
 //! The arguments of a plain compiler.
 
-ghost use Rattle.std.specs.Prelude.{◌≡◌, ◌++◌, ◌∷◌, [], IfOk, length, string_bytes, List, ℕ};
+ghost use Rattle.std.specs.Prelude.{◌≡◌, ◌++◌, ◌∷◌, [], IfOk, length, string_bytes, List, ℕ, false};
 ghost use Rattle.std.specs.Option.{option_map};
 ghost use Rattle.std.specs.Str.{is_utf8};
 ghost use Rattle.sc_compile.specs.Words.{Means, MeansBy, Reads, only_if};
-ghost use Rattle.sc_compile.specs.Plain.{arguments_of, is_output_name, is_stream, is_new_name, output_of, outputs_onto};
+ghost use Rattle.sc_compile.specs.Plain.{arguments_of, is_optional, is_output_name, is_stream, is_new_name, output_of, outputs_onto};
 ghost use Rattle.sc_compile.specs.Names.{HasNames};
 
 use crate::words::{Words, cut};
@@ -18,7 +18,11 @@ use std::marker::Model;
 #[derive(Drop)]
 pub struct Arguments<'a> {
     pub key: Text,
-    /// The required objects, each with its path as it was given.
+    /// Whether the source is preprocessed here.
+    pub locally_preprocessed: bool,
+    /// Whether a run may be stored.
+    pub cacheable: bool,
+    /// The outputs, each with its path as it was given.
     pub outputs: Items<FileObjectSource>,
     /// The words for the compiler.
     pub words: &'a [ByteText],
@@ -29,11 +33,11 @@ impl<'a> Model for Arguments<'a> {
 
     ghost Value = { PlainArguments };
 
-    ghost view = { λ a. record { key = a.key; outputs = a.outputs; words = a.words.now } };
+    ghost view = { λ a. record { key = a.key; locally_preprocessed = a.locally_preprocessed; cacheable = a.cacheable; outputs = a.outputs; words = a.words.now } };
 }
 
 /// The bytes as text, where they are UTF-8.
-fn text_of(bytes: &[u8]) -> Option<&str>
+pub fn text_of(bytes: &[u8]) -> Option<&str>
     ensures { option_map (λ t. t.now) result ≡ only_if (is_utf8 bytes.now) bytes.now }
 {
     match std::str::from_utf8(bytes) {
@@ -92,12 +96,13 @@ fn new_name<'a>(
 /// One more output, and its name among those before.
 fn output(
     alloc: Global,
+    optional: bool,
     outputs: &Items<FileObjectSource>,
     names: &mut BTreeSet<String>,
     word: &[u8],
 ) -> Result<FileObjectSource, WordsError>
     requires { HasNames outputs.now names.old }
-    ensures value { Means (output_of outputs.now word.now) result }
+    ensures value { Means (output_of optional outputs.now word.now) result }
     ensures named { IfOk result (λ o. HasNames (outputs.now ++ o ∷ []) names.new) }
 {
     let Some((name, path)) = cut(word, b'=') else {
@@ -110,25 +115,41 @@ fn output(
     Ok(FileObjectSource {
         key,
         path,
-        optional: false,
+        optional,
     })
+}
+
+/// Whether the output behind a word is an optional one; none where no output follows. Behind an optional one stands no
+/// required one.
+fn is_optional(before: bool, word: &[u8]) -> Option<bool>
+    ensures { result ≡ is_optional before word.now }
+{
+    if word == b"--opt".as_slice() {
+        return Some(true);
+    }
+    if !before && word == b"--out".as_slice() {
+        return Some(false);
+    }
+    None
 }
 
 /// The outputs, up to the word `--`, which is taken too.
 fn outputs(alloc: Global, words: &mut Words<'_>) -> Result<Items<FileObjectSource>, WordsError>
-    ensures { Reads (outputs_onto [] words.old) result words.new }
+    ensures { Reads (outputs_onto false [] words.old) result words.new }
 {
     let mut outputs = Items::new(alloc);
     let mut names = BTreeSet::new(alloc);
+    let mut optional = false;
     while let Some(word) = words.next() {
         if word.as_slice() == b"--".as_slice() {
             return Ok(outputs);
         }
-        if word.as_slice() != b"--out".as_slice() {
+        let Some(next) = is_optional(optional, word.as_slice()) else {
             return Err(WordsError::Malformed);
-        }
+        };
+        optional = next;
         let pair = words.word()?;
-        outputs.push(output(alloc, &outputs, &mut names, pair.as_slice())?)?;
+        outputs.push(output(alloc, optional, &outputs, &mut names, pair.as_slice())?)?;
     }
     Err(WordsError::Malformed)
 }
@@ -144,9 +165,13 @@ pub fn read_arguments<'a>(alloc: Global, words: &'a [ByteText]) -> Result<Argume
         return Err(WordsError::Malformed);
     };
     let key = Text::from_str(alloc, key)?;
+    let dep = words.take(b"--dep");
+    let unstored = words.take(b"--no-store");
     let outputs = outputs(alloc, &mut words)?;
     Ok(Arguments {
         key,
+        locally_preprocessed: !dep,
+        cacheable: !unstored,
         outputs,
         words: words.rest(),
     })

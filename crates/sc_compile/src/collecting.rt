@@ -5,7 +5,7 @@ ghost use Rattle.std.specs.BTreeSet.{contains_text};
 ghost use Rattle.sc_entry.specs.Entries.{has_name};
 ghost use Rattle.sc_model.specs.World.{first_missing};
 ghost use Rattle.sc_compile.specs.GoodNames.{are_good, are_run_objects, is_good_answer};
-ghost use Rattle.sc_compile.specs.Answers.{collected, collected_from, is_broken, is_fault, no_answer, with_outputs};
+ghost use Rattle.sc_compile.specs.Answers.{collected, collected_from, is_broken, is_fault, no_answer, output_with, with_outputs};
 
 use sc_entry::{FileObjectSource, Items, NoMemory, Object, Text};
 use sc_model::{Objects, RunAnswer, RunOutput};
@@ -96,6 +96,22 @@ fn collected_from(
     }
 }
 
+/// A copy of what a run left, of which these outputs are wanted: where it lacks a required one, a fault's chain takes the place
+/// of its objects.
+pub fn output_with(
+    alloc: Global,
+    outputs: &[FileObjectSource],
+    out: &RunOutput,
+) -> Result<RunOutput, NoMemory>
+    requires { are_good out.now.objects ≡ true }
+    ensures value { IfOk result (λ o. o ≡ output_with outputs.now out.now) }
+    ensures good { IfOk result (λ o. are_good o.objects ≡ true) }
+{
+    let objects = collected_from(alloc, outputs, &out.objects)?;
+    let output = out.output.clone()?;
+    Ok(RunOutput { output, objects })
+}
+
 /// A copy of a line's answer, for a run from which these outputs are wanted.
 pub fn with_outputs(
     alloc: Global,
@@ -107,11 +123,7 @@ pub fn with_outputs(
     ensures good { IfOk result (λ a. is_good_answer a ≡ true) }
 {
     match answer {
-        RunAnswer::Output(out) => {
-            let objects = collected_from(alloc, outputs, &out.objects)?;
-            let output = out.output.clone()?;
-            Ok(RunAnswer::Output(RunOutput { output, objects }))
-        }
+        RunAnswer::Output(out) => Ok(RunAnswer::Output(output_with(alloc, outputs, out)?)),
         RunAnswer::ProcessError(out) => Ok(RunAnswer::ProcessError(out.clone()?)),
         RunAnswer::Fault(chain) => Ok(RunAnswer::Fault(chain.clone()?)),
     }

@@ -1,10 +1,10 @@
 //! The plain compiler: its words name its key and its outputs.
 
-ghost use Rattle.std.specs.Prelude.{◌≡◌, ◌==◌, ◌-◌, IfOk, length, map, slice_index_or, ℕ, List};
+ghost use Rattle.std.specs.Prelude.{◌≡◌, ◌==◌, ◌-◌, ◌∷◌, [], IfOk, length, map, slice_index_or, ℕ, List};
 ghost use Rattle.sc_compile.specs.Commands.{plain_command};
-ghost use Rattle.sc_compile.specs.Plain.{arguments, arguments_of, as_folder, bad_arguments, first_of, first_path, is_note, joined, placed_in, plain_key, plain_parsed, plain_pretty, words_for};
+ghost use Rattle.sc_compile.specs.Plain.{arguments, arguments_of, as_folder, bad_arguments, cannot_of, first_of, first_path, is_note, joined, language_in, placed_in, plain_key, plain_parsed, plain_pretty, words_for};
 
-use crate::arguments::{Arguments, read_arguments};
+use crate::arguments::{Arguments, read_arguments, text_of};
 use crate::command::SingleCompileCommand;
 use crate::first_word::FirstWord;
 use crate::words_error::WordsError;
@@ -12,7 +12,10 @@ use sc_entry::{ByteText, FileObjectSource, Items, NoMemory, Text};
 use sc_model::{Compile, CompilerKind, KeyFound, Language, Parsed, Task};
 use std::alloc::Global;
 
-/// A compiler whose words name its key and its outputs: `--key KEY [--out NAME=PATH].. -- WORDS`.
+/// A compiler whose words name its key and its outputs: `--key KEY [--dep] [--no-store] [--out NAME=PATH]..
+/// [--opt NAME=PATH].. -- WORDS`, in this order. `--dep` says that the source isn't preprocessed here, `--no-store` that
+/// no run is to be stored; each `--out` is a required output, each `--opt` an optional one. The words `--cannot WHY
+/// [EXTRA]` say that it can't be cached, and why.
 #[derive(Clone, Copy)]
 pub struct PlainCompiler;
 
@@ -33,6 +36,57 @@ fn bad_arguments(alloc: Global) -> Result<Parsed, NoMemory>
 {
     let why = Text::from_str(alloc, "bad arguments")?;
     Ok(Parsed::CannotCache(why, None))
+}
+
+/// A compile that can't be cached for a reason, which is malformed where it is no text.
+fn cannot_for(alloc: Global, why: &ByteText) -> Result<Parsed, NoMemory>
+    ensures { IfOk result (λ p. p ≡ cannot_of (why.now ∷ [])) }
+{
+    let Some(why) = text_of(why.as_slice()) else {
+        return bad_arguments(alloc);
+    };
+    let why = Text::from_str(alloc, why)?;
+    Ok(Parsed::CannotCache(why, None))
+}
+
+/// The same with what stands beside the reason.
+fn cannot_with(alloc: Global, why: &ByteText, extra: &ByteText) -> Result<Parsed, NoMemory>
+    ensures { IfOk result (λ p. p ≡ cannot_of (why.now ∷ extra.now ∷ [])) }
+{
+    let Some(why) = text_of(why.as_slice()) else {
+        return bad_arguments(alloc);
+    };
+    let Some(extra) = text_of(extra.as_slice()) else {
+        return bad_arguments(alloc);
+    };
+    let why = Text::from_str(alloc, why)?;
+    let extra = Text::from_str(alloc, extra)?;
+    Ok(Parsed::CannotCache(why, Some(extra)))
+}
+
+/// Why a compile can't be cached, by the words behind the first.
+fn cannot_cache(alloc: Global, words: &[ByteText]) -> Result<Parsed, NoMemory>
+    ensures { IfOk result (λ p. p ≡ cannot_of words.now) }
+{
+    match words {
+        [why] => cannot_for(alloc, why),
+        [why, extra] => cannot_with(alloc, why, extra),
+        _ => bad_arguments(alloc),
+    }
+}
+
+/// The language of the first word that has a known one, else C.
+fn language_in(words: &[ByteText]) -> Language
+    ensures { result ≡ language_in words.now }
+{
+    let mut left = words;
+    while let [word, rest @ ..] = left {
+        if let Some(language) = Language::from_file_name(word.as_slice()) {
+            return language;
+        }
+        left = rest;
+    }
+    Language::C
 }
 
 /// What stands behind the first word, where it is well formed.
@@ -145,7 +199,8 @@ fn copied_path(alloc: Global, outputs: &[FileObjectSource]) -> Result<ByteText, 
 }
 
 impl PlainCompiler {
-    /// What a compile's words say, read by a compiler of this kind. Its language is C.
+    /// What a compile's words say, read by a compiler of this kind. Its language is that of the first word behind `--` that
+    /// names a file of a known one, else C.
     pub fn parse(alloc: Global, kind: CompilerKind, request: &Compile) -> Result<Parsed, NoMemory>
         ensures { IfOk result (λ p. p ≡ plain_parsed kind request.now) }
     {
@@ -155,12 +210,12 @@ impl PlainCompiler {
         match first_word(first.as_slice()) {
             FirstWord::Key => match good_arguments(alloc, rest)? {
                 None => bad_arguments(alloc),
-                Some(_) => Ok(Parsed::Started(Task {
+                Some(arguments) => Ok(Parsed::Started(Task {
                     kind,
-                    language: Language::C,
+                    language: language_in(arguments.words),
                 })),
             },
-            FirstWord::Cannot => bad_arguments(alloc),
+            FirstWord::Cannot => cannot_cache(alloc, rest),
             FirstWord::Other => Ok(Parsed::NotCompile),
         }
     }
@@ -182,8 +237,8 @@ impl PlainCompiler {
         Ok(KeyFound {
             key: arguments.key,
             outputs,
-            locally_preprocessed: true,
-            cacheable: true,
+            locally_preprocessed: arguments.locally_preprocessed,
+            cacheable: arguments.cacheable,
         })
     }
 

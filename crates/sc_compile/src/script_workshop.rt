@@ -1,61 +1,61 @@
 //! The workshop of a script.
 
 ghost use Rattle.std.specs.Prelude.{◌≡◌, ◌≤◌, IfOk, IfSome, OnOk, OnErr, Some, true, length, option_map};
-ghost use Rattle.sc_compile.specs.Answers.{answers_of, count_runs, next_of, script_answer};
-ghost use Rattle.sc_compile.specs.GoodNames.{is_good_answer};
-ghost use Rattle.sc_compile.specs.Shop.{after_placing, after_run, new_shop};
+ghost use Rattle.sc_compile.specs.Answers.{script_answer};
+ghost use Rattle.sc_compile.specs.GoodNames.{is_chain, is_good_answer};
+ghost use Rattle.sc_compile.specs.Placings.{refusal_at};
+ghost use Rattle.sc_compile.specs.Shop.{after_placing, after_refusal, after_run, new_shop};
 
-use crate::collecting::{is_fault, no_answer, with_outputs};
+use crate::collecting::{copied, is_fault, no_answer, with_outputs};
 use crate::command::SingleCompileCommand;
+use crate::place_line::PlaceLine;
 use crate::placement::Placement;
 use crate::run_line::RunLine;
-use crate::shelf::{keep_run, next_place, places_at, places_of, taken_at};
 use crate::workshop::Workshop;
 use sc_entry::{ByteText, FileObjectSource, Items, NoMemory, Text};
 use sc_model::RunAnswer;
+use sc_table::{Book, Table};
 use std::alloc::Global;
-use std::collections::BTreeMap;
 use std::marker::Model;
 
 /// A workshop that answers by lines. The `i`th run under a key takes the key's `i`th line, and later ones take the last;
-/// without a line it is a fault. Contracts see it as its lines, what it did, and how often it failed.
+/// without a line it is a fault. A placing under a key fails where the key has a line on placings. Contracts see it as its
+/// lines, what it did, and how often it failed.
 #[derive(Drop)]
 pub struct ScriptWorkshop {
     alloc: Global,
-    lines: Vec<RunLine>,
-    runs: Vec<(Text, RunAnswer)>,
+    /// The lines on runs, and the runs that were done.
+    runs: Book<RunLine, RunAnswer>,
+    refusals: Table<PlaceLine>,
     placings: Vec<Placement>,
     faults: u64,
-    /// Where each key's lines stand.
-    places: BTreeMap<String, Vec<usize>>,
-    /// How often each key was run.
-    taken: BTreeMap<String, usize>,
 }
 
 impl Model for ScriptWorkshop {
-    ghost use Rattle.sc_compile.specs.Shop.{IsShelf, Shop};
+    ghost use Rattle.sc_compile.specs.Shop.{Shop};
 
     ghost Value = { Shop };
 
-    ghost view = { λ s. record { lines = s.lines.items; runs = s.runs.items; placings = s.placings.items; faults = s.faults } };
-
-    ghost invariant = { λ s. IsShelf s.lines.items s.runs.items s.places s.taken };
+    ghost view = { λ s. record { lines = s.runs.values; refusals = s.refusals; runs = s.runs.done; placings = s.placings.items; faults = s.faults } };
 }
 
 impl ScriptWorkshop {
     /// A workshop that did nothing yet.
-    pub fn new(alloc: Global, lines: Vec<RunLine>) -> Result<ScriptWorkshop, NoMemory>
-        ensures { IfOk result (λ s. s ≡ new_shop lines.items) }
+    pub fn new(
+        alloc: Global,
+        lines: Vec<RunLine>,
+        refusals: Vec<PlaceLine>,
+    ) -> Result<ScriptWorkshop, NoMemory>
+        ensures { IfOk result (λ s. s ≡ new_shop lines.items refusals.items) }
     {
-        let places = places_of(alloc, lines.as_slice())?;
+        let runs = Book::new(alloc, lines)?;
+        let refusals = Table::new(alloc, refusals)?;
         Ok(ScriptWorkshop {
             alloc,
-            lines,
-            runs: Vec::new(alloc),
+            runs,
+            refusals,
             placings: Vec::new(alloc),
             faults: 0,
-            places,
-            taken: BTreeMap::new(alloc),
         })
     }
 
@@ -63,7 +63,7 @@ impl ScriptWorkshop {
     pub fn run_count(&self) -> usize
         ensures { result ≡ length self.now.runs }
     {
-        self.runs.len()
+        self.runs.done_count()
     }
 
     /// How many placings it did.
@@ -71,16 +71,6 @@ impl ScriptWorkshop {
         ensures { result ≡ length self.now.placings }
     {
         self.placings.len()
-    }
-
-    /// The line's answer that the next run under a key takes.
-    fn next_answer(&self, key: &Text) -> Option<&RunAnswer>
-        ensures next { option_map (λ a. a.now) result ≡ next_of (count_runs key.now self.now.runs) (answers_of key.now self.now.lines) }
-        ensures good { IfSome result (λ a. is_good_answer a.now ≡ true) }
-    {
-        let taken = taken_at(&self.taken, key);
-        let place = next_place(places_at(&self.places, key), taken)?;
-        Some(&self.lines[place].answer)
     }
 
     fn answer(
@@ -92,9 +82,10 @@ impl ScriptWorkshop {
         ensures value { IfOk result (λ a. a ≡ script_answer self.now.lines key.now self.now.runs outputs.now) }
         ensures good { IfOk result (λ a. is_good_answer a ≡ true) }
     {
-        match self.next_answer(key) {
+        let bytes = ByteText::from_slice(alloc, key.as_bytes())?;
+        match self.runs.next(&bytes) {
             None => no_answer(alloc, key),
-            Some(answer) => with_outputs(alloc, outputs, answer),
+            Some(line) => with_outputs(alloc, outputs, &line.answer),
         }
     }
 
@@ -103,11 +94,32 @@ impl ScriptWorkshop {
         ensures later { self.old.faults ≤ self.new.faults }
         ensures err { OnErr result (self.new ≡ self.old) }
     {
-        keep_run(self.alloc, &mut self.runs, &mut self.taken, key, answer)?;
+        let key = ByteText::from_slice(self.alloc, key.as_bytes())?;
+        self.runs.keep(&key, copied(answer)?)?;
         if is_fault(answer) {
             self.faults = self.faults.saturating_add(1);
         }
         Ok(())
+    }
+
+    /// Why the placings under a key fail, if they do.
+    fn refusal(&self, alloc: Global, key: &Text) -> Result<Option<Items<Text>>, NoMemory>
+        ensures value { IfOk result (λ refusal. refusal ≡ refusal_at self.now.refusals key.now) }
+        ensures good { IfOk result (λ refusal. IfSome refusal (λ chain. is_chain chain ≡ true)) }
+    {
+        let key = ByteText::from_slice(alloc, key.as_bytes())?;
+        match self.refusals.first(&key) {
+            None => Ok(None),
+            Some(line) => Ok(Some(line.chain.clone()?)),
+        }
+    }
+
+    /// Counts a placing that failed.
+    fn refuse(&mut self)
+        ensures counted { self.new ≡ after_refusal self.old }
+        ensures later { self.old.faults ≤ self.new.faults }
+    {
+        self.faults = self.faults.saturating_add(1);
     }
 
     fn keep_placing(
@@ -132,6 +144,8 @@ impl Workshop for ScriptWorkshop {
 
     ghost lines = { λ s. Some s.lines };
 
+    ghost refusals = { λ s. Some s.refusals };
+
     ghost fault_count = { λ s. s.faults };
 
     fn faults(&self) -> u64 {
@@ -152,11 +166,15 @@ impl Workshop for ScriptWorkshop {
 
     fn place(
         &mut self,
-        _alloc: Global,
-        _key: &Text,
+        alloc: Global,
+        key: &Text,
         outputs: &[FileObjectSource],
         entry: &ByteText,
     ) -> Result<Option<Items<Text>>, NoMemory> {
+        if let Some(chain) = self.refusal(alloc, key)? {
+            self.refuse();
+            return Ok(Some(chain));
+        }
         self.keep_placing(outputs, entry)?;
         Ok(None)
     }

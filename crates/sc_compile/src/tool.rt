@@ -2,6 +2,7 @@
 
 use sc_entry::{ByteText, Text};
 use sc_model::CompilerKind;
+use sc_table::Keyed;
 
 /// What a tool is.
 #[derive(Clone, Copy)]
@@ -17,6 +18,14 @@ pub struct Tool {
     /// When it was changed.
     pub moment: u64,
     pub kind: ToolKind,
+}
+
+impl Keyed for Tool {
+    ghost key = { λ t. t.path };
+
+    fn key(&self) -> &ByteText {
+        &self.path
+    }
 }
 
 /// What a probe found at a path.

@@ -2,6 +2,7 @@
 
 ghost use Rattle.std.specs.Prelude.{◌≡◌, ◌<◌, length, IfSome};
 ghost use Rattle.std.specs.Option.{option_copied, option_map};
+ghost use Rattle.sc_compile.specs.Plain.{flag};
 ghost use Rattle.sc_compile.specs.Words.{Pops, ReadsBy, cut_at, word};
 
 use crate::words_error::WordsError;
@@ -59,6 +60,21 @@ impl<'a> Words<'a> {
                 Some(word)
             }
         }
+    }
+
+    /// Takes the next word, where it is this one.
+    pub fn take(&mut self, name: &[u8]) -> bool
+        ensures taken { result ≡ (flag name.now self.old).0 }
+        ensures left { self.new ≡ (flag name.now self.old).1 }
+    {
+        let [word, rest @ ..] = self.left else {
+            return false;
+        };
+        if word.as_slice() != name {
+            return false;
+        }
+        self.left = rest;
+        true
     }
 
     /// Takes the next word, of which there must be one.

@@ -6,7 +6,8 @@ ghost use Rattle.sc_model.specs.World.{Place, RunCause, and_one};
 ghost use Rattle.sc_model.specs.declared.event.RunAnswer.{RunAnswer};
 ghost use Rattle.sc_compile.specs.Answers.{told_answer};
 ghost use Rattle.sc_compile.specs.GoodNames.{is_good_answer};
-ghost use Rattle.sc_compile.specs.Placings.{Places};
+ghost use Rattle.sc_compile.specs.Placings.{Places, told_refusal};
+ghost use Rattle.sc_compile.specs.declared.place_line.PlaceLine.{PlaceLine};
 ghost use Rattle.sc_compile.specs.declared.run_line.RunLine.{RunLine};
 
 use crate::command::SingleCompileCommand;
@@ -24,6 +25,9 @@ pub trait Workshop {
 
     /// The lines that it answers by, where it tells them.
     ghost lines: { Self → Option (List RunLine) };
+
+    /// The lines by which it refuses placings, where it tells them.
+    ghost refusals: { Self → Option (List PlaceLine) };
 
     /// How often it has failed.
     ghost fault_count: { Self → ℕ };
@@ -45,6 +49,7 @@ pub trait Workshop {
         ensures runs { IfOk result (λ a. runs self.new ≡ and_one (runs self.old) (key.now, a)) }
         ensures placings { OnOk result (placings self.new ≡ placings self.old) }
         ensures lines { OnOk result (lines self.new ≡ lines self.old) }
+        ensures refusals { OnOk result (refusals self.new ≡ refusals self.old) }
         ensures later { fault_count self.old ≤ fault_count self.new }
         ensures cause { IfOk result (λ a. RunCause a (fault_count self.old) (fault_count self.new)) }
         ensures good { IfOk result (λ a. is_good_answer a ≡ true) }
@@ -60,6 +65,8 @@ pub trait Workshop {
     ) -> Result<Option<Items<Text>>, NoMemory>
         ensures runs { OnOk result (runs self.new ≡ runs self.old) }
         ensures lines { OnOk result (lines self.new ≡ lines self.old) }
+        ensures refusals { OnOk result (refusals self.new ≡ refusals self.old) }
         ensures later { fault_count self.old ≤ fault_count self.new }
-        ensures placings { IfOk result (λ p. Places (record { outputs = outputs.now; bytes = entry.now }) (placings self.old) (placings self.new) (fault_count self.old) (fault_count self.new) p) };
+        ensures placings { IfOk result (λ p. Places (record { outputs = outputs.now; bytes = entry.now }) (placings self.old) (placings self.new) (fault_count self.old) (fault_count self.new) p) }
+        ensures answer { IfOk result (λ p. IfTold (told_refusal (refusals self.old) key.now) (λ refusal. p ≡ refusal)) };
 }

@@ -36,6 +36,3 @@ pub use lru_disk_cache::LruDiskCache;
 pub use mem_disk::MemDisk;
 pub use opening::{OpenError, is_kept};
 pub use writing::{FileWriter, InsertError};
-
-#[cfg(test)]
-mod tests;

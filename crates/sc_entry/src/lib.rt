@@ -32,8 +32,6 @@ mod real_streams;
 mod sink;
 mod source;
 mod stream_error;
-#[cfg(test)]
-mod tests;
 mod text;
 
 pub use byte_text::ByteText;

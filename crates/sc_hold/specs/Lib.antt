@@ -1,2 +1,3 @@
+pub mod Distributing
 pub mod Holding
 pub mod Quiet

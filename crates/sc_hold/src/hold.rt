@@ -4,6 +4,7 @@ ghost use Rattle.sc_model.specs.There.{AreLevels};
 ghost use Rattle.sc_disk_cache.specs.DiskStores.{DiskStore, entry_path};
 ghost use Rattle.sc_disk_cache.specs.Entries.{ClosesEntry, FillsBy};
 ghost use Rattle.sc_disk_cache.specs.Moving.{OpensBy, written_of as reserved_of};
+ghost use Rattle.sc_hold.specs.Distributing.{GoodDist};
 ghost use Rattle.sc_hold.specs.Holding.{Elsewhere, Holds, IsGood, OpensNone, ReservesBy, SameRoom, filled_of};
 ghost use Rattle.sc_hold.specs.Quiet.{IsQuiet};
 ghost use Rattle.sc_entry.specs.Causes.{IfTold};
@@ -13,22 +14,25 @@ ghost use Rattle.sc_model.specs.Follows.{all_read_only, kind_at, mode_of};
 ghost use Rattle.sc_model.specs.Plan.{backfills, handed_by, is_none, plan, put_answer};
 ghost use Rattle.sc_model.specs.Script.{is_single};
 ghost use Rattle.sc_model.specs.World.{Need, keys_of};
-ghost use Rattle.sc_model.specs.declared.event.KeyStep.TheVariants.{Key};
 ghost use Rattle.sc_model.specs.declared.event.What.{What};
-ghost use Rattle.sc_model.specs.declared.event.What.TheVariants.{Asked as AskedEvent, Committed, Filled, Keyed, Placed, Ran, Reserved, Wrote};
+ghost use Rattle.sc_model.specs.declared.event.What.TheVariants.{Asked as AskedEvent, Began, Committed, Dist, Filled, Keyed, Outcome, Placed, Ran, Reserved, Wrote};
 ghost use Rattle.sc_model.specs.declared.event.Answer.TheVariants.{Size as SizeIs};
+ghost use Rattle.sc_model.specs.declared.event.Task.{Task};
+ghost use Rattle.sc_model.specs.declared.event.Told.TheVariants.{Dist as TellsDist};
+ghost use Rattle.sc_model.specs.declared.event.Verdict.TheVariants.{Http as HttpError};
 ghost use Rattle.sc_model.specs.declared.event.Mode.TheVariants.{Path, Size as SizeMode, Whole};
 ghost use Rattle.sc_stats.specs.declared.counters.LevelStats.{LevelStats};
 ghost use Rattle.sc_model.specs.declared.level.LevelKind.TheVariants.{Disk, Remote};
-ghost use Rattle.sc_model.specs.declared.message.Request.TheVariants.{Compile as CompileOf};
+ghost use Rattle.sc_model.specs.declared.message.Request.TheVariants.{Compile as CompileOf, DistStatus};
 
 use sc_disk::LruDiskCacheAddEntry;
 use sc_disk_cache::{Filling, Reservation};
 use sc_entry::{ByteText, CacheMode, FileObjectSource, Items, NoMemory, Queue, Text};
 use sc_model::{
-    Answer, Bytes, Compile, Handed, KeyFound, LevelKind, Mode, Parsed, Placing, Put, Refusal,
-    RunAnswer, Written,
+    Answer, Bytes, Compile, DistAnswer, Handed, KeyStep, LevelKind, Mode, Parsed, Placing, Put,
+    Refusal, RunAnswer, Written,
 };
+use sc_stats::DistInfo;
 use std::alloc::Global;
 
 /// A lookup's answer at one level, and the writes that it hands on.
@@ -43,6 +47,13 @@ pub struct Lookup {
 pub struct PutEnd {
     pub answer: Put,
     pub handed: Items<Handed>,
+}
+
+/// A key step's answer, and whether the job has a distributed client.
+#[derive(Drop)]
+pub struct Keying {
+    pub client: bool,
+    pub step: KeyStep,
 }
 
 /// What one action of a request works on: a daemon of one's own, or one behind locks.
@@ -110,10 +121,32 @@ pub trait Hold {
     fn begin(&self, alloc: Global, request: &Compile) -> Result<Parsed, NoMemory>
         ensures { IfOk result (λ parsed. IfTold (reading (config self.now).table request.now) (λ told. parsed ≡ told)) };
 
-    /// The key step of a compile. So far there is no distributed client.
-    fn key(&mut self, alloc: Global, request: &Compile, first: bool) -> Result<KeyFound, NoMemory>
-        ensures moves { IfOk result (λ found. (n : Need) → n.keys ≡ keys_of (setup (config self.old)) (CompileOf request.now) → moves self.old n (Keyed first false (Key found)) self.new) }
-        ensures same { IfOk result (λ found. config self.new ≡ config self.old) };
+    /// The key step of a compile, its first or a later one. It asks for a distributed client first.
+    fn key(&mut self, alloc: Global, request: &Compile, first: bool) -> Result<Keying, NoMemory>
+        ensures moves { IfOk result (λ keying. (n : Need) → n.keys ≡ keys_of (setup (config self.old)) (CompileOf request.now) → moves self.old n (Keyed first keying.client keying.step) self.new) }
+        ensures same { IfOk result (λ _. config self.new ≡ config self.old) };
+
+    /// Tells where the distributed client stands.
+    fn dist_status(&mut self, alloc: Global) -> Result<DistInfo, NoMemory>
+        ensures moves { IfOk result (λ info. (n : Need) → moves self.old n (Began DistStatus (TellsDist info)) self.new) }
+        ensures same { IfOk result (λ _. config self.new ≡ config self.old) };
+
+    /// Compiles by the distributed client.
+    fn distribute(
+        &mut self,
+        alloc: Global,
+        request: &Compile,
+        key: &Text,
+        outputs: &[FileObjectSource],
+    ) -> Result<DistAnswer, NoMemory>
+        ensures moves { IfOk result (λ answer. (n : Need) → n.key ≡ key.now → n.wanted ≡ outputs.now → moves self.old n (Dist answer) self.new) }
+        ensures good { IfOk result (λ answer. GoodDist answer) }
+        ensures same { IfOk result (λ answer. config self.new ≡ config self.old) };
+
+    /// Has the distributed client made anew at its next use: a server refused a job.
+    fn reset_state(&mut self)
+        ensures moves { (n : Need) (task : Task) → moves self.old n (Outcome HttpError task) self.new }
+        ensures same { config self.new ≡ config self.old };
 
     /// Asks a level. Paths are asked for by a call of their own.
     fn ask(&mut self, alloc: Global, level: u64, key: &Text, mode: Mode) -> Result<Lookup, NoMemory>
@@ -138,7 +171,7 @@ pub trait Hold {
         outputs: &[FileObjectSource],
         entry: &ByteText,
     ) -> Result<Placing, NoMemory>
-        ensures moves { IfOk result (λ placing. (n : Need) → n.outputs ≡ outputs.now → n.hit ≡ entry.now → moves self.old n (Placed placing) self.new) }
+        ensures moves { IfOk result (λ placing. (n : Need) → n.key ≡ key.now → n.outputs ≡ outputs.now → n.hit ≡ entry.now → moves self.old n (Placed placing) self.new) }
         ensures same { IfOk result (λ placing. config self.new ≡ config self.old) };
 
     /// Runs a compile.

@@ -4,6 +4,3 @@
 mod host_disk;
 
 pub use host_disk::HostDisk;
-
-#[cfg(test)]
-mod tests;

@@ -103,6 +103,42 @@ pub fn finish_fatal(
     })
 }
 
+/// What is printed of a job that a server refused, of this first output.
+fn http_text(alloc: Global, pretty: &[u8], text: &Text) -> Result<ByteText, NoMemory>
+    ensures { IfOk result (λ out. out ≡ codes "[\"" ++ pretty.now ++ codes "\"] http error status: " ++ text.now) }
+{
+    let mut out = ByteText::new(alloc);
+    out.append(b"[\"")?;
+    out.append(pretty)?;
+    out.append(b"\"] http error status: ")?;
+    out.append(text.as_bytes())?;
+    Ok(out)
+}
+
+/// A server's refusal of a job, under the return code 1.
+pub fn finish_http(
+    alloc: Global,
+    color: ColorMode,
+    pretty: &[u8],
+    text: &Text,
+) -> Result<CompileFinished, NoMemory>
+    ensures { IfOk result (λ f. f ≡ record {
+      retcode = Some (pos 1);
+      signal = None;
+      stdout = [];
+      stderr = codes "[\"" ++ pretty.now ++ codes "\"] http error status: " ++ text.now;
+      color_mode = color;
+    }) }
+{
+    Ok(CompileFinished {
+        retcode: Some(1),
+        signal: None,
+        stdout: ByteText::new(alloc),
+        stderr: http_text(alloc, pretty, text)?,
+        color_mode: color,
+    })
+}
+
 /// What a hit's entry holds, under the return code 0.
 pub fn finish_hit(
     alloc: Global,

@@ -9,7 +9,7 @@ mod rows;
 mod stored;
 mod verdict;
 
-pub use finish::{fatal_text, finish_fatal, finish_hit, finish_output};
+pub use finish::{fatal_text, finish_fatal, finish_hit, finish_http, finish_output};
 pub use level_rows::{Origin, count_level, level_row};
 pub use notes::run_notes;
 pub use rows::{count_event, row_of};

@@ -1,15 +1,14 @@
 //! What an event of a request counts.
 ghost use Rattle.std.specs.Prelude.{◌≡◌, ◌&&◌, ◌++◌, not, codes, bytes_eq, IfOk};
 ghost use Rattle.sc_model.specs.Rows.{began_row, count, missed_row, parsed_row, reason, row, verdict_row, with_dist, written_row, zeroes};
-ghost use Rattle.sc_model.specs.declared.event.Task.{Task};
 ghost use Rattle.sc_model.specs.declared.message.Compile.{Compile as CompileRequest};
 ghost use Rattle.sc_model.specs.declared.message.Request.TheVariants.{Compile as OfCompile};
 ghost use Rattle.sc_stats.specs.Sums.{no_stats, one_of};
-ghost use Rattle.sc_job.specs.Languages.{plain_language};
+ghost use Rattle.sc_job.specs.Languages.{counted_once as counted_task};
 ghost use Rattle.sc_job.specs.Setups.{Config, setup};
 
 use sc_entry::{Counts, NoMemory, Text};
-use sc_model::{DistType, MissType, Parsed, Put, Request, Told, Verdict, What};
+use sc_model::{DistType, MissType, Parsed, Put, Request, Task, Told, Verdict, What};
 use sc_stats::{PerLanguageCount, ServerStats, Span};
 use std::alloc::Global;
 
@@ -22,12 +21,12 @@ fn counted_once(alloc: Global, text: &Text) -> Result<Counts, NoMemory>
     Ok(counts)
 }
 
-/// One compile by a plain compiler, counted by its language.
-fn one_compile(alloc: Global) -> Result<PerLanguageCount, NoMemory>
-    ensures { IfOk result (λ l. l ≡ plain_language) }
+/// One compile, counted by its language and its compiler.
+fn one_compile(alloc: Global, task: Task) -> Result<PerLanguageCount, NoMemory>
+    ensures { IfOk result (λ l. l ≡ counted_task task) }
 {
-    let kind = Text::from_str(alloc, "C/C++")?;
-    let full = Text::from_str(alloc, "c [gcc]")?;
+    let kind = Text::from_str(alloc, task.kind.lang_kind(&task.language))?;
+    let full = task.kind.lang_comp_kind(alloc, &task.language)?;
     Ok(PerLanguageCount {
         counts: counted_once(alloc, &kind)?,
         adv_counts: counted_once(alloc, &full)?,
@@ -185,11 +184,16 @@ fn row_of_compilation(alloc: Global, duration: u64) -> ServerStats
 }
 
 /// A compilation whose output can be stored, by what kind of miss it was run for.
-fn row_of_miss(alloc: Global, miss: MissType, duration: u64) -> Result<ServerStats, NoMemory>
-    ensures { IfOk result (λ r. r ≡ missed_row miss plain_language (record no_stats { compilations = 1; cache_misses = plain_language; compiler_write_duration = duration })) }
+fn row_of_miss(
+    alloc: Global,
+    task: Task,
+    miss: MissType,
+    duration: u64,
+) -> Result<ServerStats, NoMemory>
+    ensures { IfOk result (λ r. r ≡ missed_row miss (counted_task task) (record no_stats { compilations = 1; cache_misses = counted_task task; compiler_write_duration = duration })) }
 {
     let mut row = row_of_compilation(alloc, duration);
-    row.cache_misses = one_compile(alloc)?;
+    row.cache_misses = one_compile(alloc, task)?;
     match miss {
         MissType::Normal => Ok(row),
         MissType::ForcedNoCache => Ok(row),
@@ -202,26 +206,26 @@ fn row_of_miss(alloc: Global, miss: MissType, duration: u64) -> Result<ServerSta
             Ok(row)
         }
         MissType::CacheReadError => {
-            row.cache_errors = one_compile(alloc)?;
+            row.cache_errors = one_compile(alloc, task)?;
             Ok(row)
         }
     }
 }
 
-fn row_of_hit(alloc: Global, duration: u64) -> Result<ServerStats, NoMemory>
-    ensures { IfOk result (λ r. r ≡ record no_stats { cache_hits = plain_language; cache_read_hit_duration = duration }) }
+fn row_of_hit(alloc: Global, task: Task, duration: u64) -> Result<ServerStats, NoMemory>
+    ensures { IfOk result (λ r. r ≡ record no_stats { cache_hits = counted_task task; cache_read_hit_duration = duration }) }
 {
     let mut row = ServerStats::new(alloc);
-    row.cache_hits = one_compile(alloc)?;
+    row.cache_hits = one_compile(alloc, task)?;
     row.cache_read_hit_duration = Span::from_nanoseconds(duration);
     Ok(row)
 }
 
-fn row_of_error(alloc: Global) -> Result<ServerStats, NoMemory>
-    ensures { IfOk result (λ r. r ≡ record no_stats { cache_errors = plain_language }) }
+fn row_of_error(alloc: Global, task: Task) -> Result<ServerStats, NoMemory>
+    ensures { IfOk result (λ r. r ≡ record no_stats { cache_errors = counted_task task }) }
 {
     let mut row = ServerStats::new(alloc);
-    row.cache_errors = one_compile(alloc)?;
+    row.cache_errors = one_compile(alloc, task)?;
     Ok(row)
 }
 
@@ -250,14 +254,14 @@ fn row_of_process_error(alloc: Global) -> ServerStats
 }
 
 /// What the outcome of a compile counts.
-fn row_of_verdict(alloc: Global, verdict: &Verdict) -> Result<ServerStats, NoMemory>
-    ensures { IfOk result (λ r. (k : Config) (task : Task) → r ≡ verdict_row (setup k) task verdict.now) }
+fn row_of_verdict(alloc: Global, task: Task, verdict: &Verdict) -> Result<ServerStats, NoMemory>
+    ensures { IfOk result (λ r. (k : Config) → r ≡ verdict_row (setup k) task verdict.now) }
 {
     match verdict {
-        Verdict::Error => row_of_error(alloc),
-        Verdict::CacheHit(duration) => row_of_hit(alloc, *duration),
+        Verdict::Error => row_of_error(alloc, task),
+        Verdict::CacheHit(duration) => row_of_hit(alloc, task, *duration),
         Verdict::CacheMiss(miss, dist, duration) => {
-            let row = row_of_miss(alloc, *miss, *duration)?;
+            let row = row_of_miss(alloc, task, *miss, *duration)?;
             with_distribution(alloc, dist, row)
         }
         Verdict::NotCached(dist, duration) => {
@@ -274,7 +278,7 @@ fn row_of_verdict(alloc: Global, verdict: &Verdict) -> Result<ServerStats, NoMem
         }
         Verdict::ProcessError => Ok(row_of_process_error(alloc)),
         Verdict::Http => Ok(ServerStats::new(alloc)),
-        Verdict::Fault => row_of_error(alloc),
+        Verdict::Fault => row_of_error(alloc, task),
     }
 }
 
@@ -341,7 +345,7 @@ pub fn row_of(
     match what {
         What::Began(_, told) => row_of_began(alloc, request, told),
         What::Keyed(true, _, _) => Ok(row_of_keyed(alloc)),
-        What::Outcome(verdict, _) => row_of_verdict(alloc, verdict),
+        What::Outcome(verdict, task) => row_of_verdict(alloc, *task, verdict),
         What::WriteEnded(put, _) => {
             let duration = moment.saturating_sub(since);
             Ok(row_of_write(alloc, request, duration, put))

@@ -44,41 +44,70 @@ fn good(alloc: Global) -> Result<Compile, Fail> {
     request(alloc, b"/cc", &words)
 }
 
-#[test]
-fn ample_key(rt: HostRuntime) -> Result<(), Fail> {
-    let alloc = rt.alloc();
-    let found = PlainCompiler::key(alloc, &good(alloc)?)?;
-    assert_eq!(rt; found.key.as_str(), "key1");
-    assert!(rt; found.locally_preprocessed && found.cacheable);
+/// The outputs of a key, each with its path, in one text.
+fn told_outputs(alloc: Global, outputs: &[FileObjectSource]) -> Result<Vec<u8>, Fail> {
     let mut told = Vec::new(alloc);
-    for output in found.outputs.as_slice() {
-        assert!(rt; !output.optional);
+    for output in outputs {
         told.extend_from_slice(output.key.as_bytes())?;
-        told.push(b'=')?;
+        told.extend_from_slice(if output.optional { b"?" } else { b"=" })?;
         told.extend_from_slice(output.path.as_slice())?;
         told.push(b' ')?;
     }
-    assert_eq!(rt; told.as_slice(), b"obj=/w/o dep=/d ".as_slice());
+    Ok(told)
+}
+
+fn is_key(alloc: Global, request: &Compile) -> Result<bool, Fail> {
+    let found = PlainCompiler::key(alloc, request)?;
+    let told = told_outputs(alloc, found.outputs.as_slice())?;
+    Ok(
+        found.key.as_str() == "key1"
+            && found.locally_preprocessed
+            && found.cacheable
+            && told.as_slice() == b"obj=/w/o dep=/d ".as_slice(),
+    )
+}
+
+#[test]
+fn ample_key(rt: HostRuntime) -> Result<(), Fail> {
+    let request = good(rt.alloc())?;
+    assert!(rt; is_key(rt.alloc(), &request)?);
     Ok(())
+}
+
+fn is_last(words: &[ByteText], number: usize, last: &[u8]) -> bool {
+    match words {
+        [.., word] => words.len() == number && word.as_slice() == last,
+        [] => false,
+    }
+}
+
+fn is_command(alloc: Global, request: &Compile) -> Result<bool, Fail> {
+    let command = PlainCompiler::command(alloc, request)?;
+    Ok(
+        command.executable.as_slice() == b"/cc".as_slice()
+            && command.cwd.as_slice() == b"/w".as_slice()
+            && is_last(command.arguments.as_slice(), 2, b"a.c")
+            && command.env_vars.len() == 1,
+    )
+}
+
+fn is_pretty(alloc: Global, request: &Compile) -> Result<bool, Fail> {
+    let pretty = PlainCompiler::pretty(alloc, request)?;
+    Ok(pretty.as_slice() == b"o".as_slice())
 }
 
 #[test]
 fn ample_command_and_pretty(rt: HostRuntime) -> Result<(), Fail> {
     let alloc = rt.alloc();
-    let command = PlainCompiler::command(alloc, &good(alloc)?)?;
-    assert_eq!(rt; command.executable.as_slice(), b"/cc".as_slice());
-    assert_eq!(rt; command.cwd.as_slice(), b"/w".as_slice());
-    assert_eq!(rt; command.arguments.len(), 2);
-    assert_eq!(rt;
-        command.arguments.as_slice()[1].as_slice(),
-        b"a.c".as_slice()
-    );
-    assert_eq!(rt; command.env_vars.len(), 1);
-    let pretty = PlainCompiler::pretty(alloc, &good(alloc)?)?;
-    assert_eq!(rt; pretty.as_slice(), b"o".as_slice());
+    let request = good(alloc)?;
+    assert!(rt; is_command(alloc, &request)? && is_pretty(alloc, &request)?);
+    Ok(())
+}
+
+#[test]
+fn notifications(rt: HostRuntime) {
     assert!(rt; PlainCompiler::is_notification(b"note:x"));
     assert!(rt; !PlainCompiler::is_notification(b" note:x"));
-    Ok(())
 }
 
 /// What a compile is, in words.
@@ -91,10 +120,18 @@ fn told(alloc: Global, parsed: Parsed) -> Result<Text, Fail> {
     }
 }
 
+/// Whether these words are parsed so.
+fn is_parsed(alloc: Global, words: &[&[u8]], wanted: &str) -> Result<bool, Fail> {
+    let request = request(alloc, b"/cc", words)?;
+    let parsed = PlainCompiler::parse(alloc, GCC, &request)?;
+    let text = told(alloc, parsed)?;
+    Ok(text.as_str() == wanted)
+}
+
 #[test]
 fn ample_parse(rt: HostRuntime) -> Result<(), Fail> {
     let alloc = rt.alloc();
-    let cases: [(&[&[u8]], &str); 7] = [
+    let cases: [(&[&[u8]], &str); 15] = [
         (&[b"--key", b"k", b"--", b"a"], "started"),
         (&[b"--key", b"k", b"--"], "started"),
         (&[b"--key", b"k"], "bad arguments"),
@@ -103,61 +140,111 @@ fn ample_parse(rt: HostRuntime) -> Result<(), Fail> {
             &[b"--key", b"k", b"--out", b"stdout=/o", b"--"],
             "bad arguments",
         ),
+        (&[b"--key", b"k", b"--dep", b"--no-store", b"--"], "started"),
+        (
+            &[b"--key", b"k", b"--no-store", b"--dep", b"--"],
+            "bad arguments",
+        ),
+        (
+            &[b"--key", b"k", b"--opt", b"a=", b"--out", b"b=", b"--"],
+            "bad arguments",
+        ),
+        (&[b"--key", b"\xff", b"--"], "bad arguments"),
+        (&[b"--cannot", b"why"], "why"),
+        (&[b"--cannot", b"why", b"extra"], "why"),
+        (&[b"--cannot"], "bad arguments"),
+        (&[b"--cannot", b"a", b"b", b"c"], "bad arguments"),
         (&[b"-E", b"a.c"], "no compile"),
         (&[], "no compile"),
     ];
     for (words, wanted) in cases {
-        let parsed = PlainCompiler::parse(alloc, GCC, &request(alloc, b"/cc", words)?)?;
-        assert_eq!(rt; told(alloc, parsed)?.as_str(), wanted);
+        assert!(rt; is_parsed(alloc, words, wanted)?);
+    }
+    Ok(())
+}
+
+fn tool(alloc: Global, path: &[u8], moment: u64, kind: ToolKind) -> Result<Tool, Fail> {
+    let path = ByteText::from_slice(alloc, path)?;
+    Ok(Tool { path, moment, kind })
+}
+
+/// The language of a compile of these words; of none where it doesn't start.
+fn language(alloc: Global, words: &[&[u8]]) -> Result<&'static str, Fail> {
+    match PlainCompiler::parse(alloc, GCC, &request(alloc, b"/cc", words)?)? {
+        Parsed::Started(task) => Ok(task.language.as_str()),
+        _ => Ok(""),
+    }
+}
+
+#[test]
+fn a_compile_is_in_the_language_of_its_first_file(rt: HostRuntime) -> Result<(), Fail> {
+    let cases: [(&[&[u8]], &str); 4] = [
+        (
+            &[b"--key", b"a.rs", b"--", b"-c", b"x.d/a.cc", b"b.rs"],
+            "c++",
+        ),
+        (&[b"--key", b"k", b"--", b"a.zz", b".cc"], "c"),
+        (&[b"--key", b"k", b"--"], "c"),
+        (&[b"--cannot", b"a.rs"], ""),
+    ];
+    for (words, name) in cases {
+        assert_eq!(rt; language(rt.alloc(), words)?, name);
     }
     Ok(())
 }
 
 fn table(alloc: Global) -> Result<ToolTable, Fail> {
     let mut tools = Vec::new(alloc);
-    tools.push(Tool {
-        path: ByteText::from_slice(alloc, b"/cc")?,
-        moment: 7,
-        kind: ToolKind::Compiler(GCC),
-    })?;
-    tools.push(Tool {
-        path: ByteText::from_slice(alloc, b"/no")?,
-        moment: 8,
-        kind: ToolKind::NotACompiler,
-    })?;
-    Ok(ToolTable::new(tools))
+    tools.push(tool(alloc, b"/cc", 7, ToolKind::Compiler(GCC))?)?;
+    tools.push(tool(alloc, b"/no", 8, ToolKind::NotACompiler)?)?;
+    Ok(ToolTable::new(alloc, tools, Vec::new(alloc))?)
+}
+
+/// Whether a compile by this compiler begins so, and the table tells this moment of it.
+fn begins(
+    alloc: Global,
+    table: &ToolTable,
+    exe: &[u8],
+    wanted: &str,
+    moment: Option<u64>,
+) -> Result<bool, Fail> {
+    let asked = request(alloc, exe, &[b"--key", b"k", b"--"])?;
+    let parsed = begin(alloc, table, &asked)?;
+    let text = told(alloc, parsed)?;
+    Ok(text.as_str() == wanted && table.moment(&asked.exe) == moment)
+}
+
+fn begins_each(alloc: Global, table: &ToolTable) -> Result<bool, Fail> {
+    Ok(
+        begins(alloc, table, b"/cc", "started", Some(7))?
+            && begins(alloc, table, b"/no", "not a compiler", Some(8))?
+            && begins(alloc, table, b"/c", "compiler not found", None)?,
+    )
 }
 
 #[test]
 fn ample_begin(rt: HostRuntime) -> Result<(), Fail> {
     let alloc = rt.alloc();
     let table = table(alloc)?;
-    let cases: [(&[u8], &str, Option<u64>); 3] = [
-        (b"/cc", "started", Some(7)),
-        (b"/no", "not a compiler", Some(8)),
-        (b"/c", "compiler not found", None),
-    ];
-    for (exe, wanted, moment) in cases {
-        let asked = request(alloc, exe, &[b"--key", b"k", b"--"])?;
-        let parsed = begin(alloc, &table, &asked)?;
-        assert_eq!(rt; told(alloc, parsed)?.as_str(), wanted);
-        assert_eq!(rt; table.moment(&asked.exe), moment);
-    }
+    assert!(rt; begins_each(alloc, &table)?);
     Ok(())
 }
 
 /// What a run that wrote this and left `obj` gives.
 fn gives(alloc: Global, stdout: &[u8]) -> Result<RunAnswer, Fail> {
+    let stdout = ByteText::from_slice(alloc, stdout)?;
+    let name = Text::from_str(alloc, "obj")?;
+    let bytes = ByteText::from_slice(alloc, b"AB")?;
     let mut objects = Items::new(alloc);
     objects.push(Object {
-        name: Text::from_str(alloc, "obj")?,
+        name,
         mode: None,
-        bytes: ByteText::from_slice(alloc, b"AB")?,
+        bytes,
     })?;
     Ok(RunAnswer::Output(RunOutput {
         output: Output {
             status: Status::Code(0),
-            stdout: ByteText::from_slice(alloc, stdout)?,
+            stdout,
             stderr: ByteText::new(alloc),
         },
         objects: Objects::Collected(objects),
@@ -187,12 +274,12 @@ fn wrote(alloc: Global, answer: RunAnswer) -> Result<Vec<u8>, Fail> {
 fn workshop(alloc: Global) -> Result<ScriptWorkshop, Fail> {
     let mut lines = Vec::new(alloc);
     for stdout in [b"hi".as_slice(), b"ho".as_slice()] {
-        let key = Text::from_str(alloc, "key1")?;
+        let key = ByteText::from_slice(alloc, b"key1")?;
         if let Some(line) = RunLine::new(alloc, key, gives(alloc, stdout)?)? {
             lines.push(line)?;
         }
     }
-    Ok(ScriptWorkshop::new(alloc, lines)?)
+    Ok(ScriptWorkshop::new(alloc, lines, Vec::new(alloc))?)
 }
 
 fn run_of(
@@ -213,10 +300,7 @@ fn run_of(
     wrote(alloc, answer)
 }
 
-#[test]
-fn ample_run(rt: HostRuntime) -> Result<(), Fail> {
-    let alloc = rt.alloc();
-    let mut workshop = workshop(alloc)?;
+fn runs_each(alloc: Global, workshop: &mut ScriptWorkshop) -> Result<bool, Fail> {
     let cases = [
         ("key1", "obj", "hi", 0),
         ("key1", "obj", "ho", 0),
@@ -224,12 +308,18 @@ fn ample_run(rt: HostRuntime) -> Result<(), Fail> {
         ("key1", "lib", "failed to open file lib", 1),
         ("key2", "obj", "no answer for key2", 2),
     ];
+    let mut same = true;
     for (key, name, wanted, faults) in cases {
-        let got = run_of(alloc, &mut workshop, key, name)?;
-        assert_eq!(rt; got.as_slice(), wanted.as_bytes());
-        assert_eq!(rt; workshop.faults(), faults);
+        let got = run_of(alloc, workshop, key, name)?;
+        same = same && got.as_slice() == wanted.as_bytes() && workshop.faults() == faults;
     }
-    assert_eq!(rt; workshop.run_count(), 5);
-    assert_eq!(rt; workshop.placing_count(), 0);
+    Ok(same && workshop.run_count() == 5 && workshop.placing_count() == 0)
+}
+
+#[test]
+fn ample_run(rt: HostRuntime) -> Result<(), Fail> {
+    let alloc = rt.alloc();
+    let mut workshop = workshop(alloc)?;
+    assert!(rt; runs_each(alloc, &mut workshop)?);
     Ok(())
 }

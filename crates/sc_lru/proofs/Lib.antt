@@ -11,4 +11,3 @@ pub mod Places
 pub mod Rests
 pub mod Shown
 pub mod DryRuns
-pub mod Shifts

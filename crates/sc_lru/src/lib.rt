@@ -19,8 +19,3 @@ pub use into_iter::IntoIter;
 pub use iter::Iter;
 pub use iter_mut::IterMut;
 pub use meter::{Count, Meter};
-
-#[cfg(test)]
-mod shifted;
-#[cfg(test)]
-mod tests;

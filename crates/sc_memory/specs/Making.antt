@@ -1,23 +1,31 @@
 -- What a daemon over memory is made of, and what it holds at first.
-use Rattle.std.specs.Prelude.{◌≡◌, ℕ, zero, suc, false, List, [], ◌∷◌, ◌++◌, codes, decimal, map, Option, Some, None}
+use Rattle.std.specs.Prelude.{◌≡◌, ℕ, zero, suc, true, false, List, [], ◌∷◌, ◌++◌, codes, decimal, map, Option, Some, None}
+use Rattle.sc_compile.specs.declared.place_line.PlaceLine.{PlaceLine}
 use Rattle.sc_compile.specs.declared.run_line.RunLine.{RunLine}
 use Rattle.sc_disk.specs.Disks.{DiskState, no_disk_files}
 use Rattle.sc_disk.specs.Memory.{outside_of}
 use Rattle.sc_disk.specs.declared.change.Change.{Change}
 use Rattle.sc_disk.specs.declared.change.Change.TheVariants.{Added, Made}
 use Rattle.sc_disk_cache.specs.DiskStores.{unopened_store}
+use Rattle.sc_dist.specs.declared.dist_line.DistLine.{DistLine}
 use Rattle.sc_entry.specs.declared.calls.Calls.{Calls as Counted}
 use Rattle.sc_entry.specs.Keys.{make_key_path, normalize_key}
+use Rattle.sc_job.specs.Setups.{DistTold}
 use Rattle.sc_model.specs.Devices.{calls_failing}
 use Rattle.sc_model.specs.World.{Files, World, no_files}
+use Rattle.sc_model.specs.declared.event.DistAnswer.{DistAnswer}
 use Rattle.sc_model.specs.declared.event.RunAnswer.{RunAnswer}
-use Rattle.sc_model.specs.declared.level.Container.TheVariants.{Disabled}
+use Rattle.sc_model.specs.declared.level.DistClientState.{DistClientState}
+use Rattle.sc_model.specs.declared.level.DistClientState.TheVariants.{Disabled, RetryCreateAt}
 use Rattle.sc_model.specs.declared.level.LevelKind.{LevelKind}
 use Rattle.sc_model.specs.declared.level.LevelKind.TheVariants.{Disk, Remote}
 use Rattle.sc_pair.specs.Twos.{joined_state, joins}
+use Rattle.sc_script.specs.declared.job_rule.JobRule.{JobRule}
 use Rattle.sc_script.specs.declared.level_rule.LevelRule.{LevelRule}
+use Rattle.sc_script.specs.declared.place_rule.PlaceRule.{PlaceRule}
 use Rattle.sc_script.specs.declared.run_rule.RunRule.{RunRule}
 use Rattle.sc_script.specs.declared.script.Script.{Script}
+use Rattle.sc_stats.specs.declared.counters.DistInfo.TheVariants.{SchedulerStatus}
 use Rattle.sc_store.specs.Held.{Held, HeldLevel, as_configured, held_of, held_remote, memory_names, nothing_given, of_disk}
 use Rattle.sc_store.specs.Paths.{put_all}
 
@@ -84,6 +92,40 @@ abbrev pub AreLines : Option (List RunLine) → List RunRule → Type 0
 AreLines None runs = ⊥
 AreLines (Some lines) runs = told_lines lines ≡ told_runs runs
 
+-- keys and chains, in order
+abbrev pub told_refusals : List PlaceLine → List (List ℕ × List (List ℕ))
+told_refusals lines = map (λ l. (l.key, l.chain)) lines
+
+abbrev pub told_places : List PlaceRule → List (List ℕ × List (List ℕ))
+told_places places = map (λ r. (r.key, r.chain)) places
+
+-- the lines by which placings are refused are told, and say what the rules say
+abbrev pub AreRefusals : Option (List PlaceLine) → List PlaceRule → Type 0
+AreRefusals None places = ⊥
+AreRefusals (Some lines) places = told_refusals lines ≡ told_places places
+
+-- keys and answers of jobs, in order
+abbrev pub told_jobs : List DistLine → List (List ℕ × DistAnswer)
+told_jobs lines = map (λ l. (l.key, l.answer)) lines
+
+abbrev pub told_answers : List JobRule → List (List ℕ × DistAnswer)
+told_answers jobs = map (λ r. (r.key, r.answer)) jobs
+
+-- the lines by which jobs are answered are told, and say what the rules say
+abbrev pub AreJobs : Option (List DistLine) → List JobRule → Type 0
+AreJobs None jobs = ⊥
+AreJobs (Some lines) jobs = told_jobs lines ≡ told_answers jobs
+
+-- A distributed client that answers by the rules: its scheduler has no address and no servers, and it is made whenever that is
+-- due.
+abbrev pub IsDist : DistTold → List JobRule → Type 0
+IsDist d jobs = (d.url ≡ None) × (d.status ≡ Some (SchedulerStatus None 0 0 0)) × (d.is_made ≡ true) × AreJobs d.lines jobs
+
+-- there is one where a rule is on its jobs
+abbrev pub first_container : List JobRule → DistClientState
+first_container [] = Disabled
+first_container (r ∷ jobs) = RetryCreateAt 0
+
 -- nothing was run, placed or refused
 abbrev pub first_world : Script → World
 first_world script = record {
@@ -91,8 +133,9 @@ first_world script = record {
   levels = (first_levels script).levels;
   runs = Some [];
   placings = Some [];
+  dists = Some [];
   shop_faults = 0;
   dist_faults = 0;
   maker_faults = 0;
-  container = Disabled;
+  container = first_container script.jobs;
 }

@@ -2,22 +2,23 @@
 ghost use Rattle.std.specs.Prelude.{◌≡◌, ℕ, [], true, Some, IfOk, map};
 ghost use Rattle.sc_compile.specs.Shop.{new_shop};
 ghost use Rattle.sc_disk.specs.Memory.{memory_state};
-ghost use Rattle.sc_memory.specs.Making.{AreLines, first_disk, first_files, first_held, first_levels, first_world, held_as, held_first, main_root, placed, pre_root, told_lines, told_runs};
+ghost use Rattle.sc_memory.specs.Making.{AreLines, AreRefusals, IsDist, first_container, first_disk, first_files, first_held, first_levels, first_world, held_as, held_first, main_root, placed, pre_root, told_answers, told_jobs, told_lines, told_places, told_refusals, told_runs};
 ghost use Rattle.sc_model.specs.declared.level.LevelKind.TheVariants as kinds;
-ghost use Rattle.sc_script.specs.Goods.{IsGood, are_good_levels, are_good_runs, are_store_keys};
+ghost use Rattle.sc_script.specs.Goods.{IsGood, are_good_jobs, are_good_levels, are_good_places, are_good_runs, are_store_keys};
 ghost use Rattle.sc_model.specs.Devices.{calls_failing};
 ghost use Rattle.sc_disk_cache.specs.Devices.{calls_of};
-ghost use Rattle.sc_owned.specs.State.{reserved_in, store_of};
+ghost use Rattle.sc_owned.specs.State.{reserved_in, store_of, told_by};
 ghost use Rattle.sc_store.specs.Levels.{held_level};
 ghost use Rattle.sc_store.specs.Telling.{new_counters};
 
 use crate::memory::Memory;
-use sc_compile::{RunLine, ScriptWorkshop, ToolTable};
+use sc_compile::{PlaceLine, RunLine, ScriptWorkshop, ToolTable};
 use sc_disk::{MemDisk, make_key_path, normalize_key};
+use sc_dist::{DistClientConfig, DistClientContainer, DistLine, MemMaker, ScriptDist};
 use sc_entry::{ByteText, Calls, Items, NoMemory, Text};
-use sc_model::{LevelKind, Step};
+use sc_model::{DistClientState, LevelKind, Step};
 use sc_owned::Owned;
-use sc_script::{LevelRule, RunRule, Script};
+use sc_script::{JobRule, LevelRule, PlaceRule, RunRule, Script};
 use sc_store::{DiskCache, Layered, Level, MemRemote, RemoteStorage, Unvouched};
 use std::alloc::Global;
 use std::collections::BTreeMap;
@@ -171,21 +172,85 @@ fn lines_of(alloc: Global, runs: Items<RunRule>) -> Result<Vec<RunLine>, NoMemor
     let mut lines = Vec::new(alloc);
     for rule in runs.into_vec() {
         lines.push(RunLine {
-            key: rule.key,
+            key: rule.key.into_byte_text(),
             answer: rule.answer,
         })?;
     }
     Ok(lines)
 }
 
-fn shop(alloc: Global, runs: Items<RunRule>) -> Result<ScriptWorkshop, NoMemory>
-    requires { are_good_runs runs ≡ true }
-    ensures new { IfOk result (λ shop. shop ≡ new_shop shop.lines) }
+/// The lines by which a workshop refuses placings, which say what the rules say.
+fn refusals_of(alloc: Global, places: Items<PlaceRule>) -> Result<Vec<PlaceLine>, NoMemory>
+    requires { are_good_places places ≡ true }
+    ensures { IfOk result (λ lines. told_refusals lines.items ≡ told_places places) }
+{
+    let mut lines = Vec::new(alloc);
+    for rule in places.into_vec() {
+        lines.push(PlaceLine {
+            key: rule.key.into_byte_text(),
+            chain: rule.chain,
+        })?;
+    }
+    Ok(lines)
+}
+
+fn shop(
+    alloc: Global,
+    runs: Items<RunRule>,
+    places: Items<PlaceRule>,
+) -> Result<ScriptWorkshop, NoMemory>
+    requires runs { are_good_runs runs ≡ true }
+    requires places { are_good_places places ≡ true }
+    ensures new { IfOk result (λ shop. shop ≡ new_shop shop.lines shop.refusals) }
     ensures lines { IfOk result (λ shop. told_lines shop.lines ≡ told_runs runs) }
+    ensures refusals { IfOk result (λ shop. told_refusals shop.refusals ≡ told_places places) }
 {
     let lines = lines_of(alloc, runs)?;
-    let shop = ScriptWorkshop::new(alloc, lines)?;
+    let refusals = refusals_of(alloc, places)?;
+    let shop = ScriptWorkshop::new(alloc, lines, refusals)?;
     Ok(shop)
+}
+
+/// The lines of a distributed client that say what the rules say.
+fn jobs_of(alloc: Global, jobs: Items<JobRule>) -> Result<Vec<DistLine>, NoMemory>
+    requires { are_good_jobs jobs ≡ true }
+    ensures { IfOk result (λ lines. told_jobs lines.items ≡ told_answers jobs) }
+{
+    let mut lines = Vec::new(alloc);
+    for rule in jobs.into_vec() {
+        lines.push(DistLine {
+            key: rule.key.into_byte_text(),
+            answer: rule.answer,
+        })?;
+    }
+    Ok(lines)
+}
+
+/// Whether there is a distributed client: where a rule is on its jobs. It is made at its first use.
+fn first_state(jobs: &Items<JobRule>) -> DistClientState
+    ensures { result ≡ first_container jobs.now }
+{
+    match jobs.as_slice() {
+        [] => DistClientState::Disabled,
+        [_, ..] => DistClientState::RetryCreateAt(0),
+    }
+}
+
+/// The distributed client, which answers by the rules.
+fn dist(alloc: Global, jobs: Items<JobRule>) -> Result<DistClientContainer<MemMaker>, NoMemory>
+    requires { are_good_jobs jobs ≡ true }
+    ensures dist { IfOk result (λ dist. IsDist (told_by dist) jobs) }
+    ensures jobs { IfOk result (λ dist. dist.jobs ≡ Some []) }
+    ensures state { IfOk result (λ dist. dist.state ≡ first_container jobs) }
+    ensures faults { IfOk result (λ dist. (dist.client_faults ≡ 0) × (dist.maker_faults ≡ 0)) }
+{
+    let state = first_state(&jobs);
+    let client = ScriptDist::new(alloc, jobs_of(alloc, jobs)?)?;
+    let maker = MemMaker::new(Vec::new(alloc));
+    let config = DistClientConfig {
+        scheduler_url: None,
+    };
+    Ok(DistClientContainer::new_with_state(config, state, client, maker))
 }
 
 /// Takes a good script apart: a daemon whose parts are made of what it says, the bytes that come on each connection,
@@ -199,7 +264,10 @@ pub fn make(alloc: Global, script: Script) -> Result<Made, NoMemory>
     ensures tokens { IfOk result (λ made. made.owned.config.tokens ≡ script.tokens) }
     ensures limit { IfOk result (λ made. made.owned.config.limit ≡ script.limit) }
     ensures table { IfOk result (λ made. made.owned.config.table ≡ Some script.tools) }
+    ensures keys { IfOk result (λ made. made.owned.config.keys ≡ Some script.keys) }
     ensures lines { IfOk result (λ made. AreLines made.owned.config.lines script.runs) }
+    ensures refusals { IfOk result (λ made. AreRefusals made.owned.config.refusals script.places) }
+    ensures dist { IfOk result (λ made. IsDist made.owned.config.dist script.jobs) }
     ensures told { IfOk result (λ made. made.owned.told ≡ true) }
     ensures unreserved { IfOk result (λ made. (level : ℕ) → reserved_in made.owned level ≡ 0) }
     ensures world { IfOk result (λ made. made.owned.world ≡ first_world script) }
@@ -208,9 +276,17 @@ pub fn make(alloc: Global, script: Script) -> Result<Made, NoMemory>
 {
     let levels = levels_of(alloc, script.levels)?;
     let levels = Layered::new(levels, script.policy);
-    let shop = shop(alloc, script.runs)?;
-    let finder = ToolTable::new(script.tools.into_vec());
-    let owned = Owned::new(levels, shop, finder, script.tokens, script.limit as u32);
+    let shop = shop(alloc, script.runs, script.places)?;
+    let finder = ToolTable::new(alloc, script.tools.into_vec(), script.keys.into_vec())?;
+    let dist = dist(alloc, script.jobs)?;
+    let owned = Owned::new(
+        levels,
+        shop,
+        finder,
+        dist,
+        script.tokens,
+        script.limit as u32,
+    );
     Ok(Made {
         owned,
         inputs: script.inputs,

@@ -1,5 +1,6 @@
 use sc_compile::{ScriptWorkshop, ToolTable};
 use sc_disk::MemDisk;
+use sc_dist::MemMaker;
 use sc_owned::Parts;
 use sc_store::{MemRemote, Unvouched};
 
@@ -16,4 +17,6 @@ impl Parts for Memory {
     type Vouch = Unvouched;
 
     type Finder = ToolTable;
+
+    type Maker = MemMaker;
 }

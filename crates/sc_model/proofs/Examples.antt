@@ -78,7 +78,9 @@ setup = record {
   codec = record { payload = λ g. []; entry = λ os. 1 ∷ []; objects = read_entry };
   compilers = record { reads = λ c. None; keys = λ c k. None; color = λ c. ColorAuto; pretty = λ c. codes "/o"; is_note = λ c l. false; is_valid = λ b. true; kind_text = λ t. codes "C/C++"; full_text = λ t. codes "c [gcc]" };
   workshop = λ k rs os. None;
-  scheduler = record { url = None; retry_text = λ n. [] };
+  placing = λ k. None;
+  dist = λ k ds os. None;
+  scheduler = record { url = None; retry_text = λ n. []; status = None; is_made = false };
   store = record { location = []; type_name = []; basedirs = []; basedir_texts = []; flag = false; max_size = None };
   levels = remote ∷ [];
   policy = Single;

@@ -175,8 +175,8 @@ module _ (s : Script) where
 
       placed : (p : Placing) → MovesPlaced s.setup n p w w2 → w2.levels ≡ w.levels
       placed (Missing name) h = ap (λ v. v.levels) h.1
-      placed PlaceDone h = ap (λ v. v.levels) h.1
-      placed (PlaceFault chain) h = ap (λ v. v.levels) h.1.3
+      placed PlaceDone h = ap (λ v. v.levels) h.2
+      placed (PlaceFault chain) h = ap (λ v. v.levels) h.2.3
 
       by_kind : (x : What) → Moves s.setup n z x w w2 → (held (kind_at s.setup.levels l) (level_at w l) k ≡ Some b) ⊎ ((level_named x ≡ Some l) × PutsAt x k b)
       by_kind (Asked j i mode a hs) h = at_level j (Asked j i mode a hs) refl h
@@ -188,7 +188,7 @@ module _ (s : Script) where
       by_kind (Keyed first client step) h = inl (stays (ap (λ v. v.levels) h.6))
       by_kind (Placed p) h = inl (stays (placed p h))
       by_kind (Ran a) h = inl (stays (ap (λ v. v.levels) h.4))
-      by_kind (Dist d) h = inl (stays (ap (λ v. v.levels) h.3))
+      by_kind (Dist d) h = inl (stays (ap (λ v. v.levels) h.4))
       by_kind (Outcome v task) h = inl (stays (ended v h))
       by_kind _ h = inl (stays (ap (λ v. v.levels) h))
 

@@ -1,5 +1,5 @@
 -- The headline holds of every run of the machine.
-use Rattle.std.proofs.Common.{◌≡◌, ℕ, List, [], ◌∷◌, length, map, refl, sym, ap, ◌∙◌, subst, arith, get_or, false, cond}
+use Rattle.std.proofs.Common.{◌≡◌, ℕ, List, [], ◌∷◌, length, map, refl, sym, ap, ◌∙◌, subst, arith, get_or, false, cond, Some, None}
 use Rattle.sc_entry.specs.Causes.{IfTold}
 use Rattle.sc_model.proofs.Backs.{BackTie, IsWrite, back_new, pending_writes}
 use Rattle.sc_model.proofs.Bounds.{few_events}
@@ -30,13 +30,13 @@ use Rattle.sc_model.specs.declared.event.Placing.TheVariants.{Done as PlaceDone,
 use Rattle.sc_model.specs.declared.event.Step.{Step}
 use Rattle.sc_model.specs.declared.event.Step.TheVariants.{Back, Pass, Read, Serve}
 use Rattle.sc_model.specs.declared.event.What.{What}
-use Rattle.sc_model.specs.declared.event.What.TheVariants.{Closed, Idle, Keyed, Passed, Placed, Ran, Sent, Taken}
+use Rattle.sc_model.specs.declared.event.What.TheVariants.{Closed, Dist, Idle, Keyed, Passed, Placed, Ran, Sent, Taken}
 use Rattle.sc_model.specs.declared.message.Request.{Request}
 use Rattle.sc_model.specs.declared.message.Response.TheVariants.{ArtifactNotification as Note, CompileFinished as Finished}
 use Rattle.sc_model.specs.declared.phase.Job.{Job}
 use Rattle.sc_model.specs.declared.phase.Pending.{Pending}
 use Rattle.sc_model.specs.declared.phase.Phase.{Phase}
-use Rattle.sc_model.specs.declared.phase.Phase.TheVariants.{AtPlace, AtRun, AtWrite, PrePut}
+use Rattle.sc_model.specs.declared.phase.Phase.TheVariants.{AtDist, AtPlace, AtRun, AtWrite, PrePut}
 use Rattle.sc_stats.specs.Sums.{no_level_stats, sat}
 
 shown_is : (p : Policy) (ls : List LevelStats) → is_single p ≡ false → shown_levels p ls ≡ ls
@@ -85,6 +85,13 @@ module _ (s : Script) where
     subst (λ v. IfTold (s.setup.workshop v.found.key w.runs v.found.outputs) (λ b. a ≡ b)) (sym kp.has.job_is) m.3,
     subst (λ v. w2 ≡ record w { runs = and_one w.runs (v.found.key, a); shop_faults = m.0 }) (sym kp.has.job_is) m.4,
   )
+  moves_same r own (AtDist work) (Dist d) z w w2 kp f m = (
+    m.0,
+    m.1,
+    m.2,
+    subst (λ v. IfTold (s.setup.dist v.found.key w.dists v.found.outputs) (λ b. d ≡ b)) (sym kp.has.job_is) m.3,
+    subst (λ v. w2 ≡ record w { dists = and_one w.dists (v.found.key, d); dist_faults = m.0 }) (sym kp.has.job_is) m.4,
+  )
   moves_same r own (AtPlace job b d) (Placed p) z w w2 kp f m =
       let n2 : Need → Type 0 = λ v. MovesPlaced s.setup v p w w2 in
       placed p m
@@ -93,24 +100,35 @@ module _ (s : Script) where
       placed (Missing name) h = (ap (λ v. first_missing (s.setup.codec.objects v) (need_of s.setup r own).outputs) kp.1 ∙ ap (λ (v : Job). first_missing (s.setup.codec.objects b) (placed_of v.found.locally_preprocessed v.found.outputs)) kp.0.job_is ∙ h.0, h.1)
       placed PlaceDone h = (
         ap (λ v. first_missing (s.setup.codec.objects v) (need_of s.setup r own).outputs) kp.1 ∙ ap (λ (v : Job). first_missing (s.setup.codec.objects b) (placed_of v.found.locally_preprocessed v.found.outputs)) kp.0.job_is ∙ h.0,
-        h.1 ∙ ap (λ (v : Job). record w { placings = and_one w.placings (record { outputs = placed_of v.found.locally_preprocessed v.found.outputs; bytes = b }) }) (sym kp.0.job_is)
+        subst (λ (v : Job). IfTold (s.setup.placing v.found.key) (λ refusal. None ≡ refusal)) (sym kp.0.job_is) h.1,
+        h.2 ∙ ap (λ (v : Job). record w { placings = and_one w.placings (record { outputs = placed_of v.found.locally_preprocessed v.found.outputs; bytes = b }) }) (sym kp.0.job_is)
             ∙ ap (λ (v : List ℕ). record w { placings = and_one w.placings (record { outputs = (need_of s.setup r own).outputs; bytes = v }) }) (sym kp.1),
       )
-      placed (PlaceFault chain) h = (ap (λ v. first_missing (s.setup.codec.objects v) (need_of s.setup r own).outputs) kp.1 ∙ ap (λ (v : Job). first_missing (s.setup.codec.objects b) (placed_of v.found.locally_preprocessed v.found.outputs)) kp.0.job_is ∙ h.0, h.1)
+      placed (PlaceFault chain) h = (
+        ap (λ v. first_missing (s.setup.codec.objects v) (need_of s.setup r own).outputs) kp.1 ∙ ap (λ (v : Job). first_missing (s.setup.codec.objects b) (placed_of v.found.locally_preprocessed v.found.outputs)) kp.0.job_is ∙ h.0,
+        subst (λ (v : Job). IfTold (s.setup.placing v.found.key) (λ refusal. Some chain ≡ refusal)) (sym kp.0.job_is) h.1,
+        h.2,
+      )
   moves_same r own (AtWrite b (l ∷ ls) g ending) (Ran a) z w w2 kp f m = absurd (start_is s.setup r (kind_at s.setup.levels l) l b (Ran a) f)
   moves_same r own (AtWrite b [] g ending) (Ran a) z w w2 kp f m = absurd f
   moves_same r own (PrePut b (l ∷ ls) g) (Ran a) z w w2 kp f m = absurd f
   moves_same r own (PrePut b [] g) (Ran a) z w w2 kp f m = absurd f
+  moves_same r own (AtWrite b (l ∷ ls) g ending) (Dist d) z w w2 kp f m = absurd (start_is s.setup r (kind_at s.setup.levels l) l b (Dist d) f)
+  moves_same r own (AtWrite b [] g ending) (Dist d) z w w2 kp f m = absurd f
+  moves_same r own (PrePut b (l ∷ ls) g) (Dist d) z w w2 kp f m = absurd f
+  moves_same r own (PrePut b [] g) (Dist d) z w w2 kp f m = absurd f
   moves_same r own (AtWrite b (l ∷ ls) g ending) (Placed p) z w w2 kp f m = absurd (start_is s.setup r (kind_at s.setup.levels l) l b (Placed p) f)
   moves_same r own (AtWrite b [] g ending) (Placed p) z w w2 kp f m = absurd f
   moves_same r own (PrePut b (l ∷ ls) g) (Placed p) z w w2 kp f m = absurd f
   moves_same r own (PrePut b [] g) (Placed p) z w w2 kp f m = absurd f
   moves_same r own _ (Ran a) z w w2 kp f m = absurd f
+  moves_same r own _ (Dist d) z w w2 kp f m = absurd f
   moves_same r own _ (Placed p) z w w2 kp f m = absurd f
   moves_same r own p _ z w w2 kp f m = m
 
   moves_write : (n n2 : Need) (x : What) (z : ℕ → ℕ) (w w2 : World) → IsWrite x → Moves s.setup n z x w w2 → Moves s.setup n2 z x w w2
   moves_write n n2 (Ran a) z w w2 iw m = absurd iw
+  moves_write n n2 (Dist d) z w w2 iw m = absurd iw
   moves_write n n2 (Placed p) z w w2 iw m = absurd iw
   moves_write n n2 (Keyed first client step) z w w2 iw m = absurd iw
   moves_write n n2 _ z w w2 iw m = m

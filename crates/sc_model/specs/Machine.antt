@@ -321,7 +321,8 @@ free_after free _ = free
 -- what the job at this phase needs of the parts
 abbrev pub need_at : Setup → Request → Phase → Need
 need_at s r (AtRun work) = record { keys = keys_of s r; key = work.job.found.key; wanted = work.job.found.outputs; outputs = []; hit = [] }
-need_at s r (AtPlace job b d) = record { keys = keys_of s r; key = []; wanted = []; outputs = placed_of job.found.locally_preprocessed job.found.outputs; hit = b }
+need_at s r (AtDist work) = record { keys = keys_of s r; key = work.job.found.key; wanted = work.job.found.outputs; outputs = []; hit = [] }
+need_at s r (AtPlace job b d) = record { keys = keys_of s r; key = job.found.key; wanted = []; outputs = placed_of job.found.locally_preprocessed job.found.outputs; hit = b }
 need_at s r _ = record { keys = keys_of s r; key = []; wanted = []; outputs = []; hit = [] }
 
 -- handed writes

@@ -1,9 +1,10 @@
 -- What the caller hands in, and what its parts tell: bytes, limits, levels, policy, compiler part, texts.
 use Rattle.std.specs.Prelude.{◌≡◌, ℕ, ◌<◌, Bool, true, false, ◌||◌, List, [], ◌∷◌, ◌++◌, length, Option, slice_index_or, codes, bytes_eq}
-use Rattle.sc_model.specs.declared.event.CCompilerKind.TheVariants.{Gcc, Nvcc}
-use Rattle.sc_model.specs.declared.event.CompilerKind.TheVariants.{C as KindC}
+use Rattle.sc_language.specs.declared.compiler_kind.CCompilerKind.TheVariants.{Gcc, Nvcc}
+use Rattle.sc_language.specs.declared.compiler_kind.CompilerKind.TheVariants.{C as KindC}
+use Rattle.sc_model.specs.declared.event.DistAnswer.{DistAnswer}
 use Rattle.sc_model.specs.declared.event.KeyStep.{KeyStep}
-use Rattle.sc_model.specs.declared.event.Language.TheVariants.{C as LanguageC, Cuda}
+use Rattle.sc_language.specs.declared.language.Language.TheVariants.{C as LanguageC, Cuda}
 use Rattle.sc_entry.specs.declared.object.Object.{Object}
 use Rattle.sc_model.specs.declared.event.Parsed.{Parsed}
 use Rattle.sc_model.specs.declared.event.RunAnswer.{RunAnswer}
@@ -18,6 +19,7 @@ use Rattle.sc_model.specs.declared.message.Request.{Request}
 use Rattle.sc_model.specs.declared.message.Request.TheVariants.{Compile}
 use Rattle.sc_model.specs.declared.message.Response.{Response}
 use Rattle.sc_model.specs.declared.message.Variable.{Variable}
+use Rattle.sc_stats.specs.declared.counters.DistInfo.{DistInfo}
 use Rattle.sc_stats.specs.declared.counters.LevelStats.{LevelStats}
 use Rattle.sc_stats.specs.declared.counters.ServerStats.{ServerStats}
 
@@ -79,10 +81,13 @@ pub record StoreFacts : Type 0 where
   pub flag : Bool
   pub max_size : Option ℕ
 
--- texts on the distributed scheduler
+-- what is known of the distributed client: its scheduler's address, how a wait is told, and, where these are told, what it says of
+-- its scheduler, and whether one is made whenever one is due
 pub record Scheduler : Type 0 where
   pub url : Option (List ℕ)
   pub retry_text : ℕ → List ℕ
+  pub status : Option DistInfo
+  pub is_made : Bool
 
 -- a daemon: how it spells, what its parts tell, its store's levels and policy, its limits
 pub record Setup : Type 0 where
@@ -91,6 +96,10 @@ pub record Setup : Type 0 where
   pub scheduler : Scheduler
   -- what the workshop answers under a key, by the runs before and the outputs that are wanted, where it tells that
   pub workshop : List ℕ → Option (List (List ℕ × RunAnswer)) → List FileObjectSource → Option RunAnswer
+  -- why it refuses a placing under a key, if it does, where it tells that
+  pub placing : List ℕ → Option (Option (List (List ℕ)))
+  -- what the distributed client answers under a key, by its jobs before and the outputs that are wanted, where it tells that
+  pub dist : List ℕ → Option (List (List ℕ × DistAnswer)) → List FileObjectSource → Option DistAnswer
   pub store : StoreFacts
   pub levels : List LevelFacts
   pub policy : Policy

@@ -5,7 +5,7 @@ use Rattle.sc_model.specs.Devices.{Calls, MakesOn}
 use Rattle.sc_model.specs.Follows.{kind_at}
 use Rattle.sc_model.specs.Job.{Own, hit_of, job_of}
 use Rattle.sc_model.specs.Plan.{is_disk, level_facts, reads_only}
-use Rattle.sc_model.specs.Script.{Setup, control, is_single}
+use Rattle.sc_model.specs.Script.{Scheduler, Setup, control, is_single}
 use Rattle.sc_model.specs.Trace.{Open, reserved_at}
 use Rattle.sc_model.specs.declared.event.Answer.{Answer}
 use Rattle.sc_model.specs.declared.event.Answer.TheVariants.{Found as FoundAt, Hit, Miss, Refused, Size as SizeIs}
@@ -33,8 +33,8 @@ use Rattle.sc_model.specs.declared.event.Written.{Written}
 use Rattle.sc_model.specs.declared.event.Written.TheVariants.{Done as WriteDone, Refused as WriteRefused}
 use Rattle.sc_model.specs.declared.level.Cause.{Cause}
 use Rattle.sc_model.specs.declared.level.Cause.TheVariants.{BadEntry, BadKey, FileTooLarge, Io, ReadOnly as ForReading, RemoteFault as RemoteRefused, Reserved as NoRoom}
-use Rattle.sc_model.specs.declared.level.Container.{Container}
-use Rattle.sc_model.specs.declared.level.Container.TheVariants.{Disabled, FailWithMessage, Made, RetryCreateAt}
+use Rattle.sc_model.specs.declared.level.DistClientState.{DistClientState}
+use Rattle.sc_model.specs.declared.level.DistClientState.TheVariants.{Disabled, FailWithMessage, Made, RetryCreateAt}
 use Rattle.sc_model.specs.declared.level.LevelFacts.{LevelFacts}
 use Rattle.sc_model.specs.declared.level.LevelKind.{LevelKind}
 use Rattle.sc_model.specs.declared.level.LevelKind.TheVariants.{Disk, Remote}
@@ -102,10 +102,12 @@ pub record World : Type 0 where
   -- the workshop's runs and placings, where it tells them
   pub runs : Option (List (List ℕ × RunAnswer))
   pub placings : Option (List Place)
+  -- the distributed client's jobs, where it tells them
+  pub dists : Option (List (List ℕ × DistAnswer))
   pub shop_faults : ℕ
   pub dist_faults : ℕ
   pub maker_faults : ℕ
-  pub container : Container
+  pub container : DistClientState
 
 abbrev pub level_at : World → ℕ → Level
 level_at w l = slice_index_or w.levels l no_level_held
@@ -343,32 +345,36 @@ MovesLevel s f r _ v w = w ≡ v
 abbrev pub MovesAt : Setup → ℕ → ℕ → What → World → World → Type 0
 MovesAt s l r x w w2 = (v : Level) × MovesLevel s (level_facts s.levels l) r x (level_at w l) v × (w2 ≡ record w { levels = slice_set w.levels l v })
 
--- the container: a due retry makes its client anew
-abbrev pub Renews : ℕ → Container → Container → ℕ → ℕ → Type 0
-Renews now (RetryCreateAt due_at) Made f g = due_at ≤ now
-Renews now (RetryCreateAt due_at) (RetryCreateAt again) f g = ((now < due_at) × (again ≡ due_at)) ⊎ ((due_at ≤ now) × (again ≡ sat now 30000000000) × Rose f g)
-Renews now (RetryCreateAt due_at) (FailWithMessage text) f g = (due_at ≤ now) × Rose f g
-Renews now c d f g = d ≡ c
+-- A client that is due isn't made only where its maker's count rose, and not where it is told that each is made.
+abbrev pub IsUnmade : Scheduler → ℕ → ℕ → Type 0
+IsUnmade d f g = (d.is_made ≡ false) × Rose f g
 
-abbrev pub gives_client : Container → Bool
+-- the container: a due retry makes its client anew
+abbrev pub Renews : Scheduler → ℕ → DistClientState → DistClientState → ℕ → ℕ → Type 0
+Renews d now (RetryCreateAt due_at) Made f g = due_at ≤ now
+Renews d now (RetryCreateAt due_at) (RetryCreateAt again) f g = ((now < due_at) × (again ≡ due_at)) ⊎ ((due_at ≤ now) × (again ≡ sat now 30000000000) × IsUnmade d f g)
+Renews d now (RetryCreateAt due_at) (FailWithMessage text) f g = (due_at ≤ now) × IsUnmade d f g
+Renews d now c e f g = e ≡ c
+
+abbrev pub gives_client : DistClientState → Bool
 gives_client Made = true
 gives_client _ = false
 
 -- a kept message is answered once
-abbrev pub Tells_client : ℕ → Container → Option KeyStep → Bool → KeyStep → Container → Type 0
+abbrev pub Tells_client : ℕ → DistClientState → Option KeyStep → Bool → KeyStep → DistClientState → Type 0
 Tells_client now (FailWithMessage text) told client step after = (client ≡ false) × (step ≡ KeyFault (text ∷ [])) × (after ≡ RetryCreateAt now)
 Tells_client now c told client step after = IfTold told (λ k. step ≡ k) × (client ≡ gives_client c) × (after ≡ c)
 
-abbrev pub reset : ℕ → Container → Container
+abbrev pub reset : ℕ → DistClientState → DistClientState
 reset now Disabled = Disabled
 reset now _ = RetryCreateAt now
 
-abbrev pub Tells_status : Setup → ℕ → Container → DistInfo → ℕ → ℕ → Type 0
-Tells_status s now Disabled info f g = info ≡ IsDisabled (codes "disabled")
-Tells_status s now Made (SchedulerStatus u n c i) f g = Unit {0}
-Tells_status s now Made info f g = (info ≡ NotConnected s.scheduler.url (codes "could not communicate with scheduler")) × Rose f g
-Tells_status s now (FailWithMessage text) info f g = info ≡ NotConnected s.scheduler.url (codes "enabled, auth not configured")
-Tells_status s now (RetryCreateAt due_at) info f g = info ≡ NotConnected s.scheduler.url (s.scheduler.retry_text (due_at - now))
+abbrev pub Tells_status : Scheduler → ℕ → DistClientState → DistInfo → ℕ → ℕ → Type 0
+Tells_status d now Disabled info f g = info ≡ IsDisabled (codes "disabled")
+Tells_status d now Made (SchedulerStatus u n c i) f g = IfTold d.status (λ t. SchedulerStatus u n c i ≡ t)
+Tells_status d now Made info f g = (info ≡ NotConnected d.url (codes "could not communicate with scheduler")) × Rose f g
+Tells_status d now (FailWithMessage text) info f g = info ≡ NotConnected d.url (codes "enabled, auth not configured")
+Tells_status d now (RetryCreateAt due_at) info f g = info ≡ NotConnected d.url (d.retry_text (due_at - now))
 
 abbrev pub IsBrokenRun : RunOutput → Type 0
 IsBrokenRun out = elim out.objects [ Collected os ↦ ⊥ | Broken chain ↦ Unit {0} ]
@@ -421,27 +427,32 @@ abbrev pub first_missing : Option (List Object) → List FileObjectSource → Op
 first_missing os [] = None
 first_missing os (o ∷ rest) = if not o.optional && not (holds_name os o.key) then Some o.key else first_missing os rest
 
+-- What is missing comes first; else a placing is done unless it is refused, and a refusal is told only where the workshop's count rose.
 abbrev pub MovesPlaced : Setup → Need → Placing → World → World → Type 0
 MovesPlaced s n (Missing name) w w2 = (first_missing (s.codec.objects n.hit) n.outputs ≡ Some name) × (w2 ≡ w)
-MovesPlaced s n PlaceDone w w2 = (first_missing (s.codec.objects n.hit) n.outputs ≡ None) × (w2 ≡ record w { placings = and_one w.placings (record { outputs = n.outputs; bytes = n.hit }) })
-MovesPlaced s n (PlaceFault chain) w w2 = (first_missing (s.codec.objects n.hit) n.outputs ≡ None) × ((f : ℕ) × Rose w.shop_faults f × (w.shop_faults ≤ f) × (w2 ≡ record w { shop_faults = f }))
+MovesPlaced s n PlaceDone w w2 =
+    (first_missing (s.codec.objects n.hit) n.outputs ≡ None) × IfTold (s.placing n.key) (λ refusal. None ≡ refusal)
+    × (w2 ≡ record w { placings = and_one w.placings (record { outputs = n.outputs; bytes = n.hit }) })
+MovesPlaced s n (PlaceFault chain) w w2 =
+    (first_missing (s.codec.objects n.hit) n.outputs ≡ None) × IfTold (s.placing n.key) (λ refusal. Some chain ≡ refusal)
+    × ((f : ℕ) × Rose w.shop_faults f × (w.shop_faults ≤ f) × (w2 ≡ record w { shop_faults = f }))
 
 abbrev pub MovesOutcome : Verdict → World → World → Type 0
 MovesOutcome HttpError w w2 = w2 ≡ record w { container = reset w.moment w.container }
 MovesOutcome _ w w2 = w2 ≡ w
 
 abbrev pub MovesBegan : Setup → Told → World → World → Type 0
-MovesBegan s (TellsDist info) w w2 = (c : Container) × (f g : ℕ) × (w.maker_faults ≤ f) × (w.dist_faults ≤ g) × Renews w.moment w.container c w.maker_faults f × Tells_status s w.moment c info w.dist_faults g × (w2 ≡ record w { container = c; maker_faults = f; dist_faults = g })
+MovesBegan s (TellsDist info) w w2 = (c : DistClientState) × (f g : ℕ) × (w.maker_faults ≤ f) × (w.dist_faults ≤ g) × Renews s.scheduler w.moment w.container c w.maker_faults f × Tells_status s.scheduler w.moment c info w.dist_faults g × (w2 ≡ record w { container = c; maker_faults = f; dist_faults = g })
 MovesBegan s _ w w2 = w2 ≡ w
 
 -- how an event of a request or a handed write moves the world; r: a level's open reservations before
 abbrev pub Moves : Setup → Need → (ℕ → ℕ) → What → World → World → Type 0
 Moves s n r (Began q told) w w2 = MovesBegan s told w w2
-Moves s n r (Keyed first client step) w w2 = (c d : Container) × (f : ℕ) × (w.maker_faults ≤ f) × Renews w.moment w.container c w.maker_faults f × Tells_client w.moment c (n.keys first) client step d × (w2 ≡ record w { container = d; maker_faults = f })
+Moves s n r (Keyed first client step) w w2 = (c d : DistClientState) × (f : ℕ) × (w.maker_faults ≤ f) × Renews s.scheduler w.moment w.container c w.maker_faults f × Tells_client w.moment c (n.keys first) client step d × (w2 ≡ record w { container = d; maker_faults = f })
 Moves s n r (Asked l k mode a hs) w w2 = MovesAt s l (r l) (Asked l k mode a hs) w w2
 Moves s n r (Placed p) w w2 = MovesPlaced s n p w w2
 Moves s n r (Ran a) w w2 = (f : ℕ) × (w.shop_faults ≤ f) × RunCause a w.shop_faults f × IfTold (s.workshop n.key w.runs n.wanted) (λ b. a ≡ b) × (w2 ≡ record w { runs = and_one w.runs (n.key, a); shop_faults = f })
-Moves s n r (Dist d) w w2 = (f : ℕ) × (w.dist_faults ≤ f) × DistCause d w.dist_faults f × (w2 ≡ record w { dist_faults = f })
+Moves s n r (Dist d) w w2 = (f : ℕ) × (w.dist_faults ≤ f) × DistCause d w.dist_faults f × IfTold (s.dist n.key w.dists n.wanted) (λ b. d ≡ b) × (w2 ≡ record w { dists = and_one w.dists (n.key, d); dist_faults = f })
 Moves s n r (Outcome v task) w w2 = MovesOutcome v w w2
 Moves s n r (Reserved l k z how) w w2 = MovesAt s l (r l) (Reserved l k z how) w w2
 Moves s n r (Filled l k b mark how) w w2 = MovesAt s l (r l) (Filled l k b mark how) w w2

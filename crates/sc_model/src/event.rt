@@ -4,6 +4,7 @@ ghost use Rattle.std.specs.Prelude.{◌≡◌};
 use crate::level::{Cause, Handed, Put};
 use crate::message::{Request, Response, StorageHandshakeInfo};
 use sc_entry::{ByteText, FileObjectSource, Items, Object, Text};
+use sc_language::{CompilerKind, Language};
 use sc_stats::{DistInfo, LevelStats, ServerStats};
 use std::alloc::AllocError;
 
@@ -20,52 +21,6 @@ pub enum Owner {
     Request(u64, u64),
     Write(u64),
     Nobody,
-}
-
-#[derive(Clone, Copy)]
-pub enum CCompilerKind {
-    Clang,
-    Diab,
-    Gcc,
-    Msvc,
-    Nvcc,
-    CudaFE,
-    Cicc,
-    Ptxas,
-    Nvhpc,
-    TaskingVX,
-}
-
-#[derive(Clone, Copy)]
-pub enum CompilerKind {
-    C(CCompilerKind),
-    Rust,
-}
-
-#[derive(Clone, Copy)]
-pub enum Language {
-    Assembler,
-    AssemblerToPreprocess,
-    C,
-    CHeader,
-    CPreprocessed,
-    Cxx,
-    CxxHeader,
-    CxxPreprocessed,
-    CxxModule,
-    GenericHeader,
-    ObjectiveC,
-    ObjectiveCHeader,
-    ObjectiveCPreprocessed,
-    ObjectiveCxx,
-    ObjectiveCxxHeader,
-    ObjectiveCxxPreprocessed,
-    Cuda,
-    CudaFE,
-    Ptx,
-    Cubin,
-    Rust,
-    Hip,
 }
 
 /// What is compiled, and by whom.

@@ -82,7 +82,7 @@ pub struct Handed {
 }
 
 #[derive(Drop)]
-pub enum Container {
+pub enum DistClientState {
     Disabled,
     Made,
     FailWithMessage(Text),

@@ -14,18 +14,19 @@ ghost use Rattle.sc_model.specs.Machine.{Machine, IsIdle, Runs, result_of_run};
 ghost use Rattle.sc_model.specs.Headline.{Headline};
 
 pub use event::{
-    Answer, CCompilerKind, CompilerKind, DistAnswer, DistType, Event, KeyFound, KeyStep, Language,
-    MissType, Mode, Objects, Output, Owner, Parsed, Placing, RunAnswer, RunOutput, Status, Step,
-    Task, Told, Verdict, What, Written,
+    Answer, DistAnswer, DistType, Event, KeyFound, KeyStep, MissType, Mode, Objects, Output, Owner,
+    Parsed, Placing, RunAnswer, RunOutput, Status, Step, Task, Told, Verdict, What, Written,
 };
 pub use level::{
-    Cause, Container, Handed, LevelFacts, LevelKind, LevelPolicy, Policy, Put, RemoteFault, Store,
+    Cause, DistClientState, Handed, LevelFacts, LevelKind, LevelPolicy, Policy, Put, RemoteFault,
+    Store,
 };
 pub use message::{
     ColorMode, Compile, CompileFinished, CompileResponse, Request, Response, StorageHandshakeInfo,
     Variable,
 };
 pub use phase::{Bytes, Ending, Job, Pending, Phase, Refusal, Sized, Stage, Work};
+pub use sc_language::{CCompilerKind, CompilerKind, Language};
 
 /// The headline holds of every run of the machine, from an idle one.
 pub fn every_run()

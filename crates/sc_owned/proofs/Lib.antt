@@ -1,5 +1,5 @@
+pub mod Distributing
 pub mod Finding
-pub mod Keying
 pub mod Making
 pub mod Opened
 pub mod Passing

@@ -1,7 +1,7 @@
 -- How a state moves by what its parts did.
 use Rattle.std.proofs.Common.{◌≡◌, ◌≢◌, ℕ, ◌≤◌, Bool, true, IsTrue, List, [], Option, Some, None, refl, ap, sym, subst, ◌∙◌, option_map}
 use Rattle.sc_compile.specs.Answers.{Runs, told_answer}
-use Rattle.sc_compile.specs.Placings.{Places}
+use Rattle.sc_compile.specs.Placings.{Places, told_refusal}
 use Rattle.sc_entry.specs.Causes.{IfTold}
 use Rattle.sc_entry.specs.Entries.{objects}
 use Rattle.sc_entry.specs.declared.object.FileObjectSource.{FileObjectSource}
@@ -122,18 +122,21 @@ ran o now n key wanted a runs placings g is keyed wants added placed later cause
     subst (λ (s : State). MovesTo s n (Ran a) o.told (with_shop o.world runs placings g)) is (ran_of o n a runs placings g k placed later cause b)
 
 placed_of : (o : State) (n : Need) (failed : Option (List (List ℕ))) (runs : Option Runs) (placings : Option (List Place)) (g : ℕ) → first_missing (objects n.hit) n.outputs ≡ None → runs ≡ o.world.runs → o.world.shop_faults ≤ g
-    → Places (record { outputs = n.outputs; bytes = n.hit }) o.world.placings placings o.world.shop_faults g failed → MovesTo o n (Placed (placing_of failed)) o.told (with_shop o.world runs placings g)
-placed_of o n None runs placings g none same later places = (refl, λ told. (none, rw (same, places.0, places.1) refl))
-placed_of o n (Some chain) runs placings g none same later places = (refl, λ told. (none, (g, places.1, later, rw (same, places.0) refl)))
+    → Places (record { outputs = n.outputs; bytes = n.hit }) o.world.placings placings o.world.shop_faults g failed → IfTold (told_refusal o.config.refusals n.key) (λ refusal. failed ≡ refusal)
+    → MovesTo o n (Placed (placing_of failed)) o.told (with_shop o.world runs placings g)
+placed_of o n None runs placings g none same later places answer = (refl, λ told. (none, answer, rw (same, places.0, places.1) refl))
+placed_of o n (Some chain) runs placings g none same later places answer = (refl, λ told. (none, answer, (g, places.1, later, rw (same, places.0) refl)))
 
 -- a hit's outputs were placed, or a fault is told
-pub placed : (o now : State) (n : Need) (outputs : List FileObjectSource) (hit : List ℕ) (failed : Option (List (List ℕ))) (runs : Option Runs) (placings : Option (List Place)) (g : ℕ) → o ≡ now → n.outputs ≡ outputs → n.hit ≡ hit → first_missing (objects hit) outputs ≡ None
+pub placed : (o now : State) (n : Need) (key : List ℕ) (outputs : List FileObjectSource) (hit : List ℕ) (failed : Option (List (List ℕ))) (runs : Option Runs) (placings : Option (List Place)) (g : ℕ)
+    → o ≡ now → n.key ≡ key → n.outputs ≡ outputs → n.hit ≡ hit → first_missing (objects hit) outputs ≡ None
     → runs ≡ o.world.runs → o.world.shop_faults ≤ g → Places (record { outputs = outputs; bytes = hit }) o.world.placings placings o.world.shop_faults g failed
-    → MovesTo now n (Placed (placing_of failed)) o.told (with_shop o.world runs placings g)
-placed o now n outputs hit failed runs placings g is wants hits none same later places =
+    → IfTold (told_refusal o.config.refusals key) (λ refusal. failed ≡ refusal) → MovesTo now n (Placed (placing_of failed)) o.told (with_shop o.world runs placings g)
+placed o now n key outputs hit failed runs placings g is keyed wants hits none same later places answer =
     let m : first_missing (objects n.hit) n.outputs ≡ None = rw (hits, wants) none in
     let p : Places (record { outputs = n.outputs; bytes = n.hit }) o.world.placings placings o.world.shop_faults g failed = rw (hits, wants) places in
-    subst (λ (s : State). MovesTo s n (Placed (placing_of failed)) o.told (with_shop o.world runs placings g)) is (placed_of o n failed runs placings g m same later p)
+    let b : IfTold (told_refusal o.config.refusals n.key) (λ refusal. failed ≡ refusal) = rw keyed answer in
+    subst (λ (s : State). MovesTo s n (Placed (placing_of failed)) o.told (with_shop o.world runs placings g)) is (placed_of o n failed runs placings g m same later p b)
 
 -- nothing was found, so none is there
 pub none_found : {A B : Type 0} (found : Option A) (f : A → B) (there : Option B) → ((x : A) → found ≡ Some x → ⊥) → option_map f found ≡ there → there ≡ None

@@ -2,24 +2,34 @@
 use Rattle.std.specs.Prelude.{◌≡◌, ℕ, Bool, true, List, Option, refl}
 use Rattle.std.proofs.Common.{ap}
 use Rattle.std.specs.Coded.{Coded, Coded-set, code_by, coded×, coded_bool, coded_ℕ, coded_list, coded_option}
+use Rattle.sc_compile.specs.contracts.key_line.KeyLine as key_type
+use Rattle.sc_compile.specs.contracts.place_line.PlaceLine as refusal_type
 use Rattle.sc_compile.specs.contracts.run_line.RunLine as line_type
 use Rattle.sc_compile.specs.contracts.tool.Tool as tool_type
+use Rattle.sc_compile.specs.declared.key_line.KeyLine.{KeyLine}
+use Rattle.sc_compile.specs.declared.place_line.PlaceLine.{PlaceLine}
 use Rattle.sc_compile.specs.declared.run_line.RunLine.{RunLine}
 use Rattle.sc_compile.specs.declared.tool.Tool.{Tool}
+use Rattle.sc_dist.specs.contracts.dist_line.DistLine as job_type
+use Rattle.sc_dist.specs.declared.dist_line.DistLine.{DistLine}
 use Rattle.sc_entry.specs.contracts.object.FileObjectSource as output_type
 use Rattle.sc_entry.specs.declared.object.FileObjectSource.{FileObjectSource}
-use Rattle.sc_job.specs.Setups.{Config, StoreTold}
+use Rattle.sc_job.specs.Setups.{Config, DistTold, StoreTold}
 use Rattle.sc_model.specs.World.{Level, Place, World}
+use Rattle.sc_model.specs.contracts.event.DistAnswer as dist_type
 use Rattle.sc_model.specs.contracts.event.RunAnswer as answer_type
-use Rattle.sc_model.specs.contracts.level.Container as container_type
+use Rattle.sc_model.specs.contracts.level.DistClientState as container_type
 use Rattle.sc_model.specs.contracts.level.LevelFacts as facts_type
 use Rattle.sc_model.specs.contracts.level.Policy as policy_type
+use Rattle.sc_model.specs.declared.event.DistAnswer.{DistAnswer}
 use Rattle.sc_model.specs.declared.event.RunAnswer.{RunAnswer}
-use Rattle.sc_model.specs.declared.level.Container.{Container}
+use Rattle.sc_model.specs.declared.level.DistClientState.{DistClientState}
 use Rattle.sc_model.specs.declared.level.LevelFacts.{LevelFacts}
 use Rattle.sc_model.specs.declared.level.Policy.{Policy}
 use Rattle.sc_owned.specs.State.{State, is_made}
+use Rattle.sc_stats.specs.contracts.counters.DistInfo as info_type
 use Rattle.sc_stats.specs.contracts.counters.LevelStats as counters_type
+use Rattle.sc_stats.specs.declared.counters.DistInfo.{DistInfo}
 use Rattle.sc_stats.specs.declared.counters.LevelStats.{LevelStats}
 use Rattle.sc_store.specs.Held.{Room, level_code, room_code}
 use base.Stored.{coded_via}
@@ -32,12 +42,19 @@ told_code = code_by (List ℕ × (List ℕ × (List (List ℕ) × (Bool × Optio
     (λ p. record { location = p.0; type_name = p.1.0; basedirs = p.1.1.0; flag = p.1.1.1.0; max_size = p.1.1.1.1 })
     (λ _. refl)
 
+abbrev pub dist_code : Coded DistTold
+dist_code = code_by (Option (List ℕ) × (Option DistInfo × (Bool × Option (List DistLine))))
+    (coded× (coded_option (coded_list coded_ℕ)) (coded× (coded_option info_type.the_row.coded) (coded× coded_bool (coded_option (coded_list job_type.the_row.coded)))))
+    (λ d. (d.url, (d.status, (d.is_made, d.lines))))
+    (λ p. record { url = p.0; status = p.1.0; is_made = p.1.1.0; lines = p.1.1.1 })
+    (λ _. refl)
+
 abbrev pub config_code : Coded Config
-config_code = code_by (StoreTold × (List LevelStats × (List LevelFacts × (Policy × (ℕ × (ℕ × (Option (List Tool) × Option (List RunLine))))))))
+config_code = code_by (StoreTold × (List LevelStats × (List LevelFacts × (Policy × (ℕ × (ℕ × (Option (List Tool) × (Option (List KeyLine) × (Option (List RunLine) × (Option (List PlaceLine) × DistTold))))))))))
     (coded× told_code (coded× (coded_list counters_type.the_row.coded) (coded× (coded_list facts_type.the_row.coded) (coded× policy_type.the_row.coded (coded× coded_ℕ (coded× coded_ℕ
-    (coded× (coded_option (coded_list tool_type.the_row.coded)) (coded_option (coded_list line_type.the_row.coded)))))))))
-    (λ c. (c.store, (c.counters, (c.levels, (c.policy, (c.tokens, (c.limit, (c.table, c.lines))))))))
-    (λ p. record { store = p.0; counters = p.1.0; levels = p.1.1.0; policy = p.1.1.1.0; tokens = p.1.1.1.1.0; limit = p.1.1.1.1.1.0; table = p.1.1.1.1.1.1.0; lines = p.1.1.1.1.1.1.1 })
+    (coded× (coded_option (coded_list tool_type.the_row.coded)) (coded× (coded_option (coded_list key_type.the_row.coded)) (coded× (coded_option (coded_list line_type.the_row.coded)) (coded× (coded_option (coded_list refusal_type.the_row.coded)) dist_code))))))))))
+    (λ c. (c.store, (c.counters, (c.levels, (c.policy, (c.tokens, (c.limit, (c.table, (c.keys, (c.lines, (c.refusals, c.dist)))))))))))
+    (λ p. record { store = p.0; counters = p.1.0; levels = p.1.1.0; policy = p.1.1.1.0; tokens = p.1.1.1.1.0; limit = p.1.1.1.1.1.0; table = p.1.1.1.1.1.1.0; keys = p.1.1.1.1.1.1.1.0; lines = p.1.1.1.1.1.1.1.1.0; refusals = p.1.1.1.1.1.1.1.1.1.0; dist = p.1.1.1.1.1.1.1.1.1.1 })
     (λ _. refl)
 
 abbrev pub place_code : Coded Place
@@ -48,11 +65,12 @@ place_code = code_by (List FileObjectSource × List ℕ)
     (λ _. refl)
 
 abbrev pub world_code : Coded World
-world_code = code_by (ℕ × (List Level × (Option (List (List ℕ × RunAnswer)) × (Option (List Place) × (ℕ × (ℕ × (ℕ × Container)))))))
+world_code = code_by (ℕ × (List Level × (Option (List (List ℕ × RunAnswer)) × (Option (List Place) × (Option (List (List ℕ × DistAnswer)) × (ℕ × (ℕ × (ℕ × DistClientState))))))))
     (coded× coded_ℕ (coded× (coded_list level_code) (coded× (coded_option (coded_list (coded× (coded_list coded_ℕ) answer_type.the_row.coded)))
-    (coded× (coded_option (coded_list place_code)) (coded× coded_ℕ (coded× coded_ℕ (coded× coded_ℕ container_type.the_row.coded)))))))
-    (λ w. (w.moment, (w.levels, (w.runs, (w.placings, (w.shop_faults, (w.dist_faults, (w.maker_faults, w.container))))))))
-    (λ p. record { moment = p.0; levels = p.1.0; runs = p.1.1.0; placings = p.1.1.1.0; shop_faults = p.1.1.1.1.0; dist_faults = p.1.1.1.1.1.0; maker_faults = p.1.1.1.1.1.1.0; container = p.1.1.1.1.1.1.1 })
+    (coded× (coded_option (coded_list place_code)) (coded× (coded_option (coded_list (coded× (coded_list coded_ℕ) dist_type.the_row.coded)))
+    (coded× coded_ℕ (coded× coded_ℕ (coded× coded_ℕ container_type.the_row.coded))))))))
+    (λ w. (w.moment, (w.levels, (w.runs, (w.placings, (w.dists, (w.shop_faults, (w.dist_faults, (w.maker_faults, w.container)))))))))
+    (λ p. record { moment = p.0; levels = p.1.0; runs = p.1.1.0; placings = p.1.1.1.0; dists = p.1.1.1.1.0; shop_faults = p.1.1.1.1.1.0; dist_faults = p.1.1.1.1.1.1.0; maker_faults = p.1.1.1.1.1.1.1.0; container = p.1.1.1.1.1.1.1.1 })
     (λ _. refl)
 
 -- states that are made of the same and hold the same are one

@@ -1,4 +1,5 @@
 pub mod Codes
+pub mod Distributing
 pub mod Laws
 pub mod Moving
 pub mod State

@@ -1,13 +1,15 @@
 -- The state of a daemon that one owner holds.
 use Rattle.std.specs.Prelude.{◌≡◌, ℕ, zero, suc, Bool, true, false, ◌&&◌, ◌==◌, nat_lt, List, [], ◌∷◌, length, Option}
 use Rattle.sc_compile.specs.Answers.{Runs}
+use Rattle.sc_compile.specs.declared.key_line.KeyLine.{KeyLine}
+use Rattle.sc_compile.specs.declared.place_line.PlaceLine.{PlaceLine}
 use Rattle.sc_compile.specs.declared.run_line.RunLine.{RunLine}
 use Rattle.sc_compile.specs.declared.tool.Tool.{Tool}
-use Rattle.sc_job.specs.Setups.{Config, StoreTold}
+use Rattle.sc_dist.specs.Containers.{Contained}
+use Rattle.sc_job.specs.Setups.{Config, DistTold, StoreTold}
 use Rattle.sc_disk_cache.specs.DiskStores.{DiskStore}
 use Rattle.sc_model.specs.Plan.{level_facts}
 use Rattle.sc_model.specs.World.{Place, World}
-use Rattle.sc_model.specs.declared.level.Container.TheVariants.{Disabled}
 use Rattle.sc_model.specs.declared.level.LevelFacts.{LevelFacts}
 use Rattle.sc_model.specs.declared.level.Policy.{Policy}
 use Rattle.sc_model.specs.declared.level.Policy.TheVariants.{Levels, Single}
@@ -51,21 +53,38 @@ pub record State : Type 0 where
 abbrev pub store_of : Held → StoreTold
 store_of held = record { location = store_location held.policy held.titles; type_name = store_type held.policy held.titles; basedirs = store_basedirs held.policy held.titles; flag = first_flag held.titles; max_size = store_max held.policy held.facts }
 
--- what a daemon over these levels is made of
-abbrev pub config_of : Held → (tokens limit : ℕ) → Option (List Tool) → Option (List RunLine) → Config
-config_of held tokens limit table lines = record { store = store_of held; counters = new_counters 0 held.titles; levels = held.facts; policy = held.policy; tokens = tokens; limit = limit; table = table; lines = lines }
+-- what a distributed client and its maker tell
+abbrev pub told_by : Contained → DistTold
+told_by d = record { url = d.url; status = d.status; is_made = d.is_made; lines = d.lines }
 
--- what its parts hold: it has no distributed client
-abbrev pub world_of : (moment : ℕ) → Held → (runs : Option Runs) (placings : Option (List Place)) (faults : ℕ) → World
-world_of moment held runs placings faults = record {
+-- what a daemon over these levels is made of
+abbrev pub config_of : Held → (tokens limit : ℕ) → Option (List Tool) → Option (List KeyLine) → Option (List RunLine) → Option (List PlaceLine) → Contained → Config
+config_of held tokens limit table keys lines refusals d = record {
+  store = store_of held;
+  counters = new_counters 0 held.titles;
+  levels = held.facts;
+  policy = held.policy;
+  tokens = tokens;
+  limit = limit;
+  table = table;
+  keys = keys;
+  lines = lines;
+  refusals = refusals;
+  dist = told_by d;
+}
+
+-- what its parts hold
+abbrev pub world_of : (moment : ℕ) → Held → (runs : Option Runs) (placings : Option (List Place)) (faults : ℕ) → Contained → World
+world_of moment held runs placings faults d = record {
   moment = moment;
   levels = held.levels;
   runs = runs;
   placings = placings;
+  dists = d.jobs;
   shop_faults = faults;
-  dist_faults = 0;
-  maker_faults = 0;
-  container = Disabled;
+  dist_faults = d.client_faults;
+  maker_faults = d.maker_faults;
+  container = d.state;
 }
 
 -- the bytes that are reserved at a level

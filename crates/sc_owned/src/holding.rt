@@ -1,18 +1,24 @@
 //! One action of a request, at a daemon of one's own.
-ghost use Rattle.std.specs.Prelude.{◌≡◌};
+ghost use Rattle.std.specs.Prelude.{◌≡◌, IfOk};
+ghost use Rattle.sc_compile.specs.Tools.{told_key};
+ghost use Rattle.sc_entry.specs.Causes.{IfTold};
+ghost use Rattle.sc_owned.specs.Distributing.{StepsBy};
 ghost use Rattle.sc_owned.specs.Moving.{placing_of, size_in};
 
 use crate::missing::first_missing;
 use crate::owned::Owned;
 use crate::parts::Parts;
-use sc_compile::{PlainCompiler, Workshop, begin};
+use sc_compile::{PlainCompiler, Workshop, begin, key_step};
 use sc_disk::LruDiskCacheAddEntry;
 use sc_disk_cache::{EntryError, Filling, Reservation};
+use sc_dist::ClientAnswer;
 use sc_entry::{ByteText, CacheMode, FileObjectSource, Items, NoMemory, Queue, Text};
-use sc_hold::{Hold, Lookup, PutEnd};
+use sc_hold::{Hold, Keying, Lookup, PutEnd};
 use sc_model::{
-    Answer, Bytes, Compile, KeyFound, LevelKind, Mode, Parsed, Placing, Refusal, RunAnswer, Written,
+    Answer, Bytes, Compile, DistAnswer, KeyStep, LevelKind, Mode, Parsed, Placing, Refusal,
+    RunAnswer, Written,
 };
+use sc_stats::DistInfo;
 use std::alloc::Global;
 
 impl<P: Parts> Hold for Owned<P> {
@@ -95,15 +101,31 @@ impl<P: Parts> Hold for Owned<P> {
         begin(alloc, &self.finder, request)
     }
 
-    fn key(
+    fn key(&mut self, alloc: Global, request: &Compile, _first: bool) -> Result<Keying, NoMemory> {
+        let answer = self.dist.get_client(alloc, self.moment)?;
+        let keying = self.keying(alloc, request, answer)?;
+        Ok(keying)
+    }
+
+    fn dist_status(&mut self, alloc: Global) -> Result<DistInfo, NoMemory> {
+        let info = self.dist.get_status(alloc, self.moment)?;
+        Ok(info)
+    }
+
+    fn distribute(
         &mut self,
         alloc: Global,
         request: &Compile,
-        _first: bool,
-    ) -> Result<KeyFound, NoMemory> {
-        let _moment = self.moment;
-        let found = PlainCompiler::key(alloc, request)?;
-        Ok(found)
+        key: &Text,
+        outputs: &[FileObjectSource],
+    ) -> Result<DistAnswer, NoMemory> {
+        let command = PlainCompiler::command(alloc, request)?;
+        let answer = self.dist.run(alloc, key, &command, outputs)?;
+        Ok(answer)
+    }
+
+    fn reset_state(&mut self) {
+        self.dist.reset_state(self.moment);
     }
 
     fn ask(
@@ -211,6 +233,40 @@ impl<P: Parts> Hold for Owned<P> {
             Err(EntryError::NotOpen) => unreachable!(),
         };
         Ok(how)
+    }
+}
+
+impl<P: Parts> Owned<P> {
+    /// A compile's key step, by what a request for a distributed client got.
+    fn keying(
+        &self,
+        alloc: Global,
+        request: &Compile,
+        answer: ClientAnswer,
+    ) -> Result<Keying, NoMemory>
+        ensures { IfOk result (λ keying. StepsBy (told_key self.now.config.keys request.now) answer keying.client keying.step) }
+    {
+        match answer {
+            ClientAnswer::Failed(text) => {
+                let mut chain = Items::new(alloc);
+                chain.push(text)?;
+                Ok(Keying {
+                    client: false,
+                    step: KeyStep::Fault(chain),
+                })
+            }
+            ClientAnswer::Ready => self.stepped(alloc, request, true),
+            ClientAnswer::NoClient => self.stepped(alloc, request, false),
+        }
+    }
+
+    /// A compile's key step, as its compiler answers it.
+    fn stepped(&self, alloc: Global, request: &Compile, client: bool) -> Result<Keying, NoMemory>
+        ensures client { IfOk result (λ keying. keying.client ≡ client) }
+        ensures step { IfOk result (λ keying. IfTold (told_key self.now.config.keys request.now) (λ told. keying.step ≡ told)) }
+    {
+        let step = key_step(alloc, &self.finder, request)?;
+        Ok(Keying { client, step })
     }
 }
 

@@ -1,10 +1,11 @@
 ghost use Rattle.std.specs.Prelude.{◌≡◌, ◌≤◌, true, IfOk};
 ghost use Rattle.sc_model.specs.Next.{at_moment};
-ghost use Rattle.sc_owned.specs.State.{AreLevelsWithin, is_good, is_made, store_of, world_of};
+ghost use Rattle.sc_owned.specs.State.{AreLevelsWithin, is_good, is_made, store_of, told_by, world_of};
 ghost use Rattle.sc_stats.specs.Sums.{sat};
 ghost use Rattle.sc_store.specs.Telling.{new_counters};
 
 use crate::parts::Parts;
+use sc_dist::DistClientContainer;
 use sc_entry::NoMemory;
 use sc_stats::LevelStats;
 use sc_store::Layered;
@@ -18,6 +19,7 @@ pub struct Owned<P: Parts> {
     pub(crate) levels: Layered<P::Store, P::Disk, P::Vouch>,
     pub(crate) shop: P::Shop,
     pub(crate) finder: P::Finder,
+    pub(crate) dist: DistClientContainer<P::Maker>,
     pub(crate) moment: u64,
     tokens: u64,
     pub(crate) limit: u32,
@@ -33,9 +35,9 @@ impl<P: Parts> Model for Owned<P> {
     ghost coded = { state_code };
 
     ghost view = { λ d. record {
-      config = config_of d.levels d.tokens d.limit (P.Finder.table d.finder) (P.Shop.lines d.shop);
+      config = config_of d.levels d.tokens d.limit (P.Finder.table d.finder) (P.Finder.keys d.finder) (P.Shop.lines d.shop) (P.Shop.refusals d.shop) d.dist;
       told = d.levels.told;
-      world = world_of d.moment d.levels (P.Shop.runs d.shop) (P.Shop.placings d.shop) (P.Shop.fault_count d.shop);
+      world = world_of d.moment d.levels (P.Shop.runs d.shop) (P.Shop.placings d.shop) (P.Shop.fault_count d.shop) d.dist;
       rooms = d.levels.rooms;
       one = d.one;
     } };
@@ -48,6 +50,7 @@ impl<P: Parts> Owned<P> {
         levels: Layered<P::Store, P::Disk, P::Vouch>,
         shop: P::Shop,
         finder: P::Finder,
+        dist: DistClientContainer<P::Maker>,
         tokens: u64,
         limit: u32,
     ) -> Owned<P>
@@ -61,16 +64,20 @@ impl<P: Parts> Owned<P> {
         ensures tokens { result.config.tokens ≡ tokens }
         ensures limit { result.config.limit ≡ limit }
         ensures table { result.config.table ≡ P.Finder.table finder }
+        ensures keys { result.config.keys ≡ P.Finder.keys finder }
         ensures lines { result.config.lines ≡ P.Shop.lines shop }
+        ensures refusals { result.config.refusals ≡ P.Shop.refusals shop }
+        ensures dist { result.config.dist ≡ told_by dist }
         ensures told { result.told ≡ levels.told }
         ensures rooms { result.rooms ≡ levels.rooms }
-        ensures world { result.world ≡ world_of 0 levels (P.Shop.runs shop) (P.Shop.placings shop) (P.Shop.fault_count shop) }
+        ensures world { result.world ≡ world_of 0 levels (P.Shop.runs shop) (P.Shop.placings shop) (P.Shop.fault_count shop) dist }
     {
         let _count = levels.len();
         Owned {
             levels,
             shop,
             finder,
+            dist,
             moment: 0,
             tokens,
             limit,
@@ -113,6 +120,7 @@ impl<P: Parts> Owned<P> {
     /// Its workshop.
     pub fn shop(&self) -> &P::Shop
         ensures lines { P.Shop.lines result.now ≡ self.now.config.lines }
+        ensures refusals { P.Shop.refusals result.now ≡ self.now.config.refusals }
         ensures runs { P.Shop.runs result.now ≡ self.now.world.runs }
         ensures placings { P.Shop.placings result.now ≡ self.now.world.placings }
         ensures faults { P.Shop.fault_count result.now ≡ self.now.world.shop_faults }

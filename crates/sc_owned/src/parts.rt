@@ -1,5 +1,6 @@
 use sc_compile::{Probe, Workshop};
 use sc_disk::Disk;
+use sc_dist::DistMaker;
 use sc_store::{Remote, Vouch};
 
 /// The types of what a daemon is made of.
@@ -13,4 +14,6 @@ pub trait Parts {
     type Vouch: Vouch;
 
     type Finder: Probe + Drop;
+
+    type Maker: DistMaker + Drop;
 }

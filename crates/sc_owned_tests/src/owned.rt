@@ -1,10 +1,11 @@
 use sc_compile::{RunLine, ScriptWorkshop, Tool, ToolKind, ToolTable};
 use sc_disk::MemDisk;
+use sc_dist::{DistClientContainer, MemMaker, ScriptDist};
 use sc_entry::{ByteText, CacheMode, FileObjectSource, Items, Object, Text};
 use sc_hold::Hold;
 use sc_model::{
-    Answer, Bytes, CCompilerKind, Compile, CompilerKind, LevelKind, Mode, Objects, Output, Parsed,
-    Placing, Policy, Put, Refusal, RunAnswer, RunOutput, Status, Written,
+    Answer, Bytes, CCompilerKind, Compile, CompilerKind, KeyStep, LevelKind, Mode, Objects, Output,
+    Parsed, Placing, Policy, Put, Refusal, RunAnswer, RunOutput, Status, Written,
 };
 use sc_owned::{Owned, Parts};
 use sc_store::{Layered, Level, MemRemote, RemoteStorage, Unvouched};
@@ -32,6 +33,8 @@ impl Parts for Memory {
     type Vouch = Unvouched;
 
     type Finder = ToolTable;
+
+    type Maker = MemMaker;
 }
 
 fn text(alloc: Global, word: &str) -> Result<Text, Fail> {
@@ -78,10 +81,10 @@ fn output(alloc: Global) -> Result<RunAnswer, Fail> {
 
 fn shop(alloc: Global) -> Result<ScriptWorkshop, Fail> {
     let mut lines = Vec::new(alloc);
-    if let Some(line) = RunLine::new(alloc, text(alloc, "abc")?, output(alloc)?)? {
+    if let Some(line) = RunLine::new(alloc, bytes(alloc, b"abc")?, output(alloc)?)? {
         lines.push(line)?;
     }
-    Ok(ScriptWorkshop::new(alloc, lines)?)
+    Ok(ScriptWorkshop::new(alloc, lines, Vec::new(alloc))?)
 }
 
 fn tools(alloc: Global) -> Result<ToolTable, Fail> {
@@ -91,7 +94,7 @@ fn tools(alloc: Global) -> Result<ToolTable, Fail> {
         moment: 7,
         kind: ToolKind::Compiler(CompilerKind::C(CCompilerKind::Gcc)),
     })?;
-    Ok(ToolTable::new(tools))
+    Ok(ToolTable::new(alloc, tools, Vec::new(alloc))?)
 }
 
 /// An empty store with one base directory, which is to refuse the call of this number.
@@ -109,7 +112,9 @@ fn owned(alloc: Global, fails: u64) -> Result<Owned<Memory>, Fail> {
     let (shop, tools) = (shop(alloc)?, tools(alloc)?);
     let levels = vec![in alloc; Level::Remote(empty_store(alloc, fails)?)]?;
     let levels = Layered::new(levels, Policy::Single);
-    Ok(Owned::new(levels, shop, tools, 1, 64))
+    let client = ScriptDist::new(alloc, Vec::new(alloc))?;
+    let dist = DistClientContainer::new_disabled(client, MemMaker::new(Vec::new(alloc)));
+    Ok(Owned::new(levels, shop, tools, dist, 1, 64))
 }
 
 /// How many base directories a daemon tells.
@@ -231,8 +236,11 @@ fn has_key(
     request: &Compile,
     key: &str,
 ) -> Result<bool, Fail> {
-    let found = daemon.key(alloc, request, true)?;
-    Ok(found.key.as_str() == key)
+    match daemon.key(alloc, request, true)?.step {
+        KeyStep::Key(found) => Ok(found.key.as_str() == key),
+        KeyStep::ProcessError(_) => Ok(false),
+        KeyStep::Fault(_) => Ok(false),
+    }
 }
 
 fn starts_under_its_key(

@@ -6,6 +6,3 @@ mod list;
 mod tree;
 
 pub use list::RankedList;
-
-#[cfg(test)]
-mod tests;

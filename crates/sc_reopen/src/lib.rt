@@ -55,6 +55,3 @@ pub fn reopens_opening()
     ensures opening { ReopensOpening }
     ensures refused { ReopensRefusedOpening }
 {}
-
-#[cfg(test)]
-mod tests;

@@ -4,7 +4,7 @@ use Rattle.std.specs.Global.{Vec}
 use Rattle.sc_daemon.specs.Daemons.{Kept, new_daemon, script_of as given_of}
 use Rattle.sc_daemon.specs.Drives.{result_of}
 use Rattle.sc_daemon.specs.declared.driven.Driven.{Driven}
-use Rattle.sc_memory.specs.Making.{AreLines, first_levels, first_world}
+use Rattle.sc_memory.specs.Making.{AreLines, AreRefusals, IsDist, first_levels, first_world}
 use Rattle.sc_memory.specs.Sizes.{sizes_of}
 use Rattle.sc_model.specs.Headline.{Headline}
 use Rattle.sc_model.specs.Machine.{shown_levels}
@@ -29,7 +29,10 @@ pub record Begins (s : Script) (d : Kept) : Type 0 where
   pub tokens : d.state.config.tokens ≡ s.tokens
   pub limit : d.state.config.limit ≡ s.limit
   pub table : d.state.config.table ≡ Some s.tools
+  pub keys : d.state.config.keys ≡ Some s.keys
   pub lines : AreLines d.state.config.lines s.runs
+  pub refusals : AreRefusals d.state.config.refusals s.places
+  pub dist : IsDist d.state.config.dist s.jobs
   pub told : d.state.told ≡ true
   pub world : d.state.world ≡ first_world s
   pub new : d ≡ new_daemon d.state

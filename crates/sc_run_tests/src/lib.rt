@@ -2,10 +2,6 @@
 #![tactic(auto)]
 
 #[cfg(test)]
-mod disks;
-#[cfg(test)]
-mod levels;
-#[cfg(test)]
 mod policies;
 #[cfg(test)]
 mod run;

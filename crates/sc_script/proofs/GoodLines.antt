@@ -1,18 +1,24 @@
 -- What holds of all that a line says.
-use Rattle.std.proofs.Common.{◌≡◌, ℕ, ◌^◌, ◌-◌, true, ◌&&◌, nat_le, List, [], ◌∷◌, Option, Some, None, ap, subst}
-use Rattle.sc_compile.specs.GoodNames.{are_run_objects, is_good_answer}
+use Rattle.std.proofs.Common.{◌≡◌, ℕ, ◌^◌, ◌-◌, true, ◌&&◌, nat_le, List, [], ◌∷◌, ◌++◌, Option, Some, None, refl, ap, subst}
+use Rattle.sc_compile.specs.GoodNames.{are_run_objects, is_chain, is_good_answer}
+use Rattle.sc_compile.specs.declared.key_line.KeyRefusal.TheVariants.{Fault as KeyFault, ProcessError as KeyError}
+use Rattle.sc_dist.specs.GoodJobs.{is_good_dist}
 use Rattle.sc_entry.specs.Keys.{is_store_key}
+use Rattle.sc_model.specs.declared.event.DistAnswer.{DistAnswer}
+use Rattle.sc_model.specs.declared.event.DistAnswer.TheVariants.{Done, Http, Other, TooLarge}
 use Rattle.sc_model.specs.declared.event.Objects.TheVariants.{Collected}
-use Rattle.sc_model.specs.declared.event.RunAnswer.TheVariants.{Output}
+use Rattle.sc_model.specs.declared.event.RunAnswer.TheVariants.{Fault, Output, ProcessError}
 use Rattle.sc_script.proofs.GoodObjects.{good_objects}
 use Rattle.sc_script.proofs.Tests.{by_only, by_then, some_same}
-use Rattle.sc_script.specs.Fields.{bytes_of_token, hex_of, kind_of, number_in, number_of, status_of, store_key_of, text_of_token, level_kind_of, mode_of, policy_name_of}
+use Rattle.sc_script.specs.Fields.{bytes_of_token, hex_of, kind_of, number_in, number_of, outcome_of, status_of, store_key_of, text_of_token, level_kind_of, mode_of, policy_name_of}
 use Rattle.sc_script.specs.Readers.{◌>>=◌, field, gives}
 use Rattle.sc_script.specs.Requests.{request_words}
-use Rattle.sc_script.specs.Lines.{ask_line, back_line, body, capacity_words, own_policy, policy_line, bytes_line, connections_line, fail_line, hold_line, keyword_of, level_line, limit_line, line_of_words, no_names, objects_onto, read_line, run_line, serve_line, times_of, tokens_line, tool_line, version_line, whole}
+use Rattle.sc_script.specs.Lines.{ask_line, back_line, body, capacity_words, own_policy, policy_line, bytes_line, chain_words, connections_line, dist_line, done_words, fail_line, hold_line, job_words, key_error_line, key_fault_line, keyword_of, level_line, limit_line, line_of_words, no_names, objects_onto, output_words, pass_line, place_fault_line, read_line, run_error_line, run_fault_line, run_line, serve_line, texts_onto, times_of, tokens_line, tool_line, version_line, whole}
 use Rattle.sc_script.specs.Reading.{Reader}
+use Rattle.sc_script.specs.declared.job_rule.JobOutcome.{JobOutcome}
+use Rattle.sc_script.specs.declared.job_rule.JobOutcome.TheVariants as job
 use Rattle.sc_script.specs.declared.line.Line.{Line}
-use Rattle.sc_script.specs.declared.line.Line.TheVariants.{Version, Connections, Tokens, Limit, Policy, Level, Hold, Fail, Tool, Run, Bytes, Ask, Read, Serve, Back}
+use Rattle.sc_script.specs.declared.line.Line.TheVariants.{Version, Connections, Tokens, Limit, Policy, Level, Hold, Fail, Tool, Run, KeyStep, Place, Job, Bytes, Ask, Read, Serve, Back, Pass}
 use Rattle.sc_script.specs.declared.lines.Keyword.{Keyword}
 use Rattle.sc_script.specs.declared.lines.Keyword.TheVariants as at
 
@@ -27,6 +33,8 @@ GoodLine (Tokens n) = IsWithin 1 65535 n
 GoodLine (Limit n) = IsWithin 1 16777216 n
 GoodLine (Hold h) = is_store_key h.key ≡ true
 GoodLine (Run r) = is_good_answer r.answer ≡ true
+GoodLine (Place r) = is_chain r.chain ≡ true
+GoodLine (Job r) = is_good_dist r.answer ≡ true
 GoodLine _ = Unit {0}
 
 -- what holds of all that a reader gives
@@ -90,12 +98,70 @@ good_tool : Ends GoodLine tool_line
 unfolding tool_line
 good_tool = ends_on GoodLine (field bytes_of_token) _ (λ p. ends_on GoodLine (field number_of) _ (λ m. ends_on GoodLine (field kind_of) _ (λ k. ends_gives GoodLine (Tool (record { path = p; moment = m; kind = k })) tt)))
 
+-- a chain of texts has one at least
+abbrev IsChain : List (List ℕ) → Type 0
+IsChain chain = is_chain chain ≡ true
+
+chain_more : (sofar : List (List ℕ)) (t : List ℕ) → IsChain sofar → IsChain (sofar ++ t ∷ [])
+chain_more [] t some = absurd (cc)
+chain_more (x ∷ sofar) t some = refl
+
+good_texts : (sofar : List (List ℕ)) → IsChain sofar → Ends IsChain (texts_onto sofar)
+good_texts sofar some [] ts rest e = subst IsChain (ap (λ (q : List (List ℕ) × List (List ℕ)). q.0) (some_same (sofar, []) (ts, rest) e)) some
+good_texts sofar some (w ∷ ws) ts rest e = by_then (text_of_token w) _ (ts, rest) (λ t is made. good_texts (sofar ++ t ∷ []) (chain_more sofar t some) ws ts rest made) e
+
+good_chain : Ends IsChain chain_words
+unfolding chain_words
+good_chain = ends_on IsChain (field text_of_token) _ (λ t. good_texts (t ∷ []) refl)
+
 good_run : Ends GoodLine run_line
 unfolding run_line
-good_run = ends_on GoodLine (field text_of_token) _ (λ k. ends_on GoodLine (field status_of) _ (λ s. ends_on GoodLine (field bytes_of_token) _ (λ out. ends_on GoodLine (field bytes_of_token) _ (λ err. ends_then GoodLine (λ os. are_run_objects os ≡ true) (objects_onto [] no_names) _ good_objects (λ os good. ends_gives GoodLine (Run (record {
+good_run = ends_on GoodLine (field text_of_token) _ (λ k. ends_on GoodLine output_words _ (λ o. ends_then GoodLine (λ os. are_run_objects os ≡ true) (objects_onto [] no_names) _ good_objects (λ os good. ends_gives GoodLine (Run (record {
   key = k;
-  answer = Output (record { output = record { status = s; stdout = out; stderr = err }; objects = Collected os });
-})) good)))))
+  answer = Output (record { output = o; objects = Collected os });
+})) good)))
+
+good_run_error : Ends GoodLine run_error_line
+unfolding run_error_line
+good_run_error = ends_on GoodLine (field text_of_token) _ (λ k. ends_on GoodLine output_words _ (λ o. ends_gives GoodLine (Run (record { key = k; answer = ProcessError o })) refl))
+
+good_run_fault : Ends GoodLine run_fault_line
+unfolding run_fault_line
+good_run_fault = ends_on GoodLine (field text_of_token) _ (λ k. ends_then GoodLine IsChain chain_words _ good_chain (λ ts good. ends_gives GoodLine (Run (record { key = k; answer = Fault ts })) good))
+
+good_key_error : Ends GoodLine key_error_line
+unfolding key_error_line
+good_key_error = ends_on GoodLine (field text_of_token) _ (λ k. ends_on GoodLine output_words _ (λ o. ends_gives GoodLine (KeyStep (record { key = k; refusal = KeyError o })) tt))
+
+good_key_fault : Ends GoodLine key_fault_line
+unfolding key_fault_line
+good_key_fault = ends_on GoodLine (field text_of_token) _ (λ k. ends_on GoodLine chain_words _ (λ ts. ends_gives GoodLine (KeyStep (record { key = k; refusal = KeyFault ts })) tt))
+
+good_place_fault : Ends GoodLine place_fault_line
+unfolding place_fault_line
+good_place_fault = ends_on GoodLine (field text_of_token) _ (λ k. ends_then GoodLine IsChain chain_words _ good_chain (λ ts good. ends_gives GoodLine (Place (record { key = k; chain = ts })) good))
+
+-- what a distributed job may come to
+abbrev IsJob : DistAnswer → Type 0
+IsJob a = is_good_dist a ≡ true
+
+good_done : Ends IsJob done_words
+unfolding done_words
+good_done = ends_on IsJob (field text_of_token) _ (λ s. ends_on IsJob output_words _ (λ o. ends_then IsJob (λ os. are_run_objects os ≡ true) (objects_onto [] no_names) _ good_objects (λ os good. ends_gives IsJob (Done s (record {
+  output = o;
+  objects = Collected os;
+})) good)))
+
+good_outcome : (o : JobOutcome) → Ends IsJob (job_words o)
+unfolding job_words
+good_outcome job.Done = good_done
+good_outcome job.Http = ends_on IsJob (field text_of_token) _ (λ t. ends_gives IsJob (Http t) refl)
+good_outcome job.Large = ends_on IsJob (field text_of_token) _ (λ t. ends_gives IsJob (TooLarge t) refl)
+good_outcome job.Other = ends_on IsJob (field text_of_token) _ (λ t. ends_gives IsJob (Other t) refl)
+
+good_dist : Ends GoodLine dist_line
+unfolding dist_line
+good_dist = ends_on GoodLine (field text_of_token) _ (λ k. ends_on GoodLine (field outcome_of) _ (λ o. ends_then GoodLine IsJob (job_words o) _ (good_outcome o) (λ a good. ends_gives GoodLine (Job (record { key = k; answer = a })) good)))
 
 good_bytes : Ends GoodLine bytes_line
 unfolding bytes_line
@@ -117,6 +183,10 @@ good_back : Ends GoodLine back_line
 unfolding back_line
 good_back = ends_on GoodLine (field number_of) _ (λ n. ends_gives GoodLine (Back n) tt)
 
+good_pass : Ends GoodLine pass_line
+unfolding pass_line
+good_pass = ends_on GoodLine (field number_of) _ (λ n. ends_gives GoodLine (Pass n) tt)
+
 good_body : (k : Keyword) → Ends GoodLine (body k)
 unfolding body
 good_body at.Version = good_version
@@ -129,11 +199,18 @@ good_body at.Hold = good_hold
 good_body at.Fail = good_fail
 good_body at.Tool = good_tool
 good_body at.Run = good_run
+good_body at.RunError = good_run_error
+good_body at.RunFault = good_run_fault
+good_body at.KeyError = good_key_error
+good_body at.KeyFault = good_key_fault
+good_body at.PlaceFault = good_place_fault
+good_body at.Dist = good_dist
 good_body at.Bytes = good_bytes
 good_body at.Ask = good_ask
 good_body at.Read = good_read
 good_body at.Serve = good_serve
 good_body at.Back = good_back
+good_body at.Pass = good_pass
 
 by_whole : {P : Type 0} (o : Option (Line × List (List ℕ))) (l : Line) → (o ≡ Some (l, []) → P) → whole o ≡ Some l → P
 by_whole None l f e = absurd (cc)

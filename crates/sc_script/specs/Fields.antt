@@ -8,8 +8,8 @@ use Rattle.sc_entry.specs.Keys.{is_store_key}
 use Rattle.sc_entry.specs.declared.cache_mode.CacheMode.{CacheMode}
 use Rattle.sc_entry.specs.declared.cache_mode.CacheMode.TheVariants.{ReadOnly, ReadWrite}
 use Rattle.sc_entry.specs.declared.object.Object.{Object}
-use Rattle.sc_model.specs.declared.event.CCompilerKind.TheVariants.{Gcc}
-use Rattle.sc_model.specs.declared.event.CompilerKind.TheVariants.{C}
+use Rattle.sc_language.specs.declared.compiler_kind.CCompilerKind.TheVariants.{Clang, Gcc, Nvcc}
+use Rattle.sc_language.specs.declared.compiler_kind.CompilerKind.TheVariants.{C, Rust}
 use Rattle.sc_model.specs.declared.event.Status.{Status}
 use Rattle.sc_model.specs.declared.event.Status.TheVariants.{Code, Signal}
 use Rattle.sc_model.specs.declared.level.LevelKind.{LevelKind}
@@ -17,6 +17,8 @@ use Rattle.sc_model.specs.declared.level.LevelKind.TheVariants.{Disk, Remote}
 use Rattle.sc_model.specs.declared.level.LevelPolicy.{LevelPolicy}
 use Rattle.sc_model.specs.declared.level.LevelPolicy.TheVariants.{Background, Off, Required}
 use Rattle.sc_model.specs.declared.message.Variable.{Variable}
+use Rattle.sc_script.specs.declared.job_rule.JobOutcome.{JobOutcome}
+use Rattle.sc_script.specs.declared.job_rule.JobOutcome.TheVariants as job
 use Rattle.sc_script.specs.declared.policies.PolicyName.{PolicyName}
 use Rattle.sc_script.specs.declared.policies.PolicyName.TheVariants as named
 use Rattle.sc_script.specs.Reading.{◌>>=◌, only_if}
@@ -128,6 +130,9 @@ status_of (c ∷ word) =
 unfoldable pub kind_of : List ℕ → Option ToolKind
 kind_of word =
     if bytes_eq word (codes "gcc") then Some (Compiler (C Gcc))
+    else if bytes_eq word (codes "clang") then Some (Compiler (C Clang))
+    else if bytes_eq word (codes "rust") then Some (Compiler Rust)
+    else if bytes_eq word (codes "nvcc") then Some (Compiler (C Nvcc))
     else if bytes_eq word (codes "none") then Some NotACompiler
     else None
 
@@ -163,6 +168,15 @@ unfoldable pub level_kind_of : List ℕ → Option LevelKind
 level_kind_of word =
     if bytes_eq word (codes "disk") then Some Disk
     else if bytes_eq word (codes "remote") then Some Remote
+    else None
+
+-- what a distributed job comes to
+unfoldable pub outcome_of : List ℕ → Option JobOutcome
+outcome_of word =
+    if bytes_eq word (codes "done") then Some job.Done
+    else if bytes_eq word (codes "http") then Some job.Http
+    else if bytes_eq word (codes "large") then Some job.Large
+    else if bytes_eq word (codes "other") then Some job.Other
     else None
 
 -- whether a level may be written

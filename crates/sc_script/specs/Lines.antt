@@ -1,10 +1,14 @@
 -- What a line says, kind by kind.
 use Rattle.std.specs.Prelude.{ℕ, ◌-◌, ◌^◌, List, [], ◌∷◌, ◌++◌, length, Option, Some, None, Bool, ◌&&◌, ◌==◌, nat_lt, if◌then◌else◌, codes, bytes_eq}
 use Rattle.std.specs.FinMap as map
+use Rattle.sc_compile.specs.declared.key_line.KeyRefusal.TheVariants.{Fault as KeyFault, ProcessError as KeyError}
 use Rattle.sc_entry.specs.Tally.{Tally, count_of, counted}
 use Rattle.sc_entry.specs.declared.object.Object.{Object}
+use Rattle.sc_model.specs.declared.event.DistAnswer.{DistAnswer}
+use Rattle.sc_model.specs.declared.event.DistAnswer.TheVariants.{Done, Http, Other, TooLarge}
 use Rattle.sc_model.specs.declared.event.Objects.TheVariants.{Collected}
-use Rattle.sc_model.specs.declared.event.RunAnswer.TheVariants.{Output}
+use Rattle.sc_model.specs.declared.event.Output.{Output as Wrote}
+use Rattle.sc_model.specs.declared.event.RunAnswer.TheVariants.{Fault, Output, ProcessError}
 use Rattle.sc_model.specs.declared.level.LevelKind.{LevelKind}
 use Rattle.sc_model.specs.declared.level.LevelKind.TheVariants.{Disk, Remote}
 use Rattle.sc_model.specs.declared.level.LevelPolicy.{LevelPolicy}
@@ -12,9 +16,11 @@ use Rattle.sc_script.specs.Reading.{Reader}
 use Rattle.sc_script.specs.Reading.{◌>>=◌ as ◌then◌}
 use Rattle.sc_script.specs.Readers.{◌>>=◌, word, gives, field}
 use Rattle.sc_script.specs.Requests.{request_words}
-use Rattle.sc_script.specs.Fields.{number_of, number_in, bytes_of_token, text_of_token, store_key_of, object_of, status_of, kind_of, hex_of, policy_name_of, level_policy_of, level_kind_of, mode_of}
+use Rattle.sc_script.specs.Fields.{number_of, number_in, bytes_of_token, text_of_token, store_key_of, object_of, status_of, kind_of, hex_of, policy_name_of, level_policy_of, outcome_of, level_kind_of, mode_of}
+use Rattle.sc_script.specs.declared.job_rule.JobOutcome.{JobOutcome}
+use Rattle.sc_script.specs.declared.job_rule.JobOutcome.TheVariants as job
 use Rattle.sc_script.specs.declared.line.Line.{Line}
-use Rattle.sc_script.specs.declared.line.Line.TheVariants.{Version, Connections, Tokens, Limit, Policy, Level, Hold, Fail, Tool, Run, Bytes, Ask, Read, Serve, Back}
+use Rattle.sc_script.specs.declared.line.Line.TheVariants.{Version, Connections, Tokens, Limit, Policy, Level, Hold, Fail, Tool, Run, KeyStep, Place, Job, Bytes, Ask, Read, Serve, Back, Pass}
 use Rattle.sc_script.specs.declared.lines.Keyword.{Keyword}
 use Rattle.sc_script.specs.declared.lines.Keyword.TheVariants as at
 
@@ -104,18 +110,96 @@ tool_line = do
   kind ← field kind_of
   gives (Tool (record { path = path; moment = moment; kind = kind }))
 
+-- STATUS OUT ERR
+unfoldable pub output_words : Reader Wrote
+output_words = do
+  status ← field status_of
+  stdout ← field bytes_of_token
+  stderr ← field bytes_of_token
+  gives (record { status = status; stdout = stdout; stderr = stderr })
+
+-- texts of all words that are left, behind those so far
+abbrev pub texts_onto : List (List ℕ) → Reader (List (List ℕ))
+texts_onto sofar [] = Some (sofar, [])
+texts_onto sofar (w ∷ ws) = text_of_token w then (λ t. texts_onto (sofar ++ t ∷ []) ws)
+
+-- TEXT.., at least one
+unfoldable pub chain_words : Reader (List (List ℕ))
+chain_words = do
+  first ← field text_of_token
+  texts_onto (first ∷ [])
+
 -- run KEY STATUS OUT ERR PAIR..
 unfoldable pub run_line : Reader Line
 run_line = do
   key ← field text_of_token
-  status ← field status_of
-  stdout ← field bytes_of_token
-  stderr ← field bytes_of_token
+  output ← output_words
   objects ← objects_onto [] no_names
-  gives (Run (record {
-    key = key;
-    answer = Output (record { output = record { status = status; stdout = stdout; stderr = stderr }; objects = Collected objects });
-  }))
+  gives (Run (record { key = key; answer = Output (record { output = output; objects = Collected objects }) }))
+
+-- run-error KEY STATUS OUT ERR
+unfoldable pub run_error_line : Reader Line
+run_error_line = do
+  key ← field text_of_token
+  output ← output_words
+  gives (Run (record { key = key; answer = ProcessError output }))
+
+-- run-fault KEY TEXT..
+unfoldable pub run_fault_line : Reader Line
+run_fault_line = do
+  key ← field text_of_token
+  chain ← chain_words
+  gives (Run (record { key = key; answer = Fault chain }))
+
+-- key-error KEY STATUS OUT ERR
+unfoldable pub key_error_line : Reader Line
+key_error_line = do
+  key ← field text_of_token
+  output ← output_words
+  gives (KeyStep (record { key = key; refusal = KeyError output }))
+
+-- key-fault KEY TEXT..
+unfoldable pub key_fault_line : Reader Line
+key_fault_line = do
+  key ← field text_of_token
+  chain ← chain_words
+  gives (KeyStep (record { key = key; refusal = KeyFault chain }))
+
+-- place-fault KEY TEXT..
+unfoldable pub place_fault_line : Reader Line
+place_fault_line = do
+  key ← field text_of_token
+  chain ← chain_words
+  gives (Place (record { key = key; chain = chain }))
+
+-- SERVER STATUS OUT ERR PAIR..
+unfoldable pub done_words : Reader DistAnswer
+done_words = do
+  server ← field text_of_token
+  output ← output_words
+  objects ← objects_onto [] no_names
+  gives (Done server (record { output = output; objects = Collected objects }))
+
+-- what a distributed job comes to: done, or a text
+unfoldable pub job_words : JobOutcome → Reader DistAnswer
+job_words job.Done = done_words
+job_words job.Http = do
+  text ← field text_of_token
+  gives (Http text)
+job_words job.Large = do
+  text ← field text_of_token
+  gives (TooLarge text)
+job_words job.Other = do
+  text ← field text_of_token
+  gives (Other text)
+
+-- dist KEY done SERVER STATUS OUT ERR PAIR.., dist KEY http TEXT, dist KEY large TEXT, dist KEY other TEXT
+unfoldable pub dist_line : Reader Line
+dist_line = do
+  key ← field text_of_token
+  outcome ← field outcome_of
+  answer ← job_words outcome
+  gives (Job (record { key = key; answer = answer }))
 
 -- bytes C HEX
 unfoldable pub bytes_line : Reader Line
@@ -155,7 +239,35 @@ back_line = do
   write ← field number_of
   gives (Back write)
 
+-- pass T
+unfoldable pub pass_line : Reader Line
+pass_line = do
+  time ← field number_of
+  gives (Pass time)
+
 -- a line's first word says its kind
+unfoldable pub step_keyword : List ℕ → Option Keyword
+step_keyword w =
+    if bytes_eq w (codes "bytes") then Some at.Bytes
+    else if bytes_eq w (codes "ask") then Some at.Ask
+    else if bytes_eq w (codes "read") then Some at.Read
+    else if bytes_eq w (codes "serve") then Some at.Serve
+    else if bytes_eq w (codes "back") then Some at.Back
+    else if bytes_eq w (codes "pass") then Some at.Pass
+    else None
+
+-- what a compile, a placing or a job comes to
+unfoldable pub answer_keyword : List ℕ → Option Keyword
+answer_keyword w =
+    if bytes_eq w (codes "run") then Some at.Run
+    else if bytes_eq w (codes "run-error") then Some at.RunError
+    else if bytes_eq w (codes "run-fault") then Some at.RunFault
+    else if bytes_eq w (codes "key-error") then Some at.KeyError
+    else if bytes_eq w (codes "key-fault") then Some at.KeyFault
+    else if bytes_eq w (codes "place-fault") then Some at.PlaceFault
+    else if bytes_eq w (codes "dist") then Some at.Dist
+    else step_keyword w
+
 unfoldable pub keyword_of : List ℕ → Option Keyword
 keyword_of w =
     if bytes_eq w (codes "script") then Some at.Version
@@ -167,13 +279,7 @@ keyword_of w =
     else if bytes_eq w (codes "hold") then Some at.Hold
     else if bytes_eq w (codes "fail") then Some at.Fail
     else if bytes_eq w (codes "tool") then Some at.Tool
-    else if bytes_eq w (codes "run") then Some at.Run
-    else if bytes_eq w (codes "bytes") then Some at.Bytes
-    else if bytes_eq w (codes "ask") then Some at.Ask
-    else if bytes_eq w (codes "read") then Some at.Read
-    else if bytes_eq w (codes "serve") then Some at.Serve
-    else if bytes_eq w (codes "back") then Some at.Back
-    else None
+    else answer_keyword w
 
 unfoldable pub body : Keyword → Reader Line
 body at.Version = version_line
@@ -186,11 +292,18 @@ body at.Hold = hold_line
 body at.Fail = fail_line
 body at.Tool = tool_line
 body at.Run = run_line
+body at.RunError = run_error_line
+body at.RunFault = run_fault_line
+body at.KeyError = key_error_line
+body at.KeyFault = key_fault_line
+body at.PlaceFault = place_fault_line
+body at.Dist = dist_line
 body at.Bytes = bytes_line
 body at.Ask = ask_line
 body at.Read = read_line
 body at.Serve = serve_line
 body at.Back = back_line
+body at.Pass = pass_line
 
 -- no word is left over
 abbrev pub whole : Option (Line × List (List ℕ)) → Option Line

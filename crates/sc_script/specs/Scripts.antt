@@ -4,18 +4,21 @@ use Rattle.std.specs.FinMap as map
 use Rattle.sc_script.specs.declared.run_rule.RunRule.{RunRule}
 use Rattle.sc_compile.specs.declared.tool.Tool.{Tool as Told}
 use Rattle.sc_entry.specs.Tally.{count_of, counted}
-use Rattle.sc_model.specs.declared.event.Step.TheVariants.{Back as BackStep, Read as ReadStep, Serve as ServeStep}
+use Rattle.sc_model.specs.declared.event.Step.TheVariants.{Back as BackStep, Read as ReadStep, Serve as ServeStep, Pass as PassStep}
 use Rattle.sc_script.specs.Reading.{◌>>=◌, only_if}
 use Rattle.sc_script.specs.Parts.{words_of, parts_of}
 use Rattle.sc_script.specs.Lines.{line_of_words}
 use Rattle.sc_script.specs.Inputs.{appended}
 use Rattle.sc_script.specs.Frames.{frame_of}
 use Rattle.sc_script.specs.Levels.{changed, fits_word, has_its_levels, policy_of, rule_of, with_call, with_key}
+use Rattle.sc_compile.specs.declared.key_line.KeyLine.{KeyLine}
+use Rattle.sc_script.specs.declared.job_rule.JobRule.{JobRule}
 use Rattle.sc_script.specs.declared.line.HoldLine.{HoldLine}
 use Rattle.sc_script.specs.declared.line.LevelLine.{LevelLine}
 use Rattle.sc_script.specs.declared.line.Line.{Line}
-use Rattle.sc_script.specs.declared.line.Line.TheVariants.{Version, Connections, Tokens, Limit, Policy, Level, Hold, Fail, Tool, Run, Bytes, Ask, Read, Serve, Back}
+use Rattle.sc_script.specs.declared.line.Line.TheVariants.{Version, Connections, Tokens, Limit, Policy, Level, Hold, Fail, Tool, Run, KeyStep, Place, Job, Bytes, Ask, Read, Serve, Back, Pass}
 use Rattle.sc_script.specs.declared.draft.Draft.{Draft}
+use Rattle.sc_script.specs.declared.place_rule.PlaceRule.{PlaceRule}
 use Rattle.sc_script.specs.declared.policies.PolicyName.{PolicyName}
 use Rattle.sc_script.specs.declared.policies.PolicyName.TheVariants as named
 use Rattle.sc_script.specs.declared.script.Script.{Script}
@@ -36,6 +39,9 @@ nothing = record {
   held = map.empty;
   tools = [];
   runs = [];
+  keys = [];
+  places = [];
+  jobs = [];
   inputs = [];
   steps = [];
 }
@@ -107,6 +113,15 @@ with_tool d tool = only_if d.begun (record d { tools = d.tools ++ tool ∷ [] })
 unfoldable pub with_run : Draft → RunRule → Option Draft
 with_run d run = only_if d.begun (record d { runs = d.runs ++ run ∷ [] })
 
+unfoldable pub with_key_step : Draft → KeyLine → Option Draft
+with_key_step d line = only_if d.begun (record d { keys = d.keys ++ line ∷ [] })
+
+unfoldable pub with_place : Draft → PlaceRule → Option Draft
+with_place d rule = only_if d.begun (record d { places = d.places ++ rule ∷ [] })
+
+unfoldable pub with_job : Draft → JobRule → Option Draft
+with_job d rule = only_if d.begun (record d { jobs = d.jobs ++ rule ∷ [] })
+
 -- bytes that come on a connection that is there
 unfoldable pub with_bytes : Draft → ℕ → List ℕ → Option Draft
 with_bytes d c bytes = only_if (d.begun && is_connection c d) (record d { inputs = appended d.inputs c bytes; started = true })
@@ -126,6 +141,10 @@ with_serve d c times =
 unfoldable pub with_back : Draft → ℕ → Option Draft
 with_back d write = only_if (d.begun && has_room 1 d) (record d { steps = d.steps ++ BackStep write ∷ []; started = true })
 
+-- a step that lets time pass
+unfoldable pub with_pass : Draft → ℕ → Option Draft
+with_pass d time = only_if (d.begun && has_room 1 d) (record d { steps = d.steps ++ PassStep time ∷ []; started = true })
+
 -- one more line, where it may stand there
 unfoldable pub with_line : Draft → Line → Option Draft
 with_line d Version = with_version d
@@ -138,11 +157,15 @@ with_line d (Hold h) = with_hold d h
 with_line d (Fail level call) = with_fail d level call
 with_line d (Tool tool) = with_tool d tool
 with_line d (Run run) = with_run d run
+with_line d (KeyStep line) = with_key_step d line
+with_line d (Place rule) = with_place d rule
+with_line d (Job rule) = with_job d rule
 with_line d (Bytes c bytes) = with_bytes d c bytes
 with_line d (Ask c request) = with_bytes d c (frame_of request)
 with_line d (Read c most) = with_read d c most
 with_line d (Serve c times) = with_serve d c times
 with_line d (Back write) = with_back d write
+with_line d (Pass time) = with_pass d time
 
 unfoldable pub with_text : Draft → List ℕ → Option Draft
 with_text d line = line_of_words (words_of line) >>= (λ l. with_line d l)
@@ -157,6 +180,9 @@ script_from d = record {
   levels = d.levels;
   tools = d.tools;
   runs = d.runs;
+  keys = d.keys;
+  places = d.places;
+  jobs = d.jobs;
   steps = d.steps;
 }
 

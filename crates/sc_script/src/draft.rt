@@ -2,18 +2,20 @@
 ghost use Rattle.std.specs.Prelude.{◌≡◌, ◌++◌, OnOk, IfOk, option_to_list, replicate};
 ghost use Rattle.sc_model.specs.declared.event.Step.TheVariants.{Serve};
 ghost use Rattle.sc_script.specs.Reading.{Leaves};
-ghost use Rattle.sc_script.specs.Scripts.{nothing, is_level, is_connection, has_room, may_set, held_name, policy_name, is_in_time, takes_level, with_version, with_connections, with_tokens, with_limit, with_policy, with_level, with_hold, with_fail, with_tool, with_run, with_bytes, with_read, with_serve, with_back, with_line, finished, Answers};
+ghost use Rattle.sc_script.specs.Scripts.{nothing, is_level, is_connection, has_room, may_set, held_name, policy_name, is_in_time, takes_level, with_version, with_connections, with_tokens, with_limit, with_policy, with_level, with_hold, with_fail, with_tool, with_run, with_key_step, with_place, with_job, with_bytes, with_read, with_serve, with_back, with_pass, with_line, finished, Answers};
 
 use crate::fault::LineError;
 use crate::frames::frame;
 use crate::inputs::Inputs;
+use crate::job_rule::JobRule;
 use crate::level_rule::LevelRule;
 use crate::level_rules::LevelRules;
 use crate::line::{HoldLine, LevelLine, Line};
+use crate::place_rule::PlaceRule;
 use crate::policies::{PolicyName, fits_word, has_its_levels, policy_of};
 use crate::run_rule::RunRule;
 use crate::script::{Script, ScriptError};
-use sc_compile::Tool;
+use sc_compile::{KeyLine, Tool};
 use sc_entry::{Counts, Items, NoMemory, Text};
 use sc_model::{LevelPolicy, Step};
 use std::alloc::Global;
@@ -43,6 +45,9 @@ pub struct Draft {
     pub held: Counts,
     pub tools: Items<Tool>,
     pub runs: Items<RunRule>,
+    pub keys: Items<KeyLine>,
+    pub places: Items<PlaceRule>,
+    pub jobs: Items<JobRule>,
     pub inputs: Inputs,
     pub steps: Items<Step>,
 }
@@ -92,6 +97,9 @@ impl Draft {
             held: Counts::new(alloc),
             tools: Items::new(alloc),
             runs: Items::new(alloc),
+            keys: Items::new(alloc),
+            places: Items::new(alloc),
+            jobs: Items::new(alloc),
             inputs: Inputs::none(alloc),
             steps: Items::new(alloc),
         }
@@ -265,6 +273,39 @@ impl Draft {
         Ok(())
     }
 
+    #[tactic(auto, unfolding(crate::specs::Scripts::with_key_step))]
+    fn add_key_step(&mut self, line: KeyLine) -> Result<(), LineError>
+        ensures { Leaves (with_key_step self.old line) result self.new }
+    {
+        if !self.begun {
+            return Err(LineError::Bad);
+        }
+        self.keys.push(line)?;
+        Ok(())
+    }
+
+    #[tactic(auto, unfolding(crate::specs::Scripts::with_place))]
+    fn add_place(&mut self, rule: PlaceRule) -> Result<(), LineError>
+        ensures { Leaves (with_place self.old rule) result self.new }
+    {
+        if !self.begun {
+            return Err(LineError::Bad);
+        }
+        self.places.push(rule)?;
+        Ok(())
+    }
+
+    #[tactic(auto, unfolding(crate::specs::Scripts::with_job))]
+    fn add_job(&mut self, rule: JobRule) -> Result<(), LineError>
+        ensures { Leaves (with_job self.old rule) result self.new }
+    {
+        if !self.begun {
+            return Err(LineError::Bad);
+        }
+        self.jobs.push(rule)?;
+        Ok(())
+    }
+
     #[tactic(auto, unfolding(crate::specs::Scripts::with_bytes))]
     fn add_bytes(&mut self, connection: u64, bytes: &[u8]) -> Result<(), LineError>
         ensures { Leaves (with_bytes self.old connection bytes.now) result self.new }
@@ -313,6 +354,18 @@ impl Draft {
         Ok(())
     }
 
+    #[tactic(auto, unfolding(crate::specs::Scripts::with_pass))]
+    fn add_pass(&mut self, time: u64) -> Result<(), LineError>
+        ensures { Leaves (with_pass self.old time) result self.new }
+    {
+        if !self.begun || !self.has_room(1) {
+            return Err(LineError::Bad);
+        }
+        self.steps.push(Step::Pass(time))?;
+        self.started = true;
+        Ok(())
+    }
+
     /// Adds a line, where it may stand here.
     #[tactic(auto, unfolding(crate::specs::Scripts::with_line))]
     pub fn add(&mut self, alloc: Global, line: Line) -> Result<(), LineError>
@@ -329,6 +382,9 @@ impl Draft {
             Line::Fail { level, call } => self.add_fail(level, call),
             Line::Tool(tool) => self.add_tool(tool),
             Line::Run(run) => self.add_run(run),
+            Line::KeyStep(line) => self.add_key_step(line),
+            Line::Place(rule) => self.add_place(rule),
+            Line::Job(rule) => self.add_job(rule),
             Line::Bytes { connection, bytes } => self.add_bytes(connection, bytes.as_slice()),
             Line::Ask {
                 connection,
@@ -340,6 +396,7 @@ impl Draft {
             Line::Read { connection, most } => self.add_read(connection, most),
             Line::Serve { connection, times } => self.add_serve(connection, times),
             Line::Back(write) => self.add_back(write),
+            Line::Pass(time) => self.add_pass(time),
         }
     }
 
@@ -363,6 +420,9 @@ impl Draft {
             levels: self.levels.into_items(),
             tools: self.tools,
             runs: self.runs,
+            keys: self.keys,
+            places: self.places,
+            jobs: self.jobs,
             steps: self.steps,
         })
     }

@@ -4,9 +4,10 @@ ghost use Rattle.std.specs.Option.{option_map};
 ghost use Rattle.std.specs.Str.{is_utf8};
 ghost use Rattle.sc_entry.specs.Keys.{is_key_byte, are_key_bytes, is_store_key};
 ghost use Rattle.sc_script.specs.Reading.{Means};
-ghost use Rattle.sc_script.specs.Fields.{digits_onto, number_of, number_in, stands, hex_digit, byte_of, bytes_onto, escape_onto, bytes_after, bytes_of_token, text_of_bytes, text_of_token, store_key_of, pair_of, variable_of, is_object_name, object_of, status_of, kind_of, hex_of, policy_name_of, level_policy_of, level_kind_of, mode_of};
+ghost use Rattle.sc_script.specs.Fields.{digits_onto, number_of, number_in, stands, hex_digit, byte_of, bytes_onto, escape_onto, bytes_after, bytes_of_token, text_of_bytes, text_of_token, store_key_of, pair_of, variable_of, is_object_name, object_of, status_of, kind_of, hex_of, policy_name_of, level_policy_of, outcome_of, level_kind_of, mode_of};
 
 use crate::fault::LineError;
+use crate::job_rule::JobOutcome;
 use crate::parts::cut;
 use crate::policies::PolicyName;
 use hex::FromHexError;
@@ -265,13 +266,15 @@ pub fn status(word: &[u8]) -> Result<Status, LineError>
 pub fn kind(word: &[u8]) -> Result<ToolKind, LineError>
     ensures { Means (kind_of word.now) result }
 {
-    if word == b"gcc".as_slice() {
-        return Ok(ToolKind::Compiler(CompilerKind::C(CCompilerKind::Gcc)));
-    }
-    if word == b"none".as_slice() {
-        return Ok(ToolKind::NotACompiler);
-    }
-    Err(LineError::Bad)
+    let kind = match word {
+        b"gcc" => CompilerKind::C(CCompilerKind::Gcc),
+        b"clang" => CompilerKind::C(CCompilerKind::Clang),
+        b"rust" => CompilerKind::Rust,
+        b"nvcc" => CompilerKind::C(CCompilerKind::Nvcc),
+        b"none" => return Ok(ToolKind::NotACompiler),
+        _ => return Err(LineError::Bad),
+    };
+    Ok(ToolKind::Compiler(kind))
 }
 
 /// Hexadecimal digits of either case, of one byte at least.
@@ -325,6 +328,26 @@ pub fn level_policy(word: &[u8]) -> Result<LevelPolicy, LineError>
     }
     if word == b"off".as_slice() {
         return Ok(LevelPolicy::Off);
+    }
+    Err(LineError::Bad)
+}
+
+/// What a distributed job comes to.
+#[tactic(auto, unfolding(crate::specs::Fields::outcome_of))]
+pub fn outcome(word: &[u8]) -> Result<JobOutcome, LineError>
+    ensures { Means (outcome_of word.now) result }
+{
+    if word == b"done".as_slice() {
+        return Ok(JobOutcome::Done);
+    }
+    if word == b"http".as_slice() {
+        return Ok(JobOutcome::Http);
+    }
+    if word == b"large".as_slice() {
+        return Ok(JobOutcome::Large);
+    }
+    if word == b"other".as_slice() {
+        return Ok(JobOutcome::Other);
     }
     Err(LineError::Bad)
 }

@@ -1,7 +1,9 @@
 //! What a line of a script says.
+use crate::job_rule::JobRule;
+use crate::place_rule::PlaceRule;
 use crate::policies::PolicyName;
 use crate::run_rule::RunRule;
-use sc_compile::Tool;
+use sc_compile::{KeyLine, Tool};
 use sc_entry::{ByteText, CacheMode, Text};
 use sc_model::{LevelKind, LevelPolicy, Request};
 
@@ -37,6 +39,10 @@ pub enum Line {
     Fail { level: u64, call: u64 },
     Tool(Tool),
     Run(RunRule),
+    /// Why the key steps of a key give none.
+    KeyStep(KeyLine),
+    Place(PlaceRule),
+    Job(JobRule),
     /// Bytes that come on a connection.
     Bytes { connection: u64, bytes: ByteText },
     /// A request that comes on a connection.
@@ -45,4 +51,6 @@ pub enum Line {
     Serve { connection: u64, times: u64 },
     /// A step at a write in the background.
     Back(u64),
+    /// A step that lets so many nanoseconds pass.
+    Pass(u64),
 }

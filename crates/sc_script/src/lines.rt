@@ -1,20 +1,22 @@
 //! Lines, kind by kind.
-ghost use Rattle.std.specs.Prelude.{◌≡◌, []};
+ghost use Rattle.std.specs.Prelude.{◌≡◌, ◌∷◌, []};
 ghost use Rattle.sc_script.specs.Reading.{Means, Reads};
-ghost use Rattle.sc_script.specs.Lines.{version_line, connections_line, tokens_line, limit_line, policy_line, capacity_words, own_policy, level_line, hold_line, fail_line, tool_line, run_line, bytes_line, ask_line, read_line, times_of, serve_line, back_line, keyword_of, body, line_of_words, objects_onto, no_names, is_new_object};
+ghost use Rattle.sc_script.specs.Lines.{version_line, connections_line, tokens_line, limit_line, policy_line, capacity_words, own_policy, level_line, hold_line, fail_line, tool_line, output_words, texts_onto, chain_words, run_line, run_error_line, run_fault_line, key_error_line, key_fault_line, place_fault_line, done_words, job_words, dist_line, bytes_line, ask_line, read_line, times_of, serve_line, back_line, pass_line, step_keyword, answer_keyword, keyword_of, body, line_of_words, objects_onto, no_names, is_new_object};
 
 use crate::fault::LineError;
 use crate::fields::{
-    hex_bytes, kind, level_kind, level_policy, mode, number, number_within, object, policy_name,
-    status, store_key, text_token, token,
+    hex_bytes, kind, level_kind, level_policy, mode, number, number_within, object, outcome,
+    policy_name, status, store_key, text_token, token,
 };
+use crate::job_rule::{JobOutcome, JobRule};
 use crate::line::{HoldLine, LevelLine, Line};
 use crate::parts::Words;
+use crate::place_rule::PlaceRule;
 use crate::requests::request_words;
 use crate::run_rule::RunRule;
-use sc_compile::Tool;
-use sc_entry::{Counts, Items, Object};
-use sc_model::{LevelKind, LevelPolicy, Objects, Output, RunAnswer, RunOutput};
+use sc_compile::{KeyLine, KeyRefusal, Tool};
+use sc_entry::{Counts, Items, Object, Text};
+use sc_model::{DistAnswer, LevelKind, LevelPolicy, Objects, Output, RunAnswer, RunOutput};
 use std::alloc::Global;
 
 /// The kinds of lines.
@@ -30,11 +32,18 @@ pub enum Keyword {
     Fail,
     Tool,
     Run,
+    RunError,
+    RunFault,
+    KeyError,
+    KeyFault,
+    PlaceFault,
+    Dist,
     Bytes,
     Ask,
     Read,
     Serve,
     Back,
+    Pass,
 }
 
 fn is_new_object(sofar: &[Object], names: &Counts, object: &Object) -> bool
@@ -167,26 +176,133 @@ fn tool_line(alloc: Global, words: &mut Words<'_>) -> Result<Line, LineError>
     Ok(Line::Tool(Tool { path, moment, kind }))
 }
 
+/// What a process wrote, and how it ended.
+#[tactic(auto, unfolding(crate::specs::Lines::output_words))]
+fn output_words(alloc: Global, words: &mut Words<'_>) -> Result<Output, LineError>
+    ensures { Reads (output_words words.old) result words.new }
+{
+    let status = status(words.word()?)?;
+    let stdout = token(alloc, words.word()?)?;
+    let stderr = token(alloc, words.word()?)?;
+    Ok(Output {
+        status,
+        stdout,
+        stderr,
+    })
+}
+
+/// The texts of all words that are left, behind a first one.
+fn texts(alloc: Global, first: Text, words: &mut Words<'_>) -> Result<Items<Text>, LineError>
+    ensures { Reads (texts_onto (first ∷ []) words.old) result words.new }
+{
+    let mut texts = Items::new(alloc);
+    texts.push(first)?;
+    while let Some(word) = words.next() {
+        texts.push(text_token(alloc, word)?)?;
+    }
+    Ok(texts)
+}
+
+/// A chain of texts, of all words that are left.
+#[tactic(auto, unfolding(crate::specs::Lines::chain_words))]
+fn chain_words(alloc: Global, words: &mut Words<'_>) -> Result<Items<Text>, LineError>
+    ensures { Reads (chain_words words.old) result words.new }
+{
+    let first = text_token(alloc, words.word()?)?;
+    texts(alloc, first, words)
+}
+
 #[tactic(auto, unfolding(crate::specs::Lines::run_line))]
 fn run_line(alloc: Global, words: &mut Words<'_>) -> Result<Line, LineError>
     ensures { Reads (run_line words.old) result words.new }
 {
     let key = text_token(alloc, words.word()?)?;
-    let status = status(words.word()?)?;
-    let stdout = token(alloc, words.word()?)?;
-    let stderr = token(alloc, words.word()?)?;
-    let objects = objects(alloc, words)?;
-    Ok(Line::Run(RunRule {
-        key,
-        answer: RunAnswer::Output(RunOutput {
-            output: Output {
-                status,
-                stdout,
-                stderr,
-            },
-            objects: Objects::Collected(objects),
-        }),
-    }))
+    let output = output_words(alloc, words)?;
+    let objects = Objects::Collected(objects(alloc, words)?);
+    let answer = RunAnswer::Output(RunOutput { output, objects });
+    Ok(Line::Run(RunRule { key, answer }))
+}
+
+#[tactic(auto, unfolding(crate::specs::Lines::run_error_line))]
+fn run_error_line(alloc: Global, words: &mut Words<'_>) -> Result<Line, LineError>
+    ensures { Reads (run_error_line words.old) result words.new }
+{
+    let key = text_token(alloc, words.word()?)?;
+    let answer = RunAnswer::ProcessError(output_words(alloc, words)?);
+    Ok(Line::Run(RunRule { key, answer }))
+}
+
+#[tactic(auto, unfolding(crate::specs::Lines::run_fault_line))]
+fn run_fault_line(alloc: Global, words: &mut Words<'_>) -> Result<Line, LineError>
+    ensures { Reads (run_fault_line words.old) result words.new }
+{
+    let key = text_token(alloc, words.word()?)?;
+    let answer = RunAnswer::Fault(chain_words(alloc, words)?);
+    Ok(Line::Run(RunRule { key, answer }))
+}
+
+#[tactic(auto, unfolding(crate::specs::Lines::key_error_line))]
+fn key_error_line(alloc: Global, words: &mut Words<'_>) -> Result<Line, LineError>
+    ensures { Reads (key_error_line words.old) result words.new }
+{
+    let key = text_token(alloc, words.word()?)?.into_byte_text();
+    let refusal = KeyRefusal::ProcessError(output_words(alloc, words)?);
+    Ok(Line::KeyStep(KeyLine { key, refusal }))
+}
+
+#[tactic(auto, unfolding(crate::specs::Lines::key_fault_line))]
+fn key_fault_line(alloc: Global, words: &mut Words<'_>) -> Result<Line, LineError>
+    ensures { Reads (key_fault_line words.old) result words.new }
+{
+    let key = text_token(alloc, words.word()?)?.into_byte_text();
+    let refusal = KeyRefusal::Fault(chain_words(alloc, words)?);
+    Ok(Line::KeyStep(KeyLine { key, refusal }))
+}
+
+#[tactic(auto, unfolding(crate::specs::Lines::place_fault_line))]
+fn place_fault_line(alloc: Global, words: &mut Words<'_>) -> Result<Line, LineError>
+    ensures { Reads (place_fault_line words.old) result words.new }
+{
+    let key = text_token(alloc, words.word()?)?;
+    let chain = chain_words(alloc, words)?;
+    Ok(Line::Place(PlaceRule { key, chain }))
+}
+
+/// What a server made of a job.
+#[tactic(auto, unfolding(crate::specs::Lines::done_words))]
+fn done_words(alloc: Global, words: &mut Words<'_>) -> Result<DistAnswer, LineError>
+    ensures { Reads (done_words words.old) result words.new }
+{
+    let server = text_token(alloc, words.word()?)?;
+    let output = output_words(alloc, words)?;
+    let objects = Objects::Collected(objects(alloc, words)?);
+    Ok(DistAnswer::Done(server, RunOutput { output, objects }))
+}
+
+#[tactic(auto, unfolding(crate::specs::Lines::job_words))]
+fn job_words(
+    alloc: Global,
+    outcome: JobOutcome,
+    words: &mut Words<'_>,
+) -> Result<DistAnswer, LineError>
+    ensures { Reads (job_words outcome words.old) result words.new }
+{
+    match outcome {
+        JobOutcome::Done => done_words(alloc, words),
+        JobOutcome::Http => Ok(DistAnswer::Http(text_token(alloc, words.word()?)?)),
+        JobOutcome::Large => Ok(DistAnswer::TooLarge(text_token(alloc, words.word()?)?)),
+        JobOutcome::Other => Ok(DistAnswer::Other(text_token(alloc, words.word()?)?)),
+    }
+}
+
+#[tactic(auto, unfolding(crate::specs::Lines::dist_line))]
+fn dist_line(alloc: Global, words: &mut Words<'_>) -> Result<Line, LineError>
+    ensures { Reads (dist_line words.old) result words.new }
+{
+    let key = text_token(alloc, words.word()?)?;
+    let outcome = outcome(words.word()?)?;
+    let answer = job_words(alloc, outcome, words)?;
+    Ok(Line::Job(JobRule { key, answer }))
 }
 
 #[tactic(auto, unfolding(crate::specs::Lines::bytes_line))]
@@ -246,6 +362,69 @@ fn back_line(words: &mut Words<'_>) -> Result<Line, LineError>
     Ok(Line::Back(write))
 }
 
+#[tactic(auto, unfolding(crate::specs::Lines::pass_line))]
+fn pass_line(words: &mut Words<'_>) -> Result<Line, LineError>
+    ensures { Reads (pass_line words.old) result words.new }
+{
+    let time = number(words.word()?)?;
+    Ok(Line::Pass(time))
+}
+
+/// The word of a line on what is done, or on what comes.
+#[tactic(auto, unfolding(crate::specs::Lines::step_keyword))]
+fn step_word(word: &[u8]) -> Result<Keyword, LineError>
+    ensures { Means (step_keyword word.now) result }
+{
+    if word == b"bytes".as_slice() {
+        return Ok(Keyword::Bytes);
+    }
+    if word == b"ask".as_slice() {
+        return Ok(Keyword::Ask);
+    }
+    if word == b"read".as_slice() {
+        return Ok(Keyword::Read);
+    }
+    if word == b"serve".as_slice() {
+        return Ok(Keyword::Serve);
+    }
+    if word == b"back".as_slice() {
+        return Ok(Keyword::Back);
+    }
+    if word == b"pass".as_slice() {
+        return Ok(Keyword::Pass);
+    }
+    Err(LineError::Bad)
+}
+
+/// The word of a line on what a compile, a placing or a job comes to, or of a later kind.
+#[tactic(auto, unfolding(crate::specs::Lines::answer_keyword))]
+fn answer_word(word: &[u8]) -> Result<Keyword, LineError>
+    ensures { Means (answer_keyword word.now) result }
+{
+    if word == b"run".as_slice() {
+        return Ok(Keyword::Run);
+    }
+    if word == b"run-error".as_slice() {
+        return Ok(Keyword::RunError);
+    }
+    if word == b"run-fault".as_slice() {
+        return Ok(Keyword::RunFault);
+    }
+    if word == b"key-error".as_slice() {
+        return Ok(Keyword::KeyError);
+    }
+    if word == b"key-fault".as_slice() {
+        return Ok(Keyword::KeyFault);
+    }
+    if word == b"place-fault".as_slice() {
+        return Ok(Keyword::PlaceFault);
+    }
+    if word == b"dist".as_slice() {
+        return Ok(Keyword::Dist);
+    }
+    step_word(word)
+}
+
 #[tactic(auto, unfolding(crate::specs::Lines::keyword_of))]
 fn first_word(word: &[u8]) -> Result<Keyword, LineError>
     ensures { Means (keyword_of word.now) result }
@@ -277,25 +456,7 @@ fn first_word(word: &[u8]) -> Result<Keyword, LineError>
     if word == b"tool".as_slice() {
         return Ok(Keyword::Tool);
     }
-    if word == b"run".as_slice() {
-        return Ok(Keyword::Run);
-    }
-    if word == b"bytes".as_slice() {
-        return Ok(Keyword::Bytes);
-    }
-    if word == b"ask".as_slice() {
-        return Ok(Keyword::Ask);
-    }
-    if word == b"read".as_slice() {
-        return Ok(Keyword::Read);
-    }
-    if word == b"serve".as_slice() {
-        return Ok(Keyword::Serve);
-    }
-    if word == b"back".as_slice() {
-        return Ok(Keyword::Back);
-    }
-    Err(LineError::Bad)
+    answer_word(word)
 }
 
 #[tactic(auto, unfolding(crate::specs::Lines::body))]
@@ -313,11 +474,18 @@ fn body(alloc: Global, keyword: Keyword, words: &mut Words<'_>) -> Result<Line, 
         Keyword::Fail => fail_line(words),
         Keyword::Tool => tool_line(alloc, words),
         Keyword::Run => run_line(alloc, words),
+        Keyword::RunError => run_error_line(alloc, words),
+        Keyword::RunFault => run_fault_line(alloc, words),
+        Keyword::KeyError => key_error_line(alloc, words),
+        Keyword::KeyFault => key_fault_line(alloc, words),
+        Keyword::PlaceFault => place_fault_line(alloc, words),
+        Keyword::Dist => dist_line(alloc, words),
         Keyword::Bytes => bytes_line(alloc, words),
         Keyword::Ask => ask_line(alloc, words),
         Keyword::Read => read_line(words),
         Keyword::Serve => serve_line(words),
         Keyword::Back => back_line(words),
+        Keyword::Pass => pass_line(words),
     }
 }
 

@@ -20,6 +20,7 @@ pub enum RequestKind {
     ZeroStats,
     GetStats,
     Handshake,
+    DistStatus,
     Record,
 }
 
@@ -101,6 +102,9 @@ fn request_kind(word: &[u8]) -> Result<RequestKind, LineError>
     if word == b"handshake".as_slice() {
         return Ok(RequestKind::Handshake);
     }
+    if word == b"dist-status".as_slice() {
+        return Ok(RequestKind::DistStatus);
+    }
     if word == b"record".as_slice() {
         return Ok(RequestKind::Record);
     }
@@ -122,6 +126,7 @@ fn request_body(
         RequestKind::ZeroStats => Ok(Request::ZeroStats),
         RequestKind::GetStats => Ok(Request::GetStats),
         RequestKind::Handshake => Ok(Request::StorageHandshake),
+        RequestKind::DistStatus => Ok(Request::DistStatus),
         RequestKind::Record => record_request(alloc, words),
     }
 }

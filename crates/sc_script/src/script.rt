@@ -1,7 +1,9 @@
 //! What a script says.
+use crate::job_rule::JobRule;
 use crate::level_rule::LevelRule;
+use crate::place_rule::PlaceRule;
 use crate::run_rule::RunRule;
-use sc_compile::Tool;
+use sc_compile::{KeyLine, Tool};
 use sc_entry::{ByteText, Items};
 use sc_model::{Policy, Step};
 
@@ -19,6 +21,12 @@ pub struct Script {
     pub levels: Items<LevelRule>,
     pub tools: Items<Tool>,
     pub runs: Items<RunRule>,
+    /// Why key steps give no key.
+    pub keys: Items<KeyLine>,
+    /// Why placings fail.
+    pub places: Items<PlaceRule>,
+    /// What distributed jobs come to. Where there is none there is no distributed client.
+    pub jobs: Items<JobRule>,
     /// Each step by itself: a line with a count stands for so many.
     pub steps: Items<Step>,
 }

@@ -110,13 +110,22 @@ fn of_line(alloc: Global, line: &[u8]) -> Result<u64, Fail> {
 
 #[test]
 fn good_lines(rt: HostRuntime) -> Result<(), Fail> {
-    let lines: [&[u8]; 14] = [
+    let lines: [&[u8]; 23] = [
         b"tokens 65535",
         b"limit 16777216",
         b"hold 0 key1 -",
         b"hold 0 key1 \\x2d",
         b"fail 0 1",
         b"tool /cc 0 none",
+        b"tool /cc 0 clang",
+        b"tool /cc 0 rust",
+        b"tool /cc 0 nvcc",
+        b"run-error key1 s126 - e",
+        b"run-fault key1 a -",
+        b"key-error key1 0 - -",
+        b"key-fault key1 -",
+        b"place-fault key1 a b\\x20c",
+        b"pass 0",
         b"run key1 255 - -",
         b"run key1 s1 - - a=",
         b"run key1 0 - - a=1 b=1",
@@ -134,7 +143,7 @@ fn good_lines(rt: HostRuntime) -> Result<(), Fail> {
 
 #[test]
 fn bad_lines(rt: HostRuntime) -> Result<(), Fail> {
-    let lines: [&[u8]; 29] = [
+    let lines: [&[u8]; 36] = [
         b"tokens 0",
         b"tokens 65536",
         b"tokens 01",
@@ -148,6 +157,13 @@ fn bad_lines(rt: HostRuntime) -> Result<(), Fail> {
         b"hold 0 key1 \\x2D",
         b"fail 1 1",
         b"tool /cc 0 cc",
+        b"tool /cc 0 msvc",
+        b"run-error key1 0 - - obj=AB",
+        b"run-fault key1",
+        b"key-error key1 0 -",
+        b"key-fault key1 \\xff",
+        b"place-fault key1",
+        b"pass",
         b"run key1 256 - -",
         b"run key1 s0 - -",
         b"run key1 s127 - -",

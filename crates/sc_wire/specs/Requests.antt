@@ -105,6 +105,7 @@ served_of (Some StorageHandshake) = Some StorageHandshake
 served_of (Some (StorageGetRaw key)) = Some (StorageGetRaw key)
 served_of (Some (StoragePutRaw key bytes)) = Some (StoragePutRaw key bytes)
 served_of (Some (RecordStats delta)) = Some (RecordStats delta)
+served_of (Some DistStatus) = Some DistStatus
 served_of _ = None
 
 abbrev pub IsServed : Request → Type 0
@@ -115,6 +116,7 @@ IsServed StorageHandshake = Unit {0}
 IsServed (StorageGetRaw key) = Unit {0}
 IsServed (StoragePutRaw key bytes) = Unit {0}
 IsServed (RecordStats delta) = Unit {0}
+IsServed DistStatus = Unit {0}
 IsServed _ = ⊥
 
 -- requests that are all served

@@ -123,7 +123,7 @@ fn lengths_at_the_limit(rt: HostRuntime) -> Result<(), Fail> {
 #[test]
 fn other_variants_are_bad(rt: HostRuntime) -> Result<(), Fail> {
     let alloc = rt.alloc();
-    for variant in [2u32, 3, 12, u32::MAX] {
+    for variant in [3u32, 12, u32::MAX] {
         let frame = framed(alloc, &variant.to_le_bytes())?;
         let (end, requests) = after(alloc, frame.as_slice())?;
         assert!(rt; is_bad(end));
@@ -135,7 +135,7 @@ fn other_variants_are_bad(rt: HostRuntime) -> Result<(), Fail> {
 #[test]
 fn requests_without_fields(rt: HostRuntime) -> Result<(), Fail> {
     let alloc = rt.alloc();
-    for variant in [0u32, 1, 5] {
+    for variant in [0u32, 1, 2, 5] {
         let frame = framed(alloc, &variant.to_le_bytes())?;
         let (end, requests) = after(alloc, frame.as_slice())?;
         assert!(rt; is_open(end));

@@ -4,6 +4,7 @@ ghost use Rattle.sc_entry.specs.Entries.{objects};
 ghost use Rattle.sc_entry.specs.Failing.{one_more};
 ghost use Rattle.sc_compile.specs.GoodNames.{is_good_answer};
 ghost use Rattle.sc_compile.specs.Placings.{Places};
+ghost use Rattle.sc_compile.specs.declared.place_line.PlaceLine.{PlaceLine};
 ghost use Rattle.sc_compile.specs.declared.run_line.RunLine.{RunLine};
 ghost use Rattle.sc_model.specs.World.{Place, RunCause, and_one};
 ghost use Rattle.sc_model.specs.declared.event.RunAnswer.{RunAnswer};
@@ -79,7 +80,7 @@ impl<K: CommandCreator, F: Files> CommandWorkshop<K, F> {
         ensures same { (self.new.creator ≡ self.old.creator) × (self.new.files ≡ self.old.files) }
         ensures later { self.old.refused ≤ self.new.refused }
     {
-        match RunLine::new(alloc, key.try_clone()?, gathered)? {
+        match RunLine::new(alloc, key.try_clone()?.into_byte_text(), gathered)? {
             Some(line) => Ok(line.answer),
             None => {
                 let fault = unheld(alloc)?;
@@ -112,6 +113,8 @@ where
 
     ghost lines = { λ _. None };
 
+    ghost refusals = { λ _. None };
+
     ghost fault_count = { λ w. shop_faults (K.fault_count w.creator) (F.fault_count w.files) w.refused };
 
     fn faults(&self) -> u64 {
@@ -130,6 +133,7 @@ where
         ensures runs { IfOk result (λ a. ◌≡◌ {A = Option (List (List ℕ × RunAnswer))} None (and_one None (key.now, a))) }
         ensures placings { OnOk result (◌≡◌ {A = Option (List Place)} None None) }
         ensures lines { OnOk result (◌≡◌ {A = Option (List RunLine)} None None) }
+        ensures refusals { OnOk result (◌≡◌ {A = Option (List PlaceLine)} None None) }
         ensures later { shop_faults (K.fault_count self.old.creator) (F.fault_count self.old.files) self.old.refused ≤ shop_faults (K.fault_count self.new.creator) (F.fault_count self.new.files) self.new.refused }
         ensures cause { IfOk result (λ a. RunCause a (shop_faults (K.fault_count self.old.creator) (F.fault_count self.old.files) self.old.refused) (shop_faults (K.fault_count self.new.creator) (F.fault_count self.new.files) self.new.refused)) }
         ensures good { IfOk result (λ a. is_good_answer a ≡ true) }
@@ -156,8 +160,10 @@ where
     ) -> Result<Option<Items<Text>>, NoMemory>
         ensures runs { OnOk result (◌≡◌ {A = Option (List (List ℕ × RunAnswer))} None None) }
         ensures lines { OnOk result (◌≡◌ {A = Option (List RunLine)} None None) }
+        ensures refusals { OnOk result (◌≡◌ {A = Option (List PlaceLine)} None None) }
         ensures later { shop_faults (K.fault_count self.old.creator) (F.fault_count self.old.files) self.old.refused ≤ shop_faults (K.fault_count self.new.creator) (F.fault_count self.new.files) self.new.refused }
         ensures placings { IfOk result (λ p. Places (record { outputs = outputs.now; bytes = entry.now }) None None (shop_faults (K.fault_count self.old.creator) (F.fault_count self.old.files) self.old.refused) (shop_faults (K.fault_count self.new.creator) (F.fault_count self.new.files) self.new.refused) p) }
+        ensures answer { OnOk result (Unit {0}) }
 
         // The entry's objects stand at the outputs' paths.
         ensures told { IfOk result (λ p. PlacesEntry (objects entry.now) outputs.now p (F.held self.old.files) (F.held self.new.files)) }

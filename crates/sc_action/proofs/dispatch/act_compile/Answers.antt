@@ -28,6 +28,9 @@ returns-in-AtAsk-clause-moves g c = subst (λ (p : Phase). IfOk c.act_ask.result
 pub returns-in-AtPlace-clause-moves : goal.returns-in-AtPlace-clause-moves
 returns-in-AtPlace-clause-moves g c = subst (λ (p : Phase). IfOk c.act_place.result (λ (a : Acted). g.H.Hold.moves c.args.hold.now (need_at (setup (g.H.Hold.config c.args.hold.now)) (CompileOf c.args.request.now) p) a.what c.act_place.new.hold)) (sym c.in-AtPlace.is) c.act_place.ensures.moves
 
+pub returns-in-AtDist-clause-moves : goal.returns-in-AtDist-clause-moves
+returns-in-AtDist-clause-moves g c = subst (λ (p : Phase). IfOk c.act_dist.result (λ (a : Acted). g.H.Hold.moves c.args.hold.now (need_at (setup (g.H.Hold.config c.args.hold.now)) (CompileOf c.args.request.now) p) a.what c.act_dist.new.hold)) (sym c.in-AtDist.is) c.act_dist.ensures.moves
+
 pub returns-in-AtTake-clause-moves : goal.returns-in-AtTake-clause-moves
 returns-in-AtTake-clause-moves g c = subst (λ (p : Phase). IfOk c.act_take.result (λ (a : Acted). g.H.Hold.moves c.args.hold.now (need_at (setup (g.H.Hold.config c.args.hold.now)) (CompileOf c.args.request.now) p) a.what c.act_take.new.hold)) (sym c.in-AtTake.is) c.act_take.ensures.moves
 

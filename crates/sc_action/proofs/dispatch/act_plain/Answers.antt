@@ -9,3 +9,6 @@ returns-in-RecordStats-clause-says g c = if_each (g.H.Hold.config c.args.hold.no
 
 pub returns-in-StorageHandshake-clause-says : goal.returns-in-StorageHandshake-clause-says
 returns-in-StorageHandshake-clause-says g c = if_each (g.H.Hold.config c.args.hold.now).policy c.args.stats.now c.args.levels.now c.act_storage_handshake.result c.act_storage_handshake.ensures.says
+
+pub returns-in-DistStatus-clause-says : goal.returns-in-DistStatus-clause-says
+returns-in-DistStatus-clause-says g c = if_each (g.H.Hold.config c.args.hold.now).policy c.args.stats.now c.args.levels.now c.act_told_dist.result c.act_told_dist.ensures.says

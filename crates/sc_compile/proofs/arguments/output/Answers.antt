@@ -12,4 +12,4 @@ returns-clause-named c = λ name.
     btree_set_updates_text (string_bytes c.in_ok-from_str.field-0) c.args.names.now c.insert.new.self true c.in_ok-insert.ensures.updates name
     ∙ ap (λ (bytes : List ℕ). cond (bytes_eq bytes name) true (contains_text c.args.names.now name)) key
     ∙ ap (λ (b : Bool). cond (bytes_eq c.in_ok-key.key name) true b) (c.requires name)
-    ∙ sym (has_key_more c.args.outputs.now (record { key = c.in_ok-key.key; path = c.in_ok-path.path; optional = false }) name)
+    ∙ sym (has_key_more c.args.outputs.now (record { key = c.in_ok-key.key; path = c.in_ok-path.path; optional = c.args.optional }) name)

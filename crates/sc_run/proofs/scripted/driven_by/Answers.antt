@@ -2,7 +2,7 @@ use Rattle.std.proofs.Common.{sym, ap, ◌∙◌, subst}
 use Rattle.sc_owned.specs.State.{State}
 use Rattle.sc_daemon.specs.Daemons.{IsIdleDaemon, Kept, new_daemon}
 use Rattle.sc_daemon.proofs.Beginning.{new_idle}
-use Rattle.sc_memory.specs.Making.{AreLines}
+use Rattle.sc_memory.specs.Making.{AreLines, AreRefusals, IsDist}
 use Rattle.sc_run.specs.Scripted.{Begins}
 use Rattle.sc_run.proofs.Reporting.{if_ok, reports}
 use Rattle.sc_run.proofs.scripted.driven_by.Goals as goal
@@ -29,7 +29,10 @@ returns c =
       tokens = ap (λ (o : State). o.config.tokens) owned ∙ made.tokens;
       limit = ap (λ (o : State). o.config.limit) owned ∙ made.limit;
       table = ap (λ (o : State). o.config.table) owned ∙ made.table;
+      keys = ap (λ (o : State). o.config.keys) owned ∙ made.keys;
       lines = subst (λ (o : State). AreLines o.config.lines c.args.script.runs) (sym owned) made.lines;
+      refusals = subst (λ (o : State). AreRefusals o.config.refusals c.args.script.places) (sym owned) made.refusals;
+      dist = subst (λ (o : State). IsDist o.config.dist c.args.script.jobs) (sym owned) made.dist;
       told = ap (λ (o : State). o.told) owned ∙ made.told;
       world = ap (λ (o : State). o.world) owned ∙ made.world;
       new = c.in_ok-daemon.ensures ∙ ap new_daemon (sym owned);

@@ -7,10 +7,10 @@ use Rattle.sc_owned.proofs.Steps.{still, none_found, placed}
 use Rattle.sc_owned.proofs.holding.OwnedHold.place.Goals as goal
 
 pub returns-clause-moves : goal.returns-clause-moves
-returns-clause-moves g c n wants hits =
+returns-clause-moves g c n keyed wants hits =
     let e = c.in_ok-failed.ensures in
     let none = none_found c.in_ok-name.field-0 (λ name. name.now) (first_missing (objects c.args.entry.now) c.args.outputs.now) c.in_default.not-Some c.in_ok-name.ensures in
     rw c.placing_of.ensures
-    (let m = placed _ c.args.self.now n c.args.outputs.now c.args.entry.now c.in_ok-failed.failed _ _ _ c.self.view_is wants hits none e.runs e.later e.placings in
+    (let m = placed _ c.args.self.now n c.args.key.now c.args.outputs.now c.args.entry.now c.in_ok-failed.failed _ _ _ c.self.view_is keyed wants hits none e.runs e.later e.placings e.answer in
     let s = still _ c.args.self.now (Placed (placing_of c.in_ok-failed.failed)) _ c.self.view_is tt refl in
     (m.0, m.1, s.0, s.1))

@@ -1,0 +1,5 @@
+//! Tests of `sc_disk`.
+#![tactic(auto)]
+
+#[cfg(test)]
+mod tests;

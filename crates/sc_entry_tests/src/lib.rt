@@ -1,0 +1,5 @@
+//! Tests of `sc_entry`.
+#![tactic(auto)]
+
+#[cfg(test)]
+mod tests;

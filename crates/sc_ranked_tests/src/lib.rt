@@ -1,0 +1,5 @@
+//! Tests of `sc_ranked`.
+#![tactic(auto)]
+
+#[cfg(test)]
+mod tests;

@@ -1,0 +1,5 @@
+//! Tests of `sc_reopen`.
+#![tactic(auto)]
+
+#[cfg(test)]
+mod tests;
