@@ -1,0 +1,3 @@
+pub mod Escapes
+pub mod Finished
+pub mod Outlets

@@ -1,0 +1,5 @@
+//! Tests of `sc_client`.
+#![tactic(auto)]
+
+#[cfg(test)]
+mod tests;

@@ -1,0 +1,5 @@
+//! Tests of `sc_compiler_map`.
+#![tactic(auto)]
+
+#[cfg(test)]
+mod tests;
