@@ -1,0 +1,5 @@
+//! Tests of `sc_direct`.
+#![tactic(auto)]
+
+#[cfg(test)]
+mod tests;

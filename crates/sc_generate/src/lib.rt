@@ -1,0 +1,8 @@
+//! A large script that is made of a number.
+#![tactic(auto)]
+
+mod draw;
+mod lines;
+mod script;
+
+pub use script::generate;
