@@ -1,16 +1,12 @@
 -- A line more, and the rest of the script behind it.
-use Rattle.std.proofs.Common.{◌≡◌, ℕ, zero, suc, ◌+◌, ◌-◌, ◌%◌, ◌<◌, List, [], ◌∷◌, ◌++◌, refl, ap, sym, ◌∙◌, arith, add-one}
+use Rattle.std.proofs.Common.{◌≡◌, ℕ, zero, suc, ◌+◌, ◌-◌, ◌%◌, ◌<◌, List, ◌++◌, refl, ap, sym, ◌∙◌, arith, add-one, append_assoc}
 use Rattle.sc_generate.specs.Draws.{drawn, next}
 use Rattle.sc_generate.specs.Generated.{after, asks, runs, steps}
 use Rattle.sc_generate.specs.Lines.{ask_line, run_line, step_line}
 
-appended : (a b c : List ℕ) → (a ++ b) ++ c ≡ a ++ (b ++ c)
-appended [] b c = refl
-appended (x ∷ a) b c = ap (λ (bs : List ℕ). x ∷ bs) (appended a b c)
-
 -- a text that grew by what stood first in the rest
 grown : (text more line before rest whole : List ℕ) → text ++ before ≡ whole → before ≡ line ++ rest → more ≡ text ++ line → more ++ rest ≡ whole
-grown text more line before rest whole e first is = ap (λ (bs : List ℕ). bs ++ rest) is ∙ appended text line rest ∙ ap (λ (bs : List ℕ). text ++ bs) (sym first) ∙ e
+grown text more line before rest whole e first is = ap (λ (bs : List ℕ). bs ++ rest) is ∙ append_assoc text line rest ∙ ap (λ (bs : List ℕ). text ++ bs) (sym first) ∙ e
 
 runs_step : (count key : ℕ) → key < count → runs (count - key) key ≡ run_line key ++ runs (count - (key + 1)) (key + 1)
 runs_step count key lt = let e : count - key ≡ suc (count - suc key) = omega arith in rw (add-one, e) refl
