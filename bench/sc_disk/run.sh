@@ -11,7 +11,7 @@ scratch=${SCRATCH:-${TMPDIR:-/tmp}/sc_disk_bench}
 
 # A repository of its own, since a benchmark's source is no crate of this one.
 mkdir -p "$scratch/crates/disk_bench/src"
-for crate in sc_entry sc_lru sc_disk sc_host_disk; do
+for crate in sc_entry sc_lru sc_disk sc_command sc_host; do
     rm -rf "$scratch/crates/$crate/src" "$scratch/crates/$crate/specs" "$scratch/crates/$crate/proofs"
     mkdir -p "$scratch/crates/$crate"
     for part in src specs proofs; do
@@ -23,8 +23,9 @@ cat >"$scratch/crates.txt" <<'END'
 sc_entry:
 sc_lru: indexmap std_collections
 sc_disk: sc_entry sc_lru indexmap slab memchr
-sc_host_disk: sc_entry sc_disk
-disk_bench: sc_entry sc_disk sc_host_disk anyhow
+sc_command: sc_entry indexmap
+sc_host: sc_entry sc_disk sc_command
+disk_bench: sc_entry sc_disk sc_host anyhow
 END
 # The program is proved before it is built, and runs once.
 (cd "$scratch/crates/disk_bench" && rt run) >"$scratch/build.log" 2>&1

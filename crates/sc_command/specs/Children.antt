@@ -2,7 +2,6 @@
 use Rattle.std.specs.Prelude.{◌≡◌, ℕ, Bool, false, List, [], Option, Some, None, Result, Ok, Err}
 use Rattle.std.specs.declared.process.ExitStatus.{ExitStatus}
 use Rattle.sc_command.specs.declared.output.Output.{Output}
-use Rattle.sc_command.specs.declared.refusal.CommandRefusal.{CommandRefusal}
 use Rattle.sc_command.specs.declared.refusal.CommandError.{CommandError}
 use Rattle.sc_command.specs.declared.refusal.CommandError.TheVariants.{NoMemory, Fault}
 
@@ -44,9 +43,3 @@ abbrev pub GivesOutput : {F : Type 0} → Content → Result Output (CommandErro
 GivesOutput c (Ok output) = (Some output.status ≡ c.ending) × (output.stdout ≡ c.stdout) × (output.stderr ≡ c.stderr)
 GivesOutput c (Err NoMemory) = Unit {0}
 GivesOutput c (Err (Fault fault)) = c.ending ≡ None
-
--- a fault was answered, for this refusal
-abbrev pub IsRefused : {A F : Type 0} → (F → CommandRefusal) → CommandRefusal → Result A (CommandError F) → Type 0
-IsRefused why refusal (Err (Fault fault)) = why fault ≡ refusal
-IsRefused why refusal (Err NoMemory) = ⊥
-IsRefused why refusal (Ok a) = ⊥

@@ -1,7 +1,5 @@
 pub mod Children
 pub mod Creating
-pub mod Mocks
-pub mod Programs
 pub mod Refusals
 pub mod Settings
 pub mod Spawning

@@ -1,5 +1,9 @@
-//! Tests of `sc_command`.
+//! Tests of `sc_command`, its mocks, and the workshop over them.
 #![tactic(auto)]
 
 #[cfg(test)]
-mod command;
+mod mocks;
+#[cfg(test)]
+mod tokens;
+#[cfg(test)]
+mod workshop;

@@ -1,7 +1,4 @@
-pub mod Cuts
-pub mod Goods
+pub mod Keeping
 pub mod Making
 pub mod Named
-pub mod Naming
-pub mod Objects
 pub mod Outputs

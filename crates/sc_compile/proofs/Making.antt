@@ -2,7 +2,7 @@
 use Rattle.std.proofs.Common.{◌≡◌, ℕ, Bool, true, false, List, Option, Some, None, refl, ap, sym, ◌∙◌}
 use Rattle.std.proofs.Math.Bool.{Bool-set}
 use Rattle.sc_model.specs.declared.event.RunAnswer.{RunAnswer}
-use Rattle.sc_compile.specs.GoodNames.{is_good_answer}
+use Rattle.sc_model.specs.GoodNames.{is_good_answer}
 use Rattle.sc_compile.specs.Lines.{make_if}
 use Rattle.sc_compile.specs.declared.run_line.RunLine.{RunLine}
 

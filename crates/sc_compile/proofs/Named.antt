@@ -4,9 +4,9 @@ use Rattle.std.specs.Str.{bytes_eq, is_utf8}
 use Rattle.std.proofs.lemmas.List.{append-nil}
 use Rattle.sc_entry.specs.declared.object.FileObjectSource.{FileObjectSource}
 use Rattle.sc_model.specs.declared.message.Compile.{Compile}
-use Rattle.sc_compile.specs.GoodNames.{are_outputs}
-use Rattle.sc_compile.specs.Plain.{PlainArguments, arguments, arguments_after, arguments_of, first_of, has_key, is_new_name, flag, is_optional, key_found, output_of, output_onto, outputs_onto, placed_in, plain_key, with_options}
-use Rattle.sc_compile.specs.Words.{◌>>=◌, cut_at, only_if}
+use Rattle.sc_compile.specs.OutputNames.{are_outputs}
+use Rattle.sc_compile.specs.Plain.{PlainArguments, arguments, arguments_after, arguments_of, first_of, has_key, is_new_name, is_optional, key_found, output_of, output_onto, outputs_onto, placed_in, plain_key, with_options}
+use Rattle.sc_words.specs.Words.{◌>>=◌, cut_at, flag, only_if}
 use Rattle.sc_compile.specs.declared.first_word.FirstWord.{FirstWord}
 use Rattle.sc_compile.specs.declared.first_word.FirstWord.TheVariants.{Key, Cannot, Other}
 

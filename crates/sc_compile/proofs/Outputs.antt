@@ -3,7 +3,7 @@ use Rattle.std.proofs.Common.{◌≡◌, ℕ, ◌<◌, Bool, true, false, ◌||�
 use Rattle.std.specs.Str.{bytes_eq}
 use Rattle.sc_entry.specs.declared.object.FileObjectSource.{FileObjectSource}
 use Rattle.sc_compile.specs.Plain.{has_key, is_optional, output_of, outputs_onto}
-use Rattle.sc_compile.specs.Words.{Pops, word}
+use Rattle.sc_words.specs.Words.{Pops, word}
 
 either : (a b c : Bool) → (a || cond b true c) ≡ cond b true (a || c)
 either true true c = refl

@@ -1,14 +1,10 @@
 -- What a workshop over lines answers to a run.
 use Rattle.std.specs.Prelude.{ℕ, Bool, true, false, List, [], ◌∷◌, ◌++◌, Option, Some, None, codes}
 use Rattle.sc_entry.specs.declared.object.FileObjectSource.{FileObjectSource}
-use Rattle.sc_entry.specs.declared.object.Object.{Object}
-use Rattle.sc_model.specs.World.{first_missing}
-use Rattle.sc_model.specs.declared.event.Objects.{Objects}
-use Rattle.sc_model.specs.declared.event.Objects.TheVariants.{Broken, Collected}
+use Rattle.sc_model.specs.Collecting.{is_broken, output_with}
 use Rattle.sc_model.specs.declared.event.RunAnswer.{RunAnswer}
 use Rattle.sc_model.specs.declared.event.RunAnswer.TheVariants.{Fault, Output, ProcessError}
-use Rattle.sc_model.specs.declared.event.RunOutput.{RunOutput}
-use Rattle.sc_table.specs.Books.{next_value}
+use Rattle.sc_compile_table.specs.Books.{next_value}
 use Rattle.sc_compile.specs.declared.run_line.RunLine.{RunLine}
 
 -- what was run, under which key, and what it answered
@@ -18,19 +14,6 @@ Runs = List (List ℕ × RunAnswer)
 -- the line that the next run under a key takes: each takes the key's next line, and those behind the last take the last
 abbrev pub next_line : List RunLine → List ℕ → Runs → Option RunLine
 next_line lines key runs = next_value (λ (l : RunLine). l.key) key lines runs
-
--- a required output that isn't there takes the place of the objects
-abbrev pub collected : List Object → Option (List ℕ) → Objects
-collected os None = Collected os
-collected os (Some name) = Broken (codes "failed to zip up compiler outputs" ∷ (codes "failed to open file " ++ name) ∷ [])
-
-abbrev pub collected_from : List FileObjectSource → Objects → Objects
-collected_from outputs (Collected os) = collected os (first_missing (Some os) outputs)
-collected_from outputs (Broken chain) = Broken chain
-
--- a run's output, of which these outputs are wanted
-abbrev pub output_with : List FileObjectSource → RunOutput → RunOutput
-output_with outputs out = record { output = out.output; objects = collected_from outputs out.objects }
 
 abbrev pub with_outputs : List FileObjectSource → RunAnswer → RunAnswer
 with_outputs outputs (Output out) = Output (output_with outputs out)
@@ -55,10 +38,6 @@ told_answer (Some lines) key None outputs = None
 told_answer (Some lines) key (Some runs) outputs = Some (script_answer lines key runs outputs)
 
 -- an answer that is a fault, or has a chain in place of objects
-abbrev pub is_broken : Objects → Bool
-is_broken (Collected os) = false
-is_broken (Broken chain) = true
-
 abbrev pub is_fault : RunAnswer → Bool
 is_fault (Output out) = is_broken out.objects
 is_fault (ProcessError out) = false

@@ -3,7 +3,7 @@ use Rattle.std.specs.Prelude.{ℕ, List, Option, Some, None, option_map}
 use Rattle.sc_model.specs.declared.event.KeyFound.{KeyFound}
 use Rattle.sc_model.specs.declared.event.KeyStep.{KeyStep}
 use Rattle.sc_model.specs.declared.event.KeyStep.TheVariants.{Fault as StepFault, Key, ProcessError as StepError}
-use Rattle.sc_table.specs.Tables.{first_of}
+use Rattle.sc_compile_table.specs.Tables.{first_of}
 use Rattle.sc_compile.specs.declared.key_line.KeyLine.{KeyLine}
 use Rattle.sc_compile.specs.declared.key_line.KeyRefusal.{KeyRefusal}
 use Rattle.sc_compile.specs.declared.key_line.KeyRefusal.TheVariants.{Fault, ProcessError}

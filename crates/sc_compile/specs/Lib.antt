@@ -1,11 +1,11 @@
 pub mod Answers
 pub mod Commands
-pub mod GoodNames
+pub mod Kept
 pub mod KeySteps
 pub mod Lines
 pub mod Names
+pub mod OutputNames
 pub mod Placings
 pub mod Plain
 pub mod Shop
 pub mod Tools
-pub mod Words

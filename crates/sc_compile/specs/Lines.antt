@@ -1,7 +1,7 @@
 -- A line of a script, made of its key and its answer.
 use Rattle.std.specs.Prelude.{◌≡◌, ℕ, Bool, true, false, List, Option, Some, None, refl}
 use Rattle.sc_model.specs.declared.event.RunAnswer.{RunAnswer}
-use Rattle.sc_compile.specs.GoodNames.{is_good_answer}
+use Rattle.sc_model.specs.GoodNames.{is_good_answer}
 use Rattle.sc_compile.specs.declared.run_line.RunLine.{RunLine}
 
 abbrev pub make_if : (key : List ℕ) (answer : RunAnswer) (good : Bool) → is_good_answer answer ≡ good → Option RunLine

@@ -2,19 +2,19 @@
 -- order, or `--cannot WHY [EXTRA]`.
 use Rattle.std.specs.Prelude.{ℕ, ◌-◌, Bool, true, false, not, ◌&&◌, ◌||◌, ◌==◌, if◌then◌else◌, nat_lt, List, [], ◌∷◌, ◌++◌, length, take, map, Option, Some, None, codes, slice_index_or, unwrap_or}
 use Rattle.std.specs.Str.{bytes_eq, is_utf8}
-use Rattle.sc_entry.specs.Entries.{is_object_name}
 use Rattle.sc_entry.specs.declared.object.FileObjectSource.{FileObjectSource}
-use Rattle.sc_language.specs.Extensions.{language_of_file}
-use Rattle.sc_language.specs.declared.compiler_kind.CompilerKind.{CompilerKind}
+use Rattle.sc_compile_language.specs.Extensions.{language_of_file}
+use Rattle.sc_compile_language.specs.declared.compiler_kind.CompilerKind.{CompilerKind}
+use Rattle.sc_model.specs.GoodNames.{is_output_name}
 use Rattle.sc_model.specs.declared.event.KeyFound.{KeyFound}
-use Rattle.sc_language.specs.declared.language.Language.{Language}
-use Rattle.sc_language.specs.declared.language.Language.TheVariants.{C}
+use Rattle.sc_compile_language.specs.declared.language.Language.{Language}
+use Rattle.sc_compile_language.specs.declared.language.Language.TheVariants.{C}
 use Rattle.sc_model.specs.declared.event.Parsed.{Parsed}
 use Rattle.sc_model.specs.declared.event.Parsed.TheVariants.{CannotCache, NotCompile, Started}
 use Rattle.sc_model.specs.declared.message.Compile.{Compile}
 use Rattle.sc_compile.specs.declared.first_word.FirstWord.{FirstWord}
 use Rattle.sc_compile.specs.declared.first_word.FirstWord.TheVariants.{Key, Cannot, Other}
-use Rattle.sc_compile.specs.Words.{◌>>=◌, only_if, Reader, word, cut_at}
+use Rattle.sc_words.specs.Words.{◌>>=◌, only_if, Reader, word, cut_at, flag}
 
 -- what the words say: the key, whether the source is preprocessed here, whether a run of it may be stored, the outputs with their
 -- paths as given, and the words for the compiler
@@ -24,14 +24,6 @@ pub record PlainArguments : Type 0 where
   pub cacheable : Bool
   pub outputs : List FileObjectSource
   pub words : List (List ℕ)
-
--- the names of what a compiler writes to its two streams
-abbrev pub is_stream : List ℕ → Bool
-is_stream name = bytes_eq name (codes "stdout") || bytes_eq name (codes "stderr")
-
--- the name of an output: that of an object, and of no stream
-abbrev pub is_output_name : List ℕ → Bool
-is_output_name name = is_object_name name && not (is_stream name)
 
 abbrev pub has_key : List ℕ → List FileObjectSource → Bool
 has_key name [] = false
@@ -63,11 +55,6 @@ abbrev mutual
   pub output_onto : Bool → List FileObjectSource → Reader (List FileObjectSource)
   output_onto optional before [] = None
   output_onto optional before (w ∷ ws) = output_of optional before w >>= (λ o. outputs_onto optional (before ++ o ∷ []) ws)
-
--- whether the next word is this one, and the words behind it then
-abbrev pub flag : List ℕ → List (List ℕ) → Bool × List (List ℕ)
-flag name [] = (false, [])
-flag name (w ∷ ws) = if bytes_eq w name then (true, ws) else (false, w ∷ ws)
 
 abbrev pub with_outputs : List ℕ → Bool → Bool × List (List ℕ) → Option PlainArguments
 with_outputs key dep unstored =
@@ -168,10 +155,6 @@ pretty_of (Some a) = first_path a.outputs
 -- The first output's path as given, or nothing.
 abbrev pub plain_pretty : Compile → List ℕ
 plain_pretty c = pretty_of (arguments c.args)
-
--- A notification begins with `note:`.
-abbrev pub is_note : List ℕ → Bool
-is_note line = bytes_eq (take 5 line) (codes "note:")
 
 abbrev pub words_for : Option PlainArguments → List (List ℕ)
 words_for None = []

@@ -1,14 +1,11 @@
--- What a table of tools answers on a path, and what compilers behind such a table tell.
-use Rattle.std.specs.Prelude.{ℕ, Bool, ◌==◌, List, Option, Some, None, codes, slice_index_or, option_map}
-use Rattle.sc_language.specs.Languages.{lang_comp_kind, lang_kind}
-use Rattle.sc_model.specs.Script.{Compilers}
+-- What a table of tools answers on a path, and what compilers behind such a table tell of a compile.
+use Rattle.std.specs.Prelude.{ℕ, List, Option, Some, None, codes, option_map}
 use Rattle.sc_model.specs.declared.event.KeyStep.{KeyStep}
 use Rattle.sc_model.specs.declared.event.Parsed.{Parsed}
 use Rattle.sc_model.specs.declared.event.Parsed.TheVariants.{Unsupported}
-use Rattle.sc_model.specs.declared.message.ColorMode.TheVariants.{Auto}
 use Rattle.sc_model.specs.declared.message.Compile.{Compile}
-use Rattle.sc_table.specs.Tables.{first_of}
-use Rattle.sc_compile.specs.Plain.{PlainArguments, arguments, is_note, plain_key, plain_parsed, plain_pretty}
+use Rattle.sc_compile_table.specs.Tables.{first_of}
+use Rattle.sc_compile.specs.Plain.{PlainArguments, arguments, plain_key, plain_parsed}
 use Rattle.sc_compile.specs.KeySteps.{refusal_of, step_by}
 use Rattle.sc_compile.specs.declared.key_line.KeyLine.{KeyLine}
 use Rattle.sc_compile.specs.declared.tool.Detected.{Detected}
@@ -54,20 +51,3 @@ key_told lines c (Some a) = Some (step_by (plain_key c) (refusal_of lines (plain
 abbrev pub told_key : Option (List KeyLine) → Compile → Option KeyStep
 told_key None c = None
 told_key (Some lines) c = key_told lines c (arguments c.args)
-
--- a preprocessor entry is valid where its first byte is `P`
-abbrev pub begins_with_p : List ℕ → Bool
-begins_with_p bytes = slice_index_or bytes 0 0 == 80
-
--- What plain compilers behind a table tell, whose key steps are refused by these lines.
-abbrev pub plain_compilers : Option (List Tool) → Option (List KeyLine) → Compilers
-plain_compilers table lines = record {
-  reads = λ c. reading table c;
-  keys = λ c control. told_key lines c;
-  color = λ c. Auto;
-  pretty = λ c. plain_pretty c;
-  is_note = λ c line. is_note line;
-  is_valid = begins_with_p;
-  kind_text = λ task. lang_kind task.language;
-  full_text = λ task. lang_comp_kind task.kind task.language;
-}

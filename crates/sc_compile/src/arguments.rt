@@ -3,13 +3,14 @@
 ghost use Rattle.std.specs.Prelude.{◌≡◌, ◌++◌, ◌∷◌, [], IfOk, length, string_bytes, List, ℕ, false};
 ghost use Rattle.std.specs.Option.{option_map};
 ghost use Rattle.std.specs.Str.{is_utf8};
-ghost use Rattle.sc_compile.specs.Words.{Means, MeansBy, Reads, only_if};
-ghost use Rattle.sc_compile.specs.Plain.{arguments_of, is_optional, is_output_name, is_stream, is_new_name, output_of, outputs_onto};
+ghost use Rattle.sc_compile.specs.Plain.{arguments_of, is_optional, is_new_name, output_of, outputs_onto};
 ghost use Rattle.sc_compile.specs.Names.{HasNames};
+ghost use Rattle.sc_model.specs.GoodNames.{is_output_name};
+ghost use Rattle.sc_words.specs.Words.{Means, MeansBy, Reads, only_if};
 
-use crate::words::{Words, cut};
-use crate::words_error::WordsError;
 use sc_entry::{ByteText, FileObjectSource, Items, Text};
+use sc_model::is_stream;
+use sc_words::{Words, WordsError, cut};
 use std::alloc::Global;
 use std::collections::BTreeSet;
 use std::marker::Model;
@@ -46,12 +47,6 @@ pub fn text_of(bytes: &[u8]) -> Option<&str>
     }
 }
 
-fn is_stream(name: &[u8]) -> bool
-    ensures { result ≡ is_stream name.now }
-{
-    name == b"stdout".as_slice() || name == b"stderr".as_slice()
-}
-
 /// The bytes as the name of an output.
 fn output_name(bytes: &[u8]) -> Option<&str>
     ensures { option_map (λ t. t.now) result ≡ only_if (is_output_name bytes.now) bytes.now }
@@ -62,16 +57,6 @@ fn output_name(bytes: &[u8]) -> Option<&str>
     match text_of(bytes) {
         Some(name) => Some(name),
         None => None,
-    }
-}
-
-/// Whether the bytes are the name of an output.
-pub fn is_output_name(bytes: &[u8]) -> bool
-    ensures { result ≡ is_output_name bytes.now }
-{
-    match output_name(bytes) {
-        Some(_) => true,
-        None => false,
     }
 }
 

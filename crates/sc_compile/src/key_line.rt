@@ -2,9 +2,9 @@
 
 ghost use Rattle.std.specs.Prelude.{◌≡◌};
 
+use sc_compile_table::Keyed;
 use sc_entry::{ByteText, Items, Text};
 use sc_model::Output;
-use sc_table::Keyed;
 use std::alloc::AllocError;
 
 /// Why a key step gives no key.

@@ -1,10 +1,10 @@
 //! What a script says of placings.
 
 ghost use Rattle.std.specs.Prelude.{◌≡◌, true};
-ghost use Rattle.sc_compile.specs.GoodNames.{is_chain};
+ghost use Rattle.sc_model.specs.GoodNames.{is_chain};
 
+use sc_compile_table::Keyed;
 use sc_entry::{ByteText, Items, Text};
-use sc_table::Keyed;
 
 /// A line of a script that says why the placings under a key fail. Its chain has at least one text.
 #[derive(Drop)]

@@ -2,14 +2,16 @@
 
 ghost use Rattle.std.specs.Prelude.{◌≡◌, ◌==◌, ◌-◌, ◌∷◌, [], IfOk, length, map, slice_index_or, ℕ, List};
 ghost use Rattle.sc_compile.specs.Commands.{plain_command};
-ghost use Rattle.sc_compile.specs.Plain.{arguments, arguments_of, as_folder, bad_arguments, cannot_of, first_of, first_path, is_note, joined, language_in, placed_in, plain_key, plain_parsed, plain_pretty, words_for};
+ghost use Rattle.sc_compile.specs.Plain.{arguments, arguments_of, as_folder, bad_arguments, cannot_of, first_of, first_path, joined, language_in, placed_in, plain_key, plain_parsed, plain_pretty, words_for};
+ghost use Rattle.sc_model.specs.Notes.{is_note};
 
 use crate::arguments::{Arguments, read_arguments, text_of};
-use crate::command::SingleCompileCommand;
 use crate::first_word::FirstWord;
-use crate::words_error::WordsError;
 use sc_entry::{ByteText, FileObjectSource, Items, NoMemory, Text};
-use sc_model::{Compile, CompilerKind, KeyFound, Language, Parsed, Task};
+use sc_model::{
+    Compile, CompilerKind, KeyFound, Language, Parsed, SingleCompileCommand, Task, is_notification,
+};
+use sc_words::WordsError;
 use std::alloc::Global;
 
 /// A compiler whose words name its key and its outputs: `--key KEY [--dep] [--no-store] [--out NAME=PATH]..
@@ -271,6 +273,6 @@ impl PlainCompiler {
     pub fn is_notification(line: &[u8]) -> bool
         ensures { result ≡ is_note line.now }
     {
-        line.starts_with(b"note:")
+        is_notification(line)
     }
 }

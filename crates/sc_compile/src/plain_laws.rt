@@ -2,7 +2,7 @@
 
 ghost use Rattle.std.specs.Prelude.{◌≡◌, [], true};
 ghost use Rattle.sc_model.specs.declared.message.Compile.{Compile};
-ghost use Rattle.sc_compile.specs.GoodNames.{are_outputs};
+ghost use Rattle.sc_compile.specs.OutputNames.{are_outputs};
 ghost use Rattle.sc_compile.specs.Plain.{plain_key};
 
 /// The outputs that a compile's words name are at most 65,532, with distinct names of 1 to 65,535 bytes of UTF-8, none

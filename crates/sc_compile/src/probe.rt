@@ -9,8 +9,8 @@ ghost use Rattle.sc_compile.specs.declared.tool.Tool.{Tool};
 
 use crate::key_line::{KeyLine, KeyRefusal};
 use crate::tool::{Detected, Tool, ToolKind};
+use sc_compile_table::Table;
 use sc_entry::{ByteText, NoMemory, Text};
-use sc_table::Table;
 use std::alloc::Global;
 
 /// What finds compilers. It has no faults.

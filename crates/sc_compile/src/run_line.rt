@@ -1,12 +1,11 @@
 //! What a script says of runs.
 
 ghost use Rattle.std.specs.Prelude.{◌≡◌, true, IfOk};
-ghost use Rattle.sc_compile.specs.GoodNames.{is_good_answer};
+ghost use Rattle.sc_model.specs.GoodNames.{is_good_answer};
 
-use crate::good_names::is_good_answer;
+use sc_compile_table::Keyed;
 use sc_entry::{ByteText, NoMemory};
-use sc_model::RunAnswer;
-use sc_table::Keyed;
+use sc_model::{RunAnswer, is_good_answer};
 use std::alloc::Global;
 
 /// A line of a script that says what a run under a key answers. Its objects are fewer than 65,533, with distinct names of

@@ -2,19 +2,18 @@
 
 ghost use Rattle.std.specs.Prelude.{◌≡◌, ◌≤◌, IfOk, IfSome, OnOk, OnErr, Some, true, length, option_map};
 ghost use Rattle.sc_compile.specs.Answers.{script_answer};
-ghost use Rattle.sc_compile.specs.GoodNames.{is_chain, is_good_answer};
+ghost use Rattle.sc_model.specs.GoodNames.{is_chain, is_good_answer};
 ghost use Rattle.sc_compile.specs.Placings.{refusal_at};
 ghost use Rattle.sc_compile.specs.Shop.{after_placing, after_refusal, after_run, new_shop};
 
-use crate::collecting::{copied, is_fault, no_answer, with_outputs};
-use crate::command::SingleCompileCommand;
+use crate::answers::{copied, is_fault, no_answer, with_outputs};
 use crate::place_line::PlaceLine;
 use crate::placement::Placement;
 use crate::run_line::RunLine;
 use crate::workshop::Workshop;
+use sc_compile_table::{Book, Table};
 use sc_entry::{ByteText, FileObjectSource, Items, NoMemory, Text};
-use sc_model::RunAnswer;
-use sc_table::{Book, Table};
+use sc_model::{RunAnswer, SingleCompileCommand};
 use std::alloc::Global;
 use std::marker::Model;
 

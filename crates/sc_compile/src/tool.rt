@@ -1,8 +1,8 @@
 //! The tools of a table.
 
+use sc_compile_table::Keyed;
 use sc_entry::{ByteText, Text};
 use sc_model::CompilerKind;
-use sc_table::Keyed;
 
 /// What a tool is.
 #[derive(Clone, Copy)]

@@ -5,14 +5,13 @@ ghost use Rattle.sc_entry.specs.Causes.{IfTold};
 ghost use Rattle.sc_model.specs.World.{Place, RunCause, and_one};
 ghost use Rattle.sc_model.specs.declared.event.RunAnswer.{RunAnswer};
 ghost use Rattle.sc_compile.specs.Answers.{told_answer};
-ghost use Rattle.sc_compile.specs.GoodNames.{is_good_answer};
+ghost use Rattle.sc_model.specs.GoodNames.{is_good_answer};
 ghost use Rattle.sc_compile.specs.Placings.{Places, told_refusal};
 ghost use Rattle.sc_compile.specs.declared.place_line.PlaceLine.{PlaceLine};
 ghost use Rattle.sc_compile.specs.declared.run_line.RunLine.{RunLine};
 
-use crate::command::SingleCompileCommand;
 use sc_entry::{ByteText, FileObjectSource, Items, NoMemory, Text};
-use sc_model::RunAnswer;
+use sc_model::{RunAnswer, SingleCompileCommand};
 use std::alloc::Global;
 
 /// What runs compilers, and places what an entry holds.

@@ -2,8 +2,8 @@
 use Rattle.std.proofs.Common.{◌≡◌, ℕ, zero, suc, ◌+◌, List, [], ◌∷◌, ◌++◌, refl, sym, ap, ◌∙◌, add-one}
 use Rattle.sc_daemon.specs.Daemons.{IsIdleDaemon, new_daemon}
 use Rattle.sc_daemon.specs.Drives.{lines_of}
-use Rattle.sc_owned.specs.Laws.{counters_of}
-use Rattle.sc_owned.specs.State.{State, reserved_in}
+use Rattle.sc_daemon_owned.specs.Laws.{counters_of}
+use Rattle.sc_daemon_owned.specs.State.{State, reserved_in}
 use Rattle.sc_daemon.specs.Lines.{Line, new_line}
 
 lines_suc : (limit n : ℕ) → lines_of limit n ++ new_line limit ∷ [] ≡ lines_of limit (suc n)

@@ -1,21 +1,22 @@
 -- A served event that was counted.
 use Rattle.std.proofs.Common.{◌≡◌, ℕ, ◌+◌, ◌≤◌, ◌++◌, true, false, length, Result, Ok, Err, refl, sym, ap, ◌∙◌, subst, arith}
 use Rattle.std.specs.Prelude.{IfOk, IsOk, OnOk}
-use Rattle.sc_action.specs.Telling.{SaysCounted}
+use Rattle.sc_daemon_action.specs.Telling.{SaysCounted}
 use Rattle.sc_daemon.specs.Backlogs.{fresh_writes}
 use Rattle.sc_daemon.specs.Daemons.{Kept, ServesEvent, kept_after}
 use Rattle.sc_daemon.specs.Lines.{Line, conn_of}
 use Rattle.sc_daemon.specs.Turns.{Serves_one}
-use Rattle.sc_job.specs.Setups.{Config, setup}
+use Rattle.sc_daemon_job.specs.Setups.{setup}
 use Rattle.sc_model.specs.Machine.{counted_level, current, free_after, need_at, pend}
 use Rattle.sc_model.specs.Rows.{Direct, count, level_row, row, zeroes}
 use Rattle.sc_model.specs.Trace.{hands}
 use Rattle.sc_model.specs.declared.event.Owner.TheVariants.{Request as OfRequest}
 use Rattle.sc_model.specs.declared.event.What.{What}
 use Rattle.sc_model.specs.declared.event.What.TheVariants.{Asked, Began, Closed, Committed, Dist, Filled, Idle, Keyed, Outcome, Passed, Placed, Ran, Reserved, Sent, Taken, TokenTaken, TooLong, WriteEnded, Wrote}
-use Rattle.sc_owned.specs.Moving.{OwnedMoves}
-use Rattle.sc_owned.specs.State.{State, disk_at}
+use Rattle.sc_daemon_owned.specs.Moving.{OwnedMoves}
+use Rattle.sc_daemon_owned.specs.State.{State, disk_at}
 use Rattle.sc_stats.specs.declared.counters.ServerStats.{ServerStats}
+use Rattle.sc_daemon_owned.specs.Facts.{DaemonFacts, config_of}
 
 err_ok : false ≡ true → ⊥
 err_ok e = absurd (cc)
@@ -58,13 +59,13 @@ free_most n (Sent a) = omega arith
 free_most n (TooLong a) = omega arith
 
 pub serves_event : (c j moment last reserved : ℕ) (x : What) (d d2 : Kept) (state2 : State) (stats2 : ServerStats) (old new : Line) → j ≡ old.at → moment ≡ d.state.world.moment → last ≡ old.last → reserved ≡ old.reserved
-    → Serves_one d.state.config (disk_at d.state) (disk_at state2) d.state.world.moment d.free x old new → SaysCounted d.state.config.policy d.stats d.levels x
-    → OwnedMoves d.state (need_at (setup d.state.config) (current (conn_of old)) old.phase) x state2 → state2.config ≡ d.state.config
-    → stats2 ≡ count (zeroes x) d.stats (row (setup d.state.config) (current (conn_of old)) old.outcome d.state.world.moment x)
+    → Serves_one (config_of d.state.config) (disk_at d.state) (disk_at state2) d.state.world.moment d.free x old new → SaysCounted d.state.config.policy d.stats d.levels x
+    → OwnedMoves d.state (need_at (setup (config_of d.state.config)) (current (conn_of old)) old.phase) x state2 → state2.config ≡ d.state.config
+    → stats2 ≡ count (zeroes x) d.stats (row (setup (config_of d.state.config)) (current (conn_of old)) old.outcome d.state.world.moment x)
     → d2 ≡ kept_after (record d { state = state2; stats = stats2 }) last reserved moment x
     → ServesEvent c (record { moment = moment; owner = OfRequest c j; what = x }) d d2 old new
 serves_event c j moment last reserved x d d2 state2 stats2 old new number now at since one says moves same counted is_d2 =
-    let k = d.state.config in
+    let k = config_of d.state.config in
     record {
       moment = now;
       serves = (
@@ -77,7 +78,7 @@ serves_event c j moment last reserved x d d2 state2 stats2 old new number now at
           config = ap (λ (e : Kept). e.state.config) is_d2 ∙ same;
           free = ap (λ (e : Kept). e.free) is_d2;
           levels = ap (λ (e : Kept). e.levels) is_d2
-              ∙ ap (λ (f : Config). counted_level f.policy (level_row Direct last reserved moment x) x d.levels) same
+              ∙ ap (λ (f : DaemonFacts). counted_level f.policy (level_row Direct last reserved moment x) x d.levels) same
               ∙ ap (λ (n : ℕ). counted_level k.policy (level_row Direct n reserved moment x) x d.levels) at
               ∙ ap (λ (n : ℕ). counted_level k.policy (level_row Direct old.last n moment x) x d.levels) since
               ∙ ap (λ (n : ℕ). counted_level k.policy (level_row Direct old.last old.reserved n x) x d.levels) now;

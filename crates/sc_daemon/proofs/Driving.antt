@@ -4,15 +4,15 @@ use Rattle.std.specs.Prelude.{IfOk}
 use Rattle.std.proofs.Math.Seq.{drop-cons}
 use Rattle.std.proofs.lemmas.Bool.{ltb-true}
 use Rattle.std.proofs.lemmas.List.{append-nil, length-map, reverse-append}
-use Rattle.sc_conn.specs.Ends.{end_of}
+use Rattle.sc_wire_conn.specs.Ends.{end_of}
 use Rattle.sc_daemon.specs.Backlogs.{AreNumbered, ArePending, Write, pending_of}
 use Rattle.sc_daemon.specs.Daemons.{IsIdleDaemon, Kept, anew, machine_of, script_of}
 use Rattle.sc_daemon.specs.Drives.{AreAt, IsScriptOf, Progress, StepsOn, Tied, TiesWrites, line_end, lines_of, result_of}
 use Rattle.sc_daemon.specs.Lines.{Line, conn_of, line_hand, new_line}
 use Rattle.sc_daemon.specs.Ties.{Owners, TiesHand}
 use Rattle.sc_daemon.specs.declared.driven.Driven.{Driven}
-use Rattle.sc_disk_cache.specs.DiskStores.{DiskStore}
-use Rattle.sc_job.specs.Setups.{Config, setup}
+use Rattle.sc_store_disk.specs.DiskStores.{DiskStore}
+use Rattle.sc_daemon_job.specs.Setups.{Config, setup}
 use Rattle.sc_model.proofs.Streams.{reads_on}
 use Rattle.sc_model.specs.Headline.{Headline, Result_of_run}
 use Rattle.sc_model.specs.Machine.{Conn, IsIdle, Machine, Runs, end_at, new_conn, result_of_run, shown_levels}
@@ -23,10 +23,11 @@ use Rattle.sc_model.specs.declared.event.Owner.TheVariants.{Request as OfRequest
 use Rattle.sc_model.specs.declared.event.Step.{Step}
 use Rattle.sc_model.specs.declared.level.Handed.{Handed}
 use Rattle.sc_model.specs.declared.phase.Pending.{Pending}
-use Rattle.sc_owned.specs.Laws.{one_level, within_limits}
-use Rattle.sc_owned.specs.State.{State, disk_at, reserved_in}
+use Rattle.sc_daemon_owned.specs.Laws.{one_level, within_limits}
+use Rattle.sc_daemon_owned.specs.State.{State, disk_at, reserved_in}
 use Rattle.sc_wire.specs.Requests.{read_served}
 use Rattle.sc_wire.specs.Streams.{served_reader}
+use Rattle.sc_daemon_owned.specs.Facts.{DaemonFacts, config_of}
 
 new_conns : (limit n c : ℕ) → get_or (map conn_of (lines_of limit n)) c new_conn ≡ new_conn
 new_conns limit zero c = refl
@@ -72,8 +73,8 @@ idle_anew d idle = record { free = idle.free; levels = idle.levels; background =
 -- nothing is held before the first step
 tied_first : (d : Kept) (n : ℕ) → IsIdleDaemon d → Tied d (lines_of d.state.config.limit n) []
 tied_first d n idle = record {
-  at = at_first d.state.config (disk_at d.state) n;
-  pending = subst (ArePending d.state.config (disk_at d.state)) (sym idle.background) tt;
+  at = at_first (config_of d.state.config) (disk_at d.state) n;
+  pending = subst (ArePending (config_of d.state.config) (disk_at d.state)) (sym idle.background) tt;
   numbers = subst (AreNumbered 0 d.handed) (sym idle.background) tt;
   owns = no_owner;
   reserved = λ l. sym (idle.reserved l);
@@ -99,10 +100,10 @@ begins d inputs steps events lines idle told no_events first =
 
 -- one step more
 pub goes_on : (d0 d d2 : Kept) (inputs : List (List ℕ)) (steps rest : List Step) (p : Step) (events events2 : List Event) (lines lines2 : List Line) → Progress d0 d inputs steps (p ∷ rest) events lines
-    → StepsOn d.state.config inputs p events events2 d d2 lines lines2 → Progress d0 d2 inputs steps rest events2 lines2
+    → StepsOn (config_of d.state.config) inputs p events events2 d d2 lines lines2 → Progress d0 d2 inputs steps rest events2 lines2
 goes_on d0 d d2 inputs steps rest p events events2 lines lines2 before on =
     let s = script_of d0 inputs in
-    let of : IsScriptOf s d.state.config inputs = record { of_setup = ap setup (sym before.config); of_reader = ap (λ (k : Config). served_reader k.limit) (sym before.config); of_inputs = refl } in
+    let of : IsScriptOf s (config_of d.state.config) inputs = record { of_setup = ap (λ (f : DaemonFacts). setup (config_of f)) (sym before.config); of_reader = ap (λ (f : DaemonFacts). served_reader f.limit) (sym before.config); of_inputs = refl } in
     let step = on.steps s before.opens of before.tied in
     let m0 = machine_of d0 (lines_of d0.state.config.limit (length inputs)) [] in
     let opens2 = reserved_by on.event.owner on.event.what before.opens in
@@ -149,14 +150,14 @@ headline every d0 d inputs steps left events lines driven idle first progress no
     let s = script_of d0 inputs in
     let m = machine_of d lines progress.opens in
     let all : progress.done ≡ steps = sym (append-nil progress.done) ∙ ap (λ (l : List Step). progress.done ++ l) (sym none) ∙ progress.split in
-    let reads : s.reader ≡ served_reader d.state.config.limit = ap (λ (k : Config). served_reader k.limit) (sym progress.config) in
+    let reads : s.reader ≡ served_reader d.state.config.limit = ap (λ (f : DaemonFacts). served_reader f.limit) (sym progress.config) in
     let same : result_of_run s m ≡ result_of d driven =
     (λ i. record {
       stats = d.stats;
-      level_stats = ap (λ (k : Config). shown_levels k.policy d.levels) (sym progress.config) i;
+      level_stats = ap (λ (f : DaemonFacts). shown_levels f.policy d.levels) (sym progress.config) i;
       background = (all_handed d.background ∙ sym back) i;
       free = d.free;
-      ends = (end_lines s d.state.config (disk_at d.state) lines reads progress.tied.at ∙ sym ends) i;
+      ends = (end_lines s (config_of d.state.config) (disk_at d.state) lines reads progress.tied.at ∙ sym ends) i;
       out = (sent_lines lines ∙ sym sent) i;
     }) in
     subst (λ (r : Result_of_run). Headline s d0.state.world (reverse steps) (reverse driven.trace) d.state.world r) same
@@ -199,7 +200,7 @@ pub next_step : (steps : List Step) (i : ℕ) (p : Step) → i < length steps �
 next_step steps i p lt = drop-cons steps i p lt ∙ ap (λ (n : ℕ). get_or steps i p ∷ drop n steps) (sym (add-one i))
 
 pub goes_by : (d0 d d2 : Kept) (inputs : List (List ℕ)) (steps left rest : List Step) (p : Step) (events events2 : List Event) (lines lines2 : List Line) → left ≡ p ∷ rest → Progress d0 d inputs steps left events lines
-    → StepsOn d.state.config inputs p events events2 d d2 lines lines2 → Progress d0 d2 inputs steps rest events2 lines2
+    → StepsOn (config_of d.state.config) inputs p events events2 d d2 lines lines2 → Progress d0 d2 inputs steps rest events2 lines2
 goes_by d0 d d2 inputs steps left rest p events events2 lines lines2 is_left before on =
     goes_on d0 d d2 inputs steps rest p events events2 lines lines2 (subst (λ (l : List Step). Progress d0 d inputs steps l events lines) is_left before) on
 

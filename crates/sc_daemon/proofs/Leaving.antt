@@ -1,6 +1,6 @@
 -- What holds of the connections and writes of a daemon after a step.
 use Rattle.std.proofs.Common.{◌≡◌, ◌≢◌, ℕ, zero, suc, ◌+◌, ◌<◌, ◌≤◌, inl, inr, ◌⊎◌, Bool, true, false, List, [], ◌∷◌, ◌++◌, length, set, get_or, Option, Some, None, refl, sym, ap, ◌∙◌, subst, arith}
-use Rattle.sc_action.specs.Hands.{hand_of}
+use Rattle.sc_daemon_action.specs.Hands.{hand_of}
 use Rattle.sc_daemon.specs.Backlogs.{AreNumbered, ArePending, IsAtStage, IsPending, Write, fresh_writes, hand_in, put_write, with_write, write_at}
 use Rattle.sc_daemon.specs.Drives.{TiesWrites}
 use Rattle.sc_daemon.specs.Lines.{Line, conn_of, line_hand}
@@ -8,9 +8,9 @@ use Rattle.sc_daemon.specs.Standings.{Rests, RestsAt}
 use Rattle.sc_daemon.specs.Ties.{IsThere, Owners, TiesHand}
 use Rattle.sc_daemon.proofs.Staying.{held_there}
 use Rattle.sc_disk.specs.Store.{AddEntry}
-use Rattle.sc_disk_cache.specs.DiskStores.{DiskStore}
-use Rattle.sc_hold.specs.Holding.{hand_at}
-use Rattle.sc_job.specs.Setups.{Config}
+use Rattle.sc_store_disk.specs.DiskStores.{DiskStore}
+use Rattle.sc_daemon_hold.specs.Holding.{hand_at}
+use Rattle.sc_daemon_job.specs.Setups.{Config}
 use Rattle.sc_model.specs.Follows.{bytes_in}
 use Rattle.sc_model.specs.Machine.{Conn, advanced, after, current, pend, settle, told_by}
 use Rattle.sc_model.specs.Script.{Setup}

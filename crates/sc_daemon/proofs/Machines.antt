@@ -1,13 +1,13 @@
 -- What a step of a drive is to the machine.
 use Rattle.std.proofs.Common.{◌≡◌, ℕ, zero, suc, ◌+◌, ◌<◌, ◌≤◌, ◌⊎◌, inl, inr, Bool, true, false, Some, refl, List, [], ◌∷◌, ◌++◌, length, take, drop, map, set, get_or, sym, ap, ◌∙◌, subst}
 use Rattle.std.proofs.lemmas.List.{get_or-map, length-map, map-append, map-set, set-get_or}
-use Rattle.sc_conn.proofs.Inboxes.{ends_are, more_is}
+use Rattle.sc_wire_conn.proofs.Inboxes.{ends_are, more_is}
 use Rattle.sc_daemon.specs.Backlogs.{Write, fresh_writes, pending_of, put_write, stepped, with_write, write_at}
 use Rattle.sc_daemon.specs.Daemons.{BacksAt, Kept, ReadsWhat, ServesAt, ServesWhat, idle_event, machine_of}
 use Rattle.sc_daemon.specs.Lines.{IsDone, Line, conn_of}
 use Rattle.sc_daemon.specs.Turns.{IsIdleLine, TakesMore}
 use Rattle.sc_daemon.proofs.Plain.{due_ended, due_takes, ended_due, says_counted, takes_due, ticked_own}
-use Rattle.sc_job.specs.Setups.{setup}
+use Rattle.sc_daemon_job.specs.Setups.{setup}
 use Rattle.sc_model.specs.Follows.{Fits, ToTake}
 use Rattle.sc_model.specs.Machine.{Conn, DoesBack, DoesRead, DoesServe, Machine, Says, advanced, backed, conn, counted_level, current, due_at, free_after, more, need_at, new_conn, pend, pending_after, pending_at, step_pending}
 use Rattle.sc_model.specs.Next.{Ended, at_moment, ticked}
@@ -21,8 +21,9 @@ use Rattle.sc_model.specs.declared.event.Owner.TheVariants.{Nobody, Request as O
 use Rattle.sc_model.specs.declared.event.What.{What}
 use Rattle.sc_model.specs.declared.event.What.TheVariants.{Closed, Idle, Taken}
 use Rattle.sc_model.specs.declared.phase.Pending.{Pending}
-use Rattle.sc_owned.specs.State.{reserved_in}
+use Rattle.sc_daemon_owned.specs.State.{reserved_in}
 use Rattle.sc_wire.specs.Streams.{served_reader}
+use Rattle.sc_daemon_owned.specs.Facts.{config_of}
 
 -- the connection of that number
 conn_at : (d : Kept) (lines : List Line) (opens : List Open) (c : ℕ) (l : Line) → c < length lines → conn (machine_of d lines opens) c ≡ conn_of (get_or lines c l)
@@ -60,9 +61,9 @@ fresh_pending (p ∷ ps) = ap (λ (qs : List Pending). p ∷ qs) (fresh_pending 
 
 -- all that the event leaves
 left_is : (c j : ℕ) (x : What) (d d2 : Kept) (lines : List Line) (opens : List Open) (old new : Line) → ServesAt c j x d d2 old new
-    → machine_of d2 (set lines c new) (reserved_by (OfRequest c old.at) x opens) ≡ served_by (setup d.state.config) (machine_of d lines opens) c (conn_of old) d.state.world.moment x d2.state.world
+    → machine_of d2 (set lines c new) (reserved_by (OfRequest c old.at) x opens) ≡ served_by (setup (config_of d.state.config)) (machine_of d lines opens) c (conn_of old) d.state.world.moment x d2.state.world
 left_is c j x d d2 lines opens old new at =
-    let s = setup d.state.config in
+    let s = setup (config_of d.state.config) in
     let z = d.state.world.moment in
     let more = pend (hands d.handed z x) in
     let conns = map-set conn_of lines c new ∙ ap (λ (k : Conn). set (map conn_of lines) c k) at.one.then in
@@ -81,9 +82,9 @@ left_is c j x d d2 lines opens old new at =
 
 served_does : (c e j : ℕ) (x : What) (d d2 : Kept) (lines : List Line) (opens : List Open) (l new : Line) → c < length lines → d.state.told ≡ true → ((n : ℕ) → reserved_at n opens ≡ reserved_in d.state n) → e ≡ c
     → ServesAt c j x d d2 (get_or lines c l) new
-    → DoesServe (setup d.state.config) (machine_of d lines opens) c d.state.world.moment (OfRequest e j) x (machine_of d2 (set lines c new) (reserved_by (OfRequest e j) x opens))
+    → DoesServe (setup (config_of d.state.config)) (machine_of d lines opens) c d.state.world.moment (OfRequest e j) x (machine_of d2 (set lines c new) (reserved_by (OfRequest e j) x opens))
 served_does c e j x d d2 lines opens l new lt told tied same at =
-    let s = setup d.state.config in
+    let s = setup (config_of d.state.config) in
     let m = machine_of d lines opens in
     let m2 = machine_of d2 (set lines c new) (reserved_by (OfRequest e j) x opens) in
     let old = get_or lines c l in
@@ -115,12 +116,12 @@ idle_by s free l (inr (some, takes, none)) = inr (some, takes_due s (current (co
 
 pub serve_does : (c z : ℕ) (o : Owner) (x : What) (d d2 : Kept) (lines : List Line) (opens : List Open) (l new : Line) → c < length lines → d.state.told ≡ true → ((n : ℕ) → reserved_at n opens ≡ reserved_in d.state n) → z ≡ d.state.world.moment
     → ServesWhat c o x d d2 (get_or lines c l) new
-    → DoesServe (setup d.state.config) (machine_of d lines opens) c z o x (machine_of d2 (set lines c new) (reserved_by o x opens))
+    → DoesServe (setup (config_of d.state.config)) (machine_of d lines opens) c z o x (machine_of d2 (set lines c new) (reserved_by o x opens))
 serve_does c z (OfRequest e j) x d d2 lines opens l new lt told tied now (same, at) =
-    subst (λ (n : ℕ). DoesServe (setup d.state.config) (machine_of d lines opens) c n (OfRequest e j) x (machine_of d2 (set lines c new) (reserved_by (OfRequest e j) x opens))) (sym now)
+    subst (λ (n : ℕ). DoesServe (setup (config_of d.state.config)) (machine_of d lines opens) c n (OfRequest e j) x (machine_of d2 (set lines c new) (reserved_by (OfRequest e j) x opens))) (sym now)
     (served_does c e j x d d2 lines opens l new lt told tied same at)
 serve_does c z Nobody Idle d d2 lines opens l new lt told tied now (idle, kept, stays) = (
-  subst (λ (k : Conn). IdleBy (setup d.state.config) d.free k) (sym (conn_at d lines opens c l lt)) (idle_by (setup d.state.config) d.free (get_or lines c l) idle),
+  subst (λ (k : Conn). IdleBy (setup (config_of d.state.config)) d.free k) (sym (conn_at d lines opens c l lt)) (idle_by (setup (config_of d.state.config)) d.free (get_or lines c l) idle),
   ap (λ (e : Kept). machine_of e (set lines c new) opens) kept ∙ ap (λ (n : Line). machine_of d (set lines c n) opens) stays ∙ ap (λ (ls : List Line). machine_of d ls opens) (set-get_or lines c l),
 )
 serve_does c z Nobody _ d d2 lines opens l new lt told tied now serves = absurd serves
@@ -209,7 +210,7 @@ stepped_at zero done m x w then (v ∷ ws) at is = let same : v ≡ w = cc in st
 stepped_at (suc i) done m x w then (v ∷ ws) at is = ap (λ (ps : List Pending). v.pending ∷ ps) (stepped_at i done m x w then ws at is)
 
 backed_by : (d d2 : Kept) (lines : List Line) (opens : List Open) (i : ℕ) (w : Write) (e : Event) → write_at i d.background ≡ Some w → BacksAt i w e d d2
-    → machine_of d2 lines (reserved_by (OfWrite w.pending.number) e.what opens) ≡ backed (setup d.state.config) (machine_of d lines opens) i w.pending e.moment e.what d2.state.world
+    → machine_of d2 lines (reserved_by (OfWrite w.pending.number) e.what opens) ≡ backed (setup (config_of d.state.config)) (machine_of d lines opens) i w.pending e.moment e.what d2.state.world
 backed_by d d2 lines opens i w e at backs =
     let stepped_now : backs.then.pending ≡ stepped e.moment e.what w.pending = backs.advances.pending ∙ ap (λ (z : ℕ). stepped z e.what w.pending) (sym backs.moment) in
     let background : map pending_of d2.background ≡ pending_after (ends_write e.what) i e.moment e.what (map pending_of d.background) =
@@ -226,9 +227,9 @@ backed_by d d2 lines opens i w e at backs =
     }
 
 written_does : (d d2 : Kept) (lines : List Line) (opens : List Open) (i : ℕ) (w : Write) (e : Event) → d.state.told ≡ true → ((n : ℕ) → reserved_at n opens ≡ reserved_in d.state n) → write_at i d.background ≡ Some w → BacksAt i w e d d2
-    → DoesBack (setup d.state.config) (machine_of d lines opens) i e.moment (OfWrite w.pending.number) e.what (machine_of d2 lines (reserved_by (OfWrite w.pending.number) e.what opens))
+    → DoesBack (setup (config_of d.state.config)) (machine_of d lines opens) i e.moment (OfWrite w.pending.number) e.what (machine_of d2 lines (reserved_by (OfWrite w.pending.number) e.what opens))
 written_does d d2 lines opens i w e told tied at backs =
-    let s = setup d.state.config in
+    let s = setup (config_of d.state.config) in
     let n = need_of s no_request [] in (
       w.pending,
       pending_at_map i d.background w at,
@@ -242,13 +243,13 @@ written_does d d2 lines opens i w e told tied at backs =
       ),
     )
 
-pub idle_back : (d d2 : Kept) (lines : List Line) (opens : List Open) (i : ℕ) (e : Event) → length d.background ≤ i → e ≡ idle_event d → d2 ≡ d → DoesBack (setup d.state.config) (machine_of d lines opens) i e.moment e.owner e.what (machine_of d2 lines (reserved_by e.owner e.what opens))
+pub idle_back : (d d2 : Kept) (lines : List Line) (opens : List Open) (i : ℕ) (e : Event) → length d.background ≤ i → e ≡ idle_event d → d2 ≡ d → DoesBack (setup (config_of d.state.config)) (machine_of d lines opens) i e.moment e.owner e.what (machine_of d2 lines (reserved_by e.owner e.what opens))
 idle_back d d2 lines opens i e past is_idle same =
-    subst (λ (x : Event). DoesBack (setup d.state.config) (machine_of d lines opens) i x.moment x.owner x.what (machine_of d2 lines (reserved_by x.owner x.what opens))) (sym is_idle)
+    subst (λ (x : Event). DoesBack (setup (config_of d.state.config)) (machine_of d lines opens) i x.moment x.owner x.what (machine_of d2 lines (reserved_by x.owner x.what opens))) (sym is_idle)
     (subst (λ (n : ℕ). n ≤ i) (sym (length-map d.background pending_of)) past, ap (λ (k : Kept). machine_of k lines opens) same)
 
 pub write_does : (d d2 : Kept) (lines : List Line) (opens : List Open) (i : ℕ) (w : Write) (e : Event) → d.state.told ≡ true → ((n : ℕ) → reserved_at n opens ≡ reserved_in d.state n) → write_at i d.background ≡ Some w → BacksAt i w e d d2
-    → DoesBack (setup d.state.config) (machine_of d lines opens) i e.moment e.owner e.what (machine_of d2 lines (reserved_by e.owner e.what opens))
+    → DoesBack (setup (config_of d.state.config)) (machine_of d lines opens) i e.moment e.owner e.what (machine_of d2 lines (reserved_by e.owner e.what opens))
 write_does d d2 lines opens i w e told tied at backs =
-    subst (λ (o : Owner). DoesBack (setup d.state.config) (machine_of d lines opens) i e.moment o e.what (machine_of d2 lines (reserved_by o e.what opens))) (sym backs.owner)
+    subst (λ (o : Owner). DoesBack (setup (config_of d.state.config)) (machine_of d lines opens) i e.moment o e.what (machine_of d2 lines (reserved_by o e.what opens))) (sym backs.owner)
     (written_does d d2 lines opens i w e told tied at backs)

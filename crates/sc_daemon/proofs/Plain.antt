@@ -1,7 +1,7 @@
 -- What a served event is, and what is due at a phase.
 use Rattle.std.proofs.Common.{◌≡◌, ℕ, List, [], ◌∷◌, refl}
-use Rattle.sc_action.specs.Hands.{IsOwn}
-use Rattle.sc_action.specs.Telling.{SaysCounted}
+use Rattle.sc_daemon_action.specs.Hands.{IsOwn}
+use Rattle.sc_daemon_action.specs.Telling.{SaysCounted}
 use Rattle.sc_daemon.specs.Standings.{standing_of}
 use Rattle.sc_daemon.specs.declared.standing.Standing.TheVariants.{Ended as HasEnded, Takes}
 use Rattle.sc_model.specs.Follows.{Due, ToReserve, ToTake, ToWrite, start_write}

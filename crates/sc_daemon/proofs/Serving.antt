@@ -1,16 +1,16 @@
 -- A served request goes on.
 use Rattle.std.proofs.Common.{◌≡◌, ℕ, ◌<◌, List, [], ◌∷◌, ◌++◌, length, drop, Option, None, arith, refl, sym, ap, ◌∙◌, subst}
-use Rattle.sc_action.specs.Hands.{ServesWith, StandsWith, hand_of}
-use Rattle.sc_action.specs.declared.acted.Action.{Action}
+use Rattle.sc_daemon_action.specs.Hands.{ServesWith, StandsWith, hand_of}
+use Rattle.sc_daemon_action.specs.declared.acted.Action.{Action}
 use Rattle.sc_daemon.specs.Lines.{Line, conn_of, line_hand}
 use Rattle.sc_daemon.specs.Standings.{FirstRests, Rests, RestsAt, standing_of}
 use Rattle.sc_daemon.specs.Turns.{ActsFirst, Serves_one}
 use Rattle.sc_daemon.specs.declared.standing.Standing.TheVariants.{Ended, Takes}
 use Rattle.sc_daemon.proofs.Firsts.{current_is}
 use Rattle.sc_disk.specs.Store.{AddEntry}
-use Rattle.sc_disk_cache.specs.DiskStores.{DiskStore}
-use Rattle.sc_hold.specs.Holding.{Hand, HandsBy}
-use Rattle.sc_job.specs.Setups.{Config, setup}
+use Rattle.sc_store_disk.specs.DiskStores.{DiskStore}
+use Rattle.sc_daemon_hold.specs.Holding.{Hand, HandsBy}
+use Rattle.sc_daemon_job.specs.Setups.{Config, setup}
 use Rattle.sc_model.specs.Follows.{Fits}
 use Rattle.sc_model.specs.Machine.{Conn, after, current, due_at, long_after, outcome_after, reserved_after, settle, told_by}
 use Rattle.sc_model.specs.Trace.{request}

@@ -1,15 +1,15 @@
 -- What stays of others where one owner's event moved the levels.
 use Rattle.std.proofs.Common.{◌≡◌, ◌==◌, ℕ, zero, suc, ◌<◌, ◌≤◌, Bool, true, false, List, [], ◌∷◌, length, Option, Some, None, refl, ap, sym, subst, ◌∙◌, arith, eqb-true}
-use Rattle.sc_action.specs.Hands.{hand_of}
+use Rattle.sc_daemon_action.specs.Hands.{hand_of}
 use Rattle.sc_daemon.specs.Backlogs.{ArePending, AreNumbered, IsAtStage, IsPending, Write, hand_in, with_write, put_write, write_at}
 use Rattle.sc_daemon.specs.Drives.{TiesWrites}
 use Rattle.sc_daemon.specs.Standings.{Rests, RestsAt}
 use Rattle.sc_daemon.specs.Ties.{IsThere, Owners, TiesHand, with_owner}
 use Rattle.sc_daemon.proofs.Tying.{others_open, others_tie}
 use Rattle.sc_disk.specs.Store.{AddEntry}
-use Rattle.sc_disk_cache.specs.DiskStores.{DiskStore, entry_at, entry_path}
-use Rattle.sc_hold.specs.Holding.{Hand, HandsBy, Holds, IsHeld, KeepsHands, hand_at}
-use Rattle.sc_job.specs.Setups.{Config}
+use Rattle.sc_store_disk.specs.DiskStores.{DiskStore, entry_at, entry_path}
+use Rattle.sc_daemon_hold.specs.Holding.{Hand, HandsBy, Holds, IsHeld, KeepsHands, hand_at}
+use Rattle.sc_daemon_job.specs.Setups.{Config}
 use Rattle.sc_model.specs.Follows.{bytes_in}
 use Rattle.sc_model.specs.Trace.{Open, reserved_by, same_owner}
 use Rattle.sc_model.specs.declared.event.Owner.{Owner}

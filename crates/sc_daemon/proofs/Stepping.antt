@@ -1,7 +1,7 @@
 -- One step of a drive is one of the machine.
 use Rattle.std.proofs.Common.{◌≡◌, ◌≢◌, ◌==◌, ℕ, zero, suc, ◌+◌, ◌<◌, ◌≤◌, inl, inr, Bool, true, false, ◌&&◌, List, [], ◌∷◌, ◌++◌, length, map, set, get_or, Option, Some, refl, sym, ap, ◌∙◌, subst, arith, IsTrue, eqb-true}
 use Rattle.std.proofs.lemmas.List.{get_or_past, length-map, length-set, set-get_or}
-use Rattle.sc_action.specs.Hands.{hand_of}
+use Rattle.sc_daemon_action.specs.Hands.{hand_of}
 use Rattle.sc_daemon.specs.Backlogs.{AreNumbered, ArePending, Write, fresh_writes, hand_in, with_write, write_at}
 use Rattle.sc_daemon.specs.Daemons.{BacksAt, BacksEvent, Kept, ReadsEvent, ReadsWhat, ServesAt, ServesEvent, ServesWhat, idle_event, machine_of, passed}
 use Rattle.sc_daemon.specs.Drives.{AreAt, IsAt, IsScriptOf, Steps, Tied, TiesLine, TiesWrites}
@@ -15,7 +15,7 @@ use Rattle.sc_daemon.proofs.Serving.{more_rests}
 use Rattle.sc_daemon.proofs.Staying.{all_pending, all_writes, back_pending, back_writes, rests_stays, tie}
 use Rattle.sc_daemon.proofs.Tying.{never, owner_ties, reserves_step}
 use Rattle.sc_disk.specs.Store.{AddEntry}
-use Rattle.sc_job.specs.Setups.{Config, setup}
+use Rattle.sc_daemon_job.specs.Setups.{Config, setup}
 use Rattle.sc_model.specs.Machine.{Conn, DoesBack, DoesRead, DoesServe, conn, new_conn, pend}
 use Rattle.sc_model.specs.Next.{ticked}
 use Rattle.sc_model.specs.Plan.{is_disk}
@@ -31,8 +31,9 @@ use Rattle.sc_model.specs.declared.event.What.TheVariants.{Closed, Idle, Passed,
 use Rattle.sc_model.specs.declared.level.LevelKind.{LevelKind}
 use Rattle.sc_model.specs.declared.level.LevelKind.TheVariants.{Disk, Remote}
 use Rattle.sc_model.specs.declared.phase.Phase.{Phase}
-use Rattle.sc_owned.specs.State.{AreLevelsWithin, State, disk_at, reserved_in}
+use Rattle.sc_daemon_owned.specs.State.{AreLevelsWithin, State, disk_at, reserved_in}
 use Rattle.sc_wire.specs.Streams.{served_reader}
+use Rattle.sc_daemon_owned.specs.Facts.{DaemonFacts, config_of}
 
 -- which default is of no matter
 pub same_at : {A : Type 0} (xs : List A) (c : ℕ) (a b : A) → c < length xs → get_or xs c a ≡ get_or xs c b
@@ -40,11 +41,11 @@ same_at [] c a b lt = absurd (omega (arith, lt))
 same_at (x ∷ xs) zero a b lt = refl
 same_at (x ∷ xs) (suc c) a b lt = same_at xs c a b (omega (arith, lt))
 
-pub at_here : (d : Kept) (lines : List Line) (opens : List Open) (c : ℕ) (l : Line) → c < length lines → Tied d lines opens → IsAt d.state.config (disk_at d.state) (get_or lines c l)
-at_here d lines opens c l lt t = subst (IsAt d.state.config (disk_at d.state)) (same_at lines c (new_line d.state.config.limit) l lt) (t.at c)
+pub at_here : (d : Kept) (lines : List Line) (opens : List Open) (c : ℕ) (l : Line) → c < length lines → Tied d lines opens → IsAt (config_of d.state.config) (disk_at d.state) (get_or lines c l)
+at_here d lines opens c l lt t = subst (IsAt (config_of d.state.config) (disk_at d.state)) (same_at lines c (new_line d.state.config.limit) l lt) (t.at c)
 
-pub at_line : (d : Kept) (lines : List Line) (c : ℕ) (l : Line) → c < length lines → AreAt d.state.config (disk_at d.state) lines → IsAt d.state.config (disk_at d.state) (get_or lines c l)
-at_line d lines c l lt at = subst (IsAt d.state.config (disk_at d.state)) (same_at lines c (new_line d.state.config.limit) l lt) (at c)
+pub at_line : (d : Kept) (lines : List Line) (c : ℕ) (l : Line) → c < length lines → AreAt (config_of d.state.config) (disk_at d.state) lines → IsAt (config_of d.state.config) (disk_at d.state) (get_or lines c l)
+at_line d lines c l lt at = subst (IsAt (config_of d.state.config) (disk_at d.state)) (same_at lines c (new_line d.state.config.limit) l lt) (at c)
 
 ties_here : (d : Kept) (lines : List Line) (opens : List Open) (c : ℕ) (l : Line) → c < length lines → (t : Tied d lines opens) → TiesLine t.owns opens (disk_at d.state) c (get_or lines c l)
 ties_here d lines opens c l lt t = subst (TiesLine t.owns opens (disk_at d.state) c) (same_at lines c (new_line d.state.config.limit) l lt) (t.lines c)
@@ -54,11 +55,11 @@ disk_kind : (kind : LevelKind) → IsTrue (is_disk kind) → kind ≡ Disk
 disk_kind Disk is = refl
 disk_kind Remote is = absurd (never is)
 
-within_state : (o : State) (rs : List Open) → AreLevelsWithin o → ((l : ℕ) → reserved_at l rs ≡ reserved_in o l) → IsWithinBytes (setup o.config) rs o.world
+within_state : (o : State) (rs : List Open) → AreLevelsWithin o → ((l : ℕ) → reserved_at l rs ≡ reserved_in o l) → IsWithinBytes (setup (config_of o.config)) rs o.world
 within_state o rs all same l lt disk = let most = all l (disk_kind _ disk) in let n : reserved_at l rs ≡ reserved_in o l = same l in omega (arith, most, n)
 
-within : (s : Script) (k : Config) (o : State) (rs : List Open) → s.setup ≡ setup k → o.config ≡ k → AreLevelsWithin o → ((l : ℕ) → reserved_at l rs ≡ reserved_in o l) → IsWithinBytes s.setup rs o.world
-within s k o rs is_setup same all reserved = subst (λ (su : Setup). IsWithinBytes su rs o.world) (ap setup same ∙ sym is_setup) (within_state o rs all reserved)
+within : (s : Script) (f : DaemonFacts) (o : State) (rs : List Open) → s.setup ≡ setup (config_of f) → o.config ≡ f → AreLevelsWithin o → ((l : ℕ) → reserved_at l rs ≡ reserved_in o l) → IsWithinBytes s.setup rs o.world
+within s f o rs is_setup same all reserved = subst (λ (su : Setup). IsWithinBytes su rs o.world) (ap (λ (g : DaemonFacts). setup (config_of g)) same ∙ sym is_setup) (within_state o rs all reserved)
 
 limit_stays : (c : ℕ) (o : Owner) (x : What) (d d2 : Kept) (old new : Line) → ServesWhat c o x d d2 old new → new.limit ≡ old.limit
 limit_stays c (OfRequest e j) x d d2 old new serves = serves.1.one.limit
@@ -92,15 +93,15 @@ apart_conns c e a b apart = step (c == e) (λ is. apart (sym (eqb-true c e is)))
     step false f = refl
 
 -- the same under a configuration that is the same
-of_config : (d2 : Kept) (k : Config) (P : Config → Type 0) → d2.state.config ≡ k → P k → P d2.state.config
-of_config d2 k P same p = subst P (sym same) p
+of_config : (d2 : Kept) (f : DaemonFacts) (P : Config → Type 0) → d2.state.config ≡ f → P (config_of f) → P (config_of d2.state.config)
+of_config d2 f P same p = subst (λ (g : DaemonFacts). P (config_of g)) (sym same) p
 
 -- What a served event leaves.
 served_tied : (c j : ℕ) (x : What) (d d2 : Kept) (lines : List Line) (opens : List Open) (l new : Line) → c < length lines → Tied d lines opens → ServesAt c j x d d2 (get_or lines c l) new
-    → Rests d.state.config (disk_at d2.state) new.phase new.entry new.waiting → Tied d2 (set lines c new) (reserved_by (OfRequest c (get_or lines c l).at) x opens)
+    → Rests (config_of d.state.config) (disk_at d2.state) new.phase new.entry new.waiting → Tied d2 (set lines c new) (reserved_by (OfRequest c (get_or lines c l).at) x opens)
 served_tied c j x d d2 lines opens l new lt t at rests =
     let old = get_or lines c l in
-    let k = d.state.config in
+    let k = config_of d.state.config in
     let z = new_line k.limit in
     let o = OfRequest c old.at in
     let a = disk_at d.state in
@@ -126,12 +127,12 @@ served_tied c j x d d2 lines opens l new lt t at rests =
     (fresh_tie owns2 opens2 b d.handed d.state.world.moment x) in
     let numbers : AreNumbered 0 (d.handed + length (hands d.handed d.state.world.moment x)) (d.background ++ more) = more_numbers d.handed d.state.world.moment x d.background t.numbers in
     record {
-      at = of_config d2 k (λ (q : Config). AreAt q b (set lines c new)) at.config all;
-      pending = of_config d2 k (λ (q : Config). ArePending q b d2.background) at.config (subst (ArePending k b) (sym at.background) pending);
+      at = of_config d2 d.state.config (λ (q : Config). AreAt q b (set lines c new)) at.config all;
+      pending = of_config d2 d.state.config (λ (q : Config). ArePending q b d2.background) at.config (subst (ArePending k b) (sym at.background) pending);
       numbers = subst (λ (n : ℕ). AreNumbered 0 n d2.background) (sym at.handed) (subst (AreNumbered 0 (d.handed + length (hands d.handed d.state.world.moment x))) (sym at.background) numbers);
       owns = owns2;
       reserved = reserves_step t.owns opens a o x (line_hand old) x2 (reserved_in d.state) (reserved_in d2.state) at.one.hands ties t.reserved at.moves.3;
-      lines = of_config d2 k (λ (q : Config). (i : ℕ) → TiesLine owns2 opens2 b i (get_or (set lines c new) i (new_line q.limit))) at.config tied;
+      lines = of_config d2 d.state.config (λ (q : Config). (i : ℕ) → TiesLine owns2 opens2 b i (get_or (set lines c new) i (new_line q.limit))) at.config tied;
       writes = subst (TiesWrites owns2 opens2 b) (sym at.background) writes;
     }
 
@@ -141,15 +142,15 @@ idle_tied c d d2 lines opens l new t kept stays =
     (subst (λ (ls : List Line). Tied d ls opens) (sym (ap (λ (n : Line). set lines c n) stays ∙ set-get_or lines c l)) t)
 
 serves_tied : (c : ℕ) (o : Owner) (x : What) (d d2 : Kept) (lines : List Line) (opens : List Open) (l new : Line) → c < length lines → Tied d lines opens → ServesWhat c o x d d2 (get_or lines c l) new
-    → Rests d.state.config (disk_at d2.state) new.phase new.entry new.waiting → Tied d2 (set lines c new) (reserved_by o x opens)
+    → Rests (config_of d.state.config) (disk_at d2.state) new.phase new.entry new.waiting → Tied d2 (set lines c new) (reserved_by o x opens)
 serves_tied c (OfRequest e j) x d d2 lines opens l new lt t (same, at) rests =
     subst (λ (o : Owner). Tied d2 (set lines c new) (reserved_by o x opens)) (λ i. OfRequest (sym same i) (sym at.number i)) (served_tied c j x d d2 lines opens l new lt t at rests)
 serves_tied c Nobody Idle d d2 lines opens l new lt t (idle, kept, stays) rests = idle_tied c d d2 lines opens l new t kept stays
 serves_tied c Nobody _ d d2 lines opens l new lt t serves rests = absurd serves
 serves_tied c (OfWrite n) x d d2 lines opens l new lt t serves rests = absurd serves
 
-pub steps_serve : (s : Script) (d d2 : Kept) (lines : List Line) (opens : List Open) (c : ℕ) (l new : Line) (e : Event) → s.setup ≡ setup d.state.config → Tied d lines opens → d.state.told ≡ true → c < length lines
-    → ServesEvent c e d d2 (get_or lines c l) new → Rests d.state.config (disk_at d2.state) new.phase new.entry new.waiting → AreLevelsWithin d2.state → d2.free ≤ d.free + 1 → Steps s (Serve c) e d d2 lines (set lines c new) opens
+pub steps_serve : (s : Script) (d d2 : Kept) (lines : List Line) (opens : List Open) (c : ℕ) (l new : Line) (e : Event) → s.setup ≡ setup (config_of d.state.config) → Tied d lines opens → d.state.told ≡ true → c < length lines
+    → ServesEvent c e d d2 (get_or lines c l) new → Rests (config_of d.state.config) (disk_at d2.state) new.phase new.entry new.waiting → AreLevelsWithin d2.state → d2.free ≤ d.free + 1 → Steps s (Serve c) e d d2 lines (set lines c new) opens
 steps_serve s d d2 lines opens c l new e is_setup t told lt serves rests most free =
     let old = get_or lines c l in
     let same = config_stays c e.owner e.what d d2 old new serves.serves in
@@ -181,13 +182,13 @@ stands_reads P c n input (Taken d bytes) old new reads p = subst (λ (l : Line).
 stands_reads P c n input (Closed d) old new reads p = subst (λ (l : Line). P l.at l.phase l.entry) (sym reads.1.3) p
 stands_reads P c n input _ old new reads p = absurd reads
 
-rests_reads : (d : Kept) (c n : ℕ) (input : List ℕ) (x : What) (old new : Line) → ReadsWhat c input n x old new → Rests d.state.config (disk_at d.state) old.phase old.entry old.waiting → Rests d.state.config (disk_at d.state) new.phase new.entry new.waiting
-rests_reads d c n input Idle old new reads rests = subst (λ (l : Line). Rests d.state.config (disk_at d.state) l.phase l.entry l.waiting) (sym reads.1) rests
+rests_reads : (d : Kept) (c n : ℕ) (input : List ℕ) (x : What) (old new : Line) → ReadsWhat c input n x old new → Rests (config_of d.state.config) (disk_at d.state) old.phase old.entry old.waiting → Rests (config_of d.state.config) (disk_at d.state) new.phase new.entry new.waiting
+rests_reads d c n input Idle old new reads rests = subst (λ (l : Line). Rests (config_of d.state.config) (disk_at d.state) l.phase l.entry l.waiting) (sym reads.1) rests
 rests_reads d c n input (Taken e bytes) old new reads rests =
     let takes = reads.1.3 in
-    stands_reads (λ i p entry. Rests d.state.config (disk_at d.state) p entry new.waiting) c n input (Taken e bytes) old new reads
-    (more_rests d.state.config (disk_at d.state) old.phase old.entry old.waiting ((served_reader old.limit).requests (old.rest ++ bytes)) new.waiting rests takes.requests (takes.served rests.1))
-rests_reads d c n input (Closed e) old new reads rests = subst (λ (l : Line). Rests d.state.config (disk_at d.state) l.phase l.entry l.waiting) (sym (reads.1.3)) rests
+    stands_reads (λ i p entry. Rests (config_of d.state.config) (disk_at d.state) p entry new.waiting) c n input (Taken e bytes) old new reads
+    (more_rests (config_of d.state.config) (disk_at d.state) old.phase old.entry old.waiting ((served_reader old.limit).requests (old.rest ++ bytes)) new.waiting rests takes.requests (takes.served rests.1))
+rests_reads d c n input (Closed e) old new reads rests = subst (λ (l : Line). Rests (config_of d.state.config) (disk_at d.state) l.phase l.entry l.waiting) (sym (reads.1.3)) rests
 rests_reads d c n input _ old new reads rests = absurd reads
 
 ticked_reads : (c n m : ℕ) (input : List ℕ) (x : What) (old new : Line) → ReadsWhat c input n x old new → ticked m x ≡ m
@@ -206,7 +207,7 @@ reads_reserve c n input _ old new opens reads = absurd reads
 read_tied : (d : Kept) (lines : List Line) (opens : List Open) (c n : ℕ) (input : List ℕ) (x : What) (l new : Line) → c < length lines → Tied d lines opens → ReadsWhat c input n x (get_or lines c l) new → Tied d (set lines c new) opens
 read_tied d lines opens c n input x l new lt t what =
     let old = get_or lines c l in
-    let k = d.state.config in
+    let k = config_of d.state.config in
     let z = new_line k.limit in
     let here = at_here d lines opens c l lt t in
     record {
@@ -220,7 +221,7 @@ read_tied d lines opens c n input x l new lt t what =
       writes = t.writes;
     }
 
-pub steps_read : (s : Script) (inputs : List (List ℕ)) (d : Kept) (lines : List Line) (opens : List Open) (c n : ℕ) (l new : Line) (b : List ℕ) (e : Event) → IsScriptOf s d.state.config inputs → Tied d lines opens → AreLevelsWithin d.state
+pub steps_read : (s : Script) (inputs : List (List ℕ)) (d : Kept) (lines : List Line) (opens : List Open) (c n : ℕ) (l new : Line) (b : List ℕ) (e : Event) → IsScriptOf s (config_of d.state.config) inputs → Tied d lines opens → AreLevelsWithin d.state
     → c < length lines → length lines ≡ length inputs → ReadsEvent d c (get_or inputs c b) n e (get_or lines c l) new → Steps s (Read c n) e d d lines (set lines c new) opens
 steps_read s inputs d lines opens c n l new b e of t most lt count reads =
     let old = get_or lines c l in
@@ -247,7 +248,7 @@ steps_read s inputs d lines opens c n l new b e of t most lt count reads =
 conn_past : (d : Kept) (lines : List Line) (opens : List Open) (c : ℕ) → length lines ≤ c → conn (machine_of d lines opens) c ≡ new_conn
 conn_past d lines opens c le = get_or_past (map conn_of lines) c new_conn (subst (λ (n : ℕ). n ≤ c) (sym (length-map lines conn_of)) le)
 
-pub steps_past : (s : Script) (d : Kept) (lines : List Line) (opens : List Open) (c : ℕ) (e : Event) → s.setup ≡ setup d.state.config → Tied d lines opens → AreLevelsWithin d.state → length lines ≤ c
+pub steps_past : (s : Script) (d : Kept) (lines : List Line) (opens : List Open) (c : ℕ) (e : Event) → s.setup ≡ setup (config_of d.state.config) → Tied d lines opens → AreLevelsWithin d.state → length lines ≤ c
     → e ≡ record { moment = d.state.world.moment; owner = Nobody; what = Idle } → Steps s (Serve c) e d d lines lines opens
 steps_past s d lines opens c e is_setup t most le is_idle =
     subst (λ (x : Event). Steps s (Serve c) x d d lines lines opens) (sym is_idle)
@@ -260,7 +261,7 @@ steps_past s d lines opens c e is_setup t most le is_idle =
       tied = t;
     }
 
-pub steps_unread : (s : Script) (inputs : List (List ℕ)) (d : Kept) (lines : List Line) (opens : List Open) (c n : ℕ) (e : Event) → IsScriptOf s d.state.config inputs → Tied d lines opens → AreLevelsWithin d.state → length lines ≡ length inputs → length lines ≤ c
+pub steps_unread : (s : Script) (inputs : List (List ℕ)) (d : Kept) (lines : List Line) (opens : List Open) (c n : ℕ) (e : Event) → IsScriptOf s (config_of d.state.config) inputs → Tied d lines opens → AreLevelsWithin d.state → length lines ≡ length inputs → length lines ≤ c
     → e ≡ record { moment = d.state.world.moment; owner = Nobody; what = Idle } → Steps s (Read c n) e d d lines lines opens
 steps_unread s inputs d lines opens c n e of t most count le is_idle =
     subst (λ (x : Event). Steps s (Read c n) x d d lines lines opens) (sym is_idle)
@@ -276,7 +277,7 @@ steps_unread s inputs d lines opens c n e of t most count le is_idle =
 -- What an event of a handed write leaves.
 backed_tied : (d d2 : Kept) (lines : List Line) (opens : List Open) (i : ℕ) (w : Write) (e : Event) → Tied d lines opens → write_at i d.background ≡ Some w → BacksAt i w e d d2 → Tied d2 lines (reserved_by (OfWrite w.pending.number) e.what opens)
 backed_tied d d2 lines opens i w e t at backs =
-    let k = d.state.config in
+    let k = config_of d.state.config in
     let z = new_line k.limit in
     let x = e.what in
     let n = w.pending.number in
@@ -299,17 +300,17 @@ backed_tied d d2 lines opens i w e t at backs =
     let own : ends_write x ≡ false → TiesHand owns2 opens2 b (OfWrite backs.then.pending.number) h2 = λ goes.
     subst (λ (m : ℕ). TiesHand owns2 opens2 b (OfWrite m) h2) (sym number) (owner_ties t.owns opens a b o x h h2 by ties (pending_there k b backs.then (backs.advances.stands goes))) in
     record {
-      at = of_config d2 k (λ (q : Config). AreAt q b lines) backs.config all;
-      pending = of_config d2 k (λ (q : Config). ArePending q b d2.background) backs.config (subst (ArePending k b) (sym left)
+      at = of_config d2 d.state.config (λ (q : Config). AreAt q b lines) backs.config all;
+      pending = of_config d2 d.state.config (λ (q : Config). ArePending q b d2.background) backs.config (subst (ArePending k b) (sym left)
           (back_pending t.owns opens a b o x h h2 by keeps ties told n refl k 0 d.handed i (ends_write x) w backs.then d.background at refl backs.advances.stands t.numbers t.writes t.pending));
       numbers = subst (λ (m : ℕ). AreNumbered 0 m d2.background) (sym (ap (λ (q : Kept). q.handed) backs.same)) (subst (AreNumbered 0 d.handed) (sym left) (with_numbers 0 d.handed i (ends_write x) w backs.then d.background at number t.numbers));
       owns = owns2;
       reserved = reserves_step t.owns opens a o x h h2 (reserved_in d.state) (reserved_in d2.state) by ties t.reserved moves.3;
-      lines = of_config d2 k (λ (q : Config). (c : ℕ) → TiesLine owns2 opens2 b c (get_or lines c (new_line q.limit))) backs.config tied;
+      lines = of_config d2 d.state.config (λ (q : Config). (c : ℕ) → TiesLine owns2 opens2 b c (get_or lines c (new_line q.limit))) backs.config tied;
       writes = subst (TiesWrites owns2 opens2 b) (sym left) (back_writes t.owns opens a b o x h h2 by keeps ties told n refl 0 d.handed i (ends_write x) w backs.then d.background at refl own t.numbers t.writes);
     }
 
-write_steps : (s : Script) (d d2 : Kept) (lines : List Line) (opens : List Open) (i : ℕ) (w : Write) (e : Event) → s.setup ≡ setup d.state.config → Tied d lines opens → d.state.told ≡ true → AreLevelsWithin d2.state → write_at i d.background ≡ Some w → BacksAt i w e d d2
+write_steps : (s : Script) (d d2 : Kept) (lines : List Line) (opens : List Open) (i : ℕ) (w : Write) (e : Event) → s.setup ≡ setup (config_of d.state.config) → Tied d lines opens → d.state.told ≡ true → AreLevelsWithin d2.state → write_at i d.background ≡ Some w → BacksAt i w e d d2
     → Steps s (Back i) e d d2 lines lines opens
 write_steps s d d2 lines opens i w e is_setup t told most at backs =
     let tied : Tied d2 lines (reserved_by e.owner e.what opens) = subst (λ (o : Owner). Tied d2 lines (reserved_by o e.what opens)) (sym backs.owner) (backed_tied d d2 lines opens i w e t at backs) in
@@ -320,13 +321,13 @@ write_steps s d d2 lines opens i w e is_setup t told most at backs =
         within s d.state.config d2.state (reserved_by e.owner e.what opens) is_setup backs.config most tied.reserved,
       );
       config = backs.config;
-      told = (backs.moves (need_of (setup d.state.config) no_request [])).0;
+      told = (backs.moves (need_of (setup (config_of d.state.config)) no_request [])).0;
       count = refl;
       free = let same : d2.free ≡ d.free = ap (λ (k : Kept). k.free) backs.same in omega (arith, same);
       tied = tied;
     }
 
-idle_steps : (s : Script) (d d2 : Kept) (lines : List Line) (opens : List Open) (i : ℕ) (e : Event) → s.setup ≡ setup d.state.config → Tied d lines opens → AreLevelsWithin d.state → length d.background ≤ i → e ≡ idle_event d → d2 ≡ d → Steps s (Back i) e d d2 lines lines opens
+idle_steps : (s : Script) (d d2 : Kept) (lines : List Line) (opens : List Open) (i : ℕ) (e : Event) → s.setup ≡ setup (config_of d.state.config) → Tied d lines opens → AreLevelsWithin d.state → length d.background ≤ i → e ≡ idle_event d → d2 ≡ d → Steps s (Back i) e d d2 lines lines opens
 idle_steps s d d2 lines opens i e is_setup t most past is_idle same =
     subst (λ (k : Kept). Steps s (Back i) e d k lines lines opens) (sym same)
     (subst (λ (x : Event). Steps s (Back i) x d d lines lines opens) (sym is_idle)
@@ -343,7 +344,7 @@ idle_steps s d d2 lines opens i e is_setup t most past is_idle same =
       tied = t;
     })
 
-pub steps_back : (s : Script) (d d2 : Kept) (lines : List Line) (opens : List Open) (i : ℕ) (e : Event) → s.setup ≡ setup d.state.config → Tied d lines opens → d.state.told ≡ true → AreLevelsWithin d2.state
+pub steps_back : (s : Script) (d d2 : Kept) (lines : List Line) (opens : List Open) (i : ℕ) (e : Event) → s.setup ≡ setup (config_of d.state.config) → Tied d lines opens → d.state.told ≡ true → AreLevelsWithin d2.state
     → BacksEvent i e d d2 → Steps s (Back i) e d d2 lines lines opens
 steps_back s d d2 lines opens i e is_setup t told most (inl (past, is_idle, same)) = idle_steps s d d2 lines opens i e is_setup t (subst (λ (k : Kept). AreLevelsWithin k.state) same most) past is_idle same
 steps_back s d d2 lines opens i e is_setup t told most (inr (w, at, backs)) = write_steps s d d2 lines opens i w e is_setup t told most at backs
@@ -351,7 +352,7 @@ steps_back s d d2 lines opens i e is_setup t told most (inr (w, at, backs)) = wr
 passed_tied : (d : Kept) (n : ℕ) (lines : List Line) (opens : List Open) → Tied d lines opens → Tied (passed d n) lines opens
 passed_tied d n lines opens t = record { at = t.at; pending = t.pending; numbers = t.numbers; owns = t.owns; reserved = t.reserved; lines = t.lines; writes = t.writes }
 
-pub steps_pass : (s : Script) (d d2 : Kept) (lines : List Line) (opens : List Open) (n : ℕ) (e : Event) → s.setup ≡ setup d.state.config → Tied d lines opens → AreLevelsWithin d2.state → d2 ≡ passed d n
+pub steps_pass : (s : Script) (d d2 : Kept) (lines : List Line) (opens : List Open) (n : ℕ) (e : Event) → s.setup ≡ setup (config_of d.state.config) → Tied d lines opens → AreLevelsWithin d2.state → d2 ≡ passed d n
     → e ≡ record { moment = d2.state.world.moment; owner = Nobody; what = Passed n } → Steps s (Pass n) e d d2 lines lines opens
 steps_pass s d d2 lines opens n e is_setup t most is_passed is_pass =
     let within_now : AreLevelsWithin (passed d n).state = subst (λ (k : Kept). AreLevelsWithin k.state) is_passed most in

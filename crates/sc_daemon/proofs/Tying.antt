@@ -1,8 +1,8 @@
 -- What an event of one owner leaves of the ties of all.
 use Rattle.std.proofs.Common.{◌≡◌, ◌≢◌, ◌==◌, ℕ, ◌+◌, Bool, true, false, ◌&&◌, if◌then◌else◌, List, [], ◌∷◌, length, Option, Some, None, inl, inr, ◌⊎◌, refl, ap, sym, subst, ◌∙◌, arith, eqb-true, eq-eqb}
 use Rattle.sc_daemon.specs.Ties.{IsThere, Owners, Ties, TiesHand, first_open, with_owner}
-use Rattle.sc_disk_cache.specs.DiskStores.{DiskStore, OpenEntry, entry_at}
-use Rattle.sc_hold.specs.Holding.{Hand, HandsBy, IsHand, KeepsHands, ReservesBy}
+use Rattle.sc_store_disk.specs.DiskStores.{DiskStore, OpenEntry, entry_at}
+use Rattle.sc_daemon_hold.specs.Holding.{Hand, HandsBy, IsHand, KeepsHands, ReservesBy}
 use Rattle.sc_model.specs.Trace.{Open, release, reserved_at, reserved_by, same_owner}
 use Rattle.sc_model.specs.declared.event.Owner.{Owner}
 use Rattle.sc_model.specs.declared.event.Owner.TheVariants.{Nobody, Request as OfRequest, Write as OfWrite}

@@ -1,12 +1,12 @@
 -- One event of a handed write.
 use Rattle.std.proofs.Common.{◌≡◌, ℕ, ◌<◌, true, false, [], length, Option, Some, None, refl, ap, sym, subst, ◌∙◌}
-use Rattle.sc_action.proofs.Holding.{still_keeps}
-use Rattle.sc_action.specs.Hands.{IsOwn}
+use Rattle.sc_daemon_action.proofs.Holding.{still_keeps}
+use Rattle.sc_daemon_action.specs.Hands.{IsOwn}
 use Rattle.sc_daemon.specs.Backlogs.{Advances, Goes, IsAtStage, IsPending, Write, hand_in, stepped}
 use Rattle.sc_disk.specs.Store.{AddEntry}
-use Rattle.sc_disk_cache.specs.DiskStores.{DiskStore}
-use Rattle.sc_hold.specs.Holding.{Hand, HandsBy, HeldBy, KeepsHands, SameRoom, hand_at}
-use Rattle.sc_job.specs.Setups.{Config, setup}
+use Rattle.sc_store_disk.specs.DiskStores.{DiskStore}
+use Rattle.sc_daemon_hold.specs.Holding.{Hand, HandsBy, HeldBy, KeepsHands, SameRoom, hand_at}
+use Rattle.sc_daemon_job.specs.Setups.{Config, setup}
 use Rattle.sc_model.specs.Follows.{Fits, ToCommit, ToFill, ToReserve, ToWrite, bytes_in, kind_at}
 use Rattle.sc_model.specs.Machine.{due_pending, due_stage, reserved_after, stage_after}
 use Rattle.sc_model.specs.Trace.{ends_write, no_request}

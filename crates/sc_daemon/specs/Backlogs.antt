@@ -1,11 +1,11 @@
 -- Writes that were handed on and are not done, and the entries of disk levels that they hold.
 use Rattle.std.specs.Prelude.{◌≡◌, ℕ, zero, suc, ◌<◌, ◌≤◌, Bool, true, false, List, [], ◌∷◌, length, Option, Some, None, refl}
 use Rattle.std.specs.Coded.{Coded, code_by, coded×, coded_bool, coded_list, coded_option, coded_ℕ}
-use Rattle.sc_action.specs.Hands.{IsOwn}
+use Rattle.sc_daemon_action.specs.Hands.{IsOwn}
 use Rattle.sc_disk.specs.Store.{AddEntry}
-use Rattle.sc_disk_cache.specs.DiskStores.{DiskStore}
-use Rattle.sc_hold.specs.Holding.{Hand, HandsBy, IsHeld, KeepsHands, hand_at}
-use Rattle.sc_job.specs.Setups.{Config, setup}
+use Rattle.sc_store_disk.specs.DiskStores.{DiskStore}
+use Rattle.sc_daemon_hold.specs.Holding.{Hand, HandsBy, IsHeld, KeepsHands, hand_at}
+use Rattle.sc_daemon_job.specs.Setups.{Config, setup}
 use Rattle.sc_model.specs.Follows.{Fits, bytes_in, kind_at}
 use Rattle.sc_model.specs.Machine.{due_pending, reserved_after, stage_after}
 use Rattle.sc_model.specs.Trace.{ends_write, no_request}

@@ -1,12 +1,12 @@
 -- A daemon: its state, what it counted, and its free tokens.
 use Rattle.std.specs.Prelude.{◌≡◌, ◌⊎◌, ℕ, ◌+◌, ◌≤◌, List, [], ◌++◌, length, map, Some, refl}
 use Rattle.std.specs.Coded.{Coded, code_by, coded×, coded_list, coded_ℕ}
-use Rattle.sc_action.specs.Telling.{SaysCounted}
+use Rattle.sc_daemon_action.specs.Telling.{SaysCounted}
 use Rattle.sc_daemon.specs.Backlogs.{Advances, Write, fresh_writes, pending_of, with_write, write_at, write_code}
 use Rattle.sc_daemon.specs.Lines.{Line, conn_of}
 use Rattle.sc_daemon.specs.Turns.{IsIdleLine, Reads, Serves_one}
 use Rattle.sc_daemon.specs.declared.reading.Reading.TheVariants as readings
-use Rattle.sc_job.specs.Setups.{setup}
+use Rattle.sc_daemon_job.specs.Setups.{setup}
 use Rattle.sc_model.specs.Machine.{Machine, counted_level, current, free_after, need_at, pend}
 use Rattle.sc_model.specs.Next.{at_moment}
 use Rattle.sc_model.specs.Rows.{Direct, by_backfill, count, level_row, row, zeroes}
@@ -18,15 +18,16 @@ use Rattle.sc_model.specs.declared.event.Owner.{Owner}
 use Rattle.sc_model.specs.declared.event.Owner.TheVariants.{Nobody, Request as OfRequest, Write as OfWrite}
 use Rattle.sc_model.specs.declared.event.What.{What}
 use Rattle.sc_model.specs.declared.event.What.TheVariants.{Closed, Idle, Taken}
-use Rattle.sc_owned.specs.Codes.{state_code}
-use Rattle.sc_owned.specs.Moving.{OwnedMoves}
-use Rattle.sc_owned.specs.State.{State, disk_at, reserved_in}
+use Rattle.sc_daemon_owned.specs.Codes.{state_code}
+use Rattle.sc_daemon_owned.specs.Moving.{OwnedMoves}
+use Rattle.sc_daemon_owned.specs.State.{State, disk_at, reserved_in}
 use Rattle.sc_stats.specs.contracts.counters.LevelStats as level_type
 use Rattle.sc_stats.specs.contracts.counters.ServerStats as stats_type
 use Rattle.sc_stats.specs.declared.counters.LevelStats.{LevelStats}
 use Rattle.sc_stats.specs.declared.counters.ServerStats.{ServerStats}
 use Rattle.sc_stats.specs.Sums.{no_stats, sat}
 use Rattle.sc_wire.specs.Streams.{served_reader}
+use Rattle.sc_daemon_owned.specs.Facts.{config_of}
 
 pub record Kept : Type 0 where
   pub state : State
@@ -89,15 +90,15 @@ pub record ReadsEvent (d : Kept) (c : ℕ) (input : List ℕ) (n : ℕ) (e : Eve
 -- an event of the request that is served
 pub record ServesAt (c j : ℕ) (x : What) (d d2 : Kept) (old new : Line) : Type 0 where
   pub number : j ≡ old.at
-  pub one : Serves_one d.state.config (disk_at d.state) (disk_at d2.state) d.state.world.moment d.free x old new
+  pub one : Serves_one (config_of d.state.config) (disk_at d.state) (disk_at d2.state) d.state.world.moment d.free x old new
   pub says : SaysCounted d.state.config.policy d.stats d.levels x
-  pub moves : OwnedMoves d.state (need_at (setup d.state.config) (current (conn_of old)) old.phase) x d2.state
+  pub moves : OwnedMoves d.state (need_at (setup (config_of d.state.config)) (current (conn_of old)) old.phase) x d2.state
   pub config : d2.state.config ≡ d.state.config
   pub free : d2.free ≡ free_after d.free x
   pub levels : d2.levels ≡ counted_level d.state.config.policy (level_row Direct old.last old.reserved d.state.world.moment x) x d.levels
   pub background : d2.background ≡ d.background ++ fresh_writes (pend (hands d.handed d.state.world.moment x))
   pub handed : d2.handed ≡ d.handed + length (hands d.handed d.state.world.moment x)
-  pub stats : d2.stats ≡ count (zeroes x) d.stats (row (setup d.state.config) (current (conn_of old)) old.outcome d.state.world.moment x)
+  pub stats : d2.stats ≡ count (zeroes x) d.stats (row (setup (config_of d.state.config)) (current (conn_of old)) old.outcome d.state.world.moment x)
 
 abbrev pub ServesWhat : ℕ → Owner → What → Kept → Kept → Line → Line → Type 0
 ServesWhat c Nobody Idle d d2 old new = IsIdleLine d.free old × (d2 ≡ d) × (new ≡ old)
@@ -113,7 +114,7 @@ pub record BacksAt (i : ℕ) (w : Write) (e : Event) (old new : Kept) : Type 0 w
   pub moment : e.moment ≡ old.state.world.moment
   pub owner : e.owner ≡ OfWrite w.pending.number
   pub then : Write
-  pub advances : Advances old.state.config old.state.world.moment (disk_at old.state) (disk_at new.state) e.what w then
+  pub advances : Advances (config_of old.state.config) old.state.world.moment (disk_at old.state) (disk_at new.state) e.what w then
   pub moves : (n : Need) → OwnedMoves old.state n e.what new.state
   pub config : new.state.config ≡ old.state.config
   pub same : new ≡ record old {
@@ -148,7 +149,7 @@ machine_of d lines opens = record {
 -- what a drive is given: the daemon as it was made and counted so far, and each connection's bytes
 abbrev pub script_of : Kept → List (List ℕ) → Script
 script_of d inputs = record {
-  setup = setup d.state.config;
+  setup = setup (config_of d.state.config);
   inputs = inputs;
   reader = served_reader d.state.config.limit;
   first = d.stats;

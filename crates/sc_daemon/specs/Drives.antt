@@ -1,14 +1,14 @@
 -- Steps of a drive.
 use Rattle.std.specs.Prelude.{◌≡◌, ℕ, zero, suc, ◌+◌, ◌≤◌, true, List, [], ◌∷◌, ◌++◌, length, map, reverse, slice_index_or}
-use Rattle.sc_conn.specs.Ends.{end_of}
+use Rattle.sc_wire_conn.specs.Ends.{end_of}
 use Rattle.sc_daemon.specs.Backlogs.{AreNumbered, ArePending, Write, hand_in}
 use Rattle.sc_daemon.specs.Daemons.{Kept, machine_of, script_of}
 use Rattle.sc_daemon.specs.Lines.{Line, line_hand, new_line}
 use Rattle.sc_daemon.specs.Standings.{Rests}
 use Rattle.sc_daemon.specs.Ties.{Owners, TiesHand}
 use Rattle.sc_daemon.specs.declared.driven.Driven.{Driven}
-use Rattle.sc_disk_cache.specs.DiskStores.{DiskStore}
-use Rattle.sc_job.specs.Setups.{Config, setup}
+use Rattle.sc_store_disk.specs.DiskStores.{DiskStore}
+use Rattle.sc_daemon_job.specs.Setups.{Config, setup}
 use Rattle.sc_model.specs.Headline.{Result_of_run}
 use Rattle.sc_model.specs.Machine.{Does, Runs, shown_levels}
 use Rattle.sc_model.specs.Script.{End, Script}
@@ -16,8 +16,9 @@ use Rattle.sc_model.specs.Trace.{Open, if_too_long, reservations, reserved_at, r
 use Rattle.sc_model.specs.declared.event.Event.{Event}
 use Rattle.sc_model.specs.declared.event.Owner.TheVariants.{Request as OfRequest, Write as OfWrite}
 use Rattle.sc_model.specs.declared.event.Step.{Step}
-use Rattle.sc_owned.specs.State.{disk_at, reserved_in}
+use Rattle.sc_daemon_owned.specs.State.{disk_at, reserved_in}
 use Rattle.sc_wire.specs.Streams.{served_reader}
+use Rattle.sc_daemon_owned.specs.Facts.{config_of}
 
 -- connections that nothing came over
 abbrev pub lines_of : ℕ → ℕ → List Line
@@ -44,8 +45,8 @@ TiesLine owns opens d c l = TiesHand owns opens d (OfRequest c l.at) (line_hand 
 -- What a drive keeps between two steps: where all stand, whose each open entry is, and that as much is reserved at each level
 -- as these reservations say.
 pub record Tied (d : Kept) (conns : List Line) (opens : List Open) : Type 0 where
-  pub at : AreAt d.state.config (disk_at d.state) conns
-  pub pending : ArePending d.state.config (disk_at d.state) d.background
+  pub at : AreAt (config_of d.state.config) (disk_at d.state) conns
+  pub pending : ArePending (config_of d.state.config) (disk_at d.state) d.background
   pub numbers : AreNumbered 0 d.handed d.background
   pub owns : Owners
   pub reserved : (l : ℕ) → reserved_at l opens ≡ reserved_in d.state l

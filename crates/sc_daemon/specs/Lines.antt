@@ -1,12 +1,12 @@
 -- A connection as the daemon keeps it.
 use Rattle.std.specs.Prelude.{◌≡◌, ℕ, ◌<◌, Bool, true, false, List, [], ◌∷◌, length, Option, Some, None, ◌⊎◌, refl}
 use Rattle.std.specs.Coded.{Coded, code_by, coded×, coded_bool, coded_list, coded_option, coded_ℕ}
-use Rattle.sc_action.specs.Hands.{hand_of}
+use Rattle.sc_daemon_action.specs.Hands.{hand_of}
 use Rattle.sc_daemon.specs.Backlogs.{entry_code}
 use Rattle.sc_daemon.specs.Standings.{standing_of}
 use Rattle.sc_daemon.specs.declared.standing.Standing.TheVariants.{Ended}
 use Rattle.sc_disk.specs.Store.{AddEntry}
-use Rattle.sc_hold.specs.Holding.{Hand}
+use Rattle.sc_daemon_hold.specs.Holding.{Hand}
 use Rattle.sc_model.specs.Machine.{Conn}
 use Rattle.sc_model.specs.Script.{BadFrame}
 use Rattle.sc_model.specs.contracts.message.Request as request_type

@@ -1,11 +1,11 @@
 -- What can be done at a phase.
 use Rattle.std.specs.Prelude.{◌≡◌, ℕ, List, [], ◌∷◌, Option, None}
-use Rattle.sc_action.specs.Hands.{ServesWith}
+use Rattle.sc_daemon_action.specs.Hands.{ServesWith}
 use Rattle.sc_daemon.specs.declared.standing.Standing.{Standing}
 use Rattle.sc_daemon.specs.declared.standing.Standing.TheVariants.{Ended, Goes, Over, Takes}
 use Rattle.sc_disk.specs.Store.{AddEntry}
-use Rattle.sc_disk_cache.specs.DiskStores.{DiskStore}
-use Rattle.sc_job.specs.Setups.{Config}
+use Rattle.sc_store_disk.specs.DiskStores.{DiskStore}
+use Rattle.sc_daemon_job.specs.Setups.{Config}
 use Rattle.sc_model.specs.declared.message.Request.{Request}
 use Rattle.sc_model.specs.declared.phase.Phase.{Phase}
 use Rattle.sc_model.specs.declared.phase.Phase.TheVariants.{AtBegin, AtEnded, AtOver, AtTake}

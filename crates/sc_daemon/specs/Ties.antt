@@ -1,7 +1,7 @@
 -- Who holds which open entry of the disk levels, and what is reserved for it.
 use Rattle.std.specs.Prelude.{◌≡◌, ℕ, ◌==◌, ◌&&◌, if◌then◌else◌, List, [], ◌∷◌, Option, Some, None}
-use Rattle.sc_disk_cache.specs.DiskStores.{DiskStore, OpenEntry, entry_at}
-use Rattle.sc_hold.specs.Holding.{Hand}
+use Rattle.sc_store_disk.specs.DiskStores.{DiskStore, OpenEntry, entry_at}
+use Rattle.sc_daemon_hold.specs.Holding.{Hand}
 use Rattle.sc_model.specs.Trace.{Open, same_owner}
 use Rattle.sc_model.specs.declared.event.Owner.{Owner}
 

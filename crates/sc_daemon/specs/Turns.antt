@@ -1,17 +1,17 @@
 -- What a step does to one connection.
 use Rattle.std.specs.Prelude.{◌≡◌, ℕ, ◌+◌, ◌<◌, ◌≤◌, true, List, [], ◌∷◌, ◌++◌, length, take, drop, Option, Some, None, ◌⊎◌}
-use Rattle.sc_action.specs.Hands.{ActsWith, IsOwn, hand_of}
-use Rattle.sc_action.specs.Telling.{SaysCounted}
-use Rattle.sc_action.specs.Sends.{Adds}
-use Rattle.sc_action.specs.declared.acted.Action.{Action}
+use Rattle.sc_daemon_action.specs.Hands.{ActsWith, IsOwn, hand_of}
+use Rattle.sc_daemon_action.specs.Telling.{SaysCounted}
+use Rattle.sc_daemon_action.specs.Sends.{Adds}
+use Rattle.sc_daemon_action.specs.declared.acted.Action.{Action}
 use Rattle.sc_daemon.specs.Lines.{IsDone, Line, conn_of, line_hand}
 use Rattle.sc_daemon.specs.Standings.{standing_of}
 use Rattle.sc_daemon.specs.declared.reading.Reading.{Reading}
 use Rattle.sc_daemon.specs.declared.reading.Reading.TheVariants.{Closed, Nothing, Taken}
 use Rattle.sc_daemon.specs.declared.standing.Standing.TheVariants.{Ended, Takes}
-use Rattle.sc_disk_cache.specs.DiskStores.{DiskStore}
-use Rattle.sc_hold.specs.Holding.{HandsBy, KeepsHands}
-use Rattle.sc_job.specs.Setups.{Config, setup}
+use Rattle.sc_store_disk.specs.DiskStores.{DiskStore}
+use Rattle.sc_daemon_hold.specs.Holding.{HandsBy, KeepsHands}
+use Rattle.sc_daemon_job.specs.Setups.{Config, setup}
 use Rattle.sc_model.specs.Follows.{Fits}
 use Rattle.sc_model.specs.Machine.{advanced, current, due_at}
 use Rattle.sc_model.specs.Trace.{sent_by}

@@ -7,10 +7,10 @@ ghost use Rattle.sc_model.specs.Trace.{hands, numbered};
 ghost use Rattle.sc_model.specs.World.{Need};
 
 use crate::write::{Write, is_end};
+use sc_daemon_hold::Hold;
+use sc_daemon_ranked::RankedList;
 use sc_entry::NoMemory;
-use sc_hold::Hold;
 use sc_model::{Handed, What};
-use sc_ranked::RankedList;
 use std::alloc::Global;
 use std::marker::Model;
 

@@ -1,12 +1,12 @@
 //! A connection: what comes over it, the request that is served, and what was sent.
 ghost use Rattle.std.specs.Prelude.{◌≡◌, ◌+◌, ◌<◌, ◌≤◌, ◌^◌, false, true, [], Some, length, take, drop, IfOk, IfSome, IsOk, OnOk};
-ghost use Rattle.sc_action.specs.Hands.{ServesWith};
-ghost use Rattle.sc_conn.specs.Ends.{end_of};
+ghost use Rattle.sc_daemon_action.specs.Hands.{ServesWith};
+ghost use Rattle.sc_wire_conn.specs.Ends.{end_of};
 ghost use Rattle.sc_daemon.specs.Lines.{IsDone, conn_of, new_line};
 ghost use Rattle.sc_daemon.specs.Standings.{Rests, standing_of};
 ghost use Rattle.sc_daemon.specs.Turns.{ActsFirst_or_none, CountsFirst, CountsLine, IsIdleLine, MovesFirst, MovesHold, Reads, SaysFirst, SaysLine, ServesLine, TakesMore};
 ghost use Rattle.sc_daemon.specs.declared.standing.Standing.TheVariants.{Ended, Takes};
-ghost use Rattle.sc_job.specs.Setups.{setup};
+ghost use Rattle.sc_daemon_job.specs.Setups.{setup};
 ghost use Rattle.sc_model.specs.Machine.{current, long_after, need_at, outcome_after, reserved_after, settle};
 ghost use Rattle.sc_model.specs.Trace.{if_too_long};
 ghost use Rattle.sc_wire.specs.Streams.{served_reader};
@@ -14,14 +14,14 @@ ghost use Rattle.sc_wire.specs.Streams.{served_reader};
 use crate::reading::Reading;
 use crate::standing::{Standing, standing_at};
 use crate::waiting::Waiting;
-use sc_action::{Action, act};
-use sc_conn::{End, Inbox};
+use sc_daemon_action::{Action, act};
+use sc_daemon_hold::Hold;
+use sc_daemon_job::count_event;
 use sc_disk::LruDiskCacheAddEntry;
 use sc_entry::{ByteText, NoMemory};
-use sc_hold::Hold;
-use sc_job::count_event;
 use sc_model::{Phase, What, Written};
 use sc_stats::{LevelStats, ServerStats};
+use sc_wire_conn::{End, Inbox};
 use std::alloc::Global;
 use std::marker::Model;
 

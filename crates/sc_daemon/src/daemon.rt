@@ -3,20 +3,21 @@ ghost use Rattle.std.specs.Prelude.{◌≡◌, ◌↔◌, ◌+◌, ◌<◌, ◌�
 ghost use Rattle.sc_daemon.specs.Backlogs.{ArePending, fresh_writes};
 ghost use Rattle.sc_daemon.specs.Daemons.{BacksEvent, IsIdleDaemon, ReadsEvent, ServesEvent, anew, kept_after, new_daemon, passed};
 ghost use Rattle.sc_daemon.specs.Standings.{Rests};
-ghost use Rattle.sc_job.specs.LevelRows.{origin_of};
+ghost use Rattle.sc_daemon_job.specs.LevelRows.{origin_of};
 ghost use Rattle.sc_model.specs.Machine as machine;
 ghost use Rattle.sc_model.specs.Rows.{by_backfill, level_row};
 ghost use Rattle.sc_model.specs.Trace.{hands};
-ghost use Rattle.sc_owned.specs.State.{AreLevelsWithin, disk_at};
+ghost use Rattle.sc_daemon_owned.specs.State.{AreLevelsWithin, disk_at};
+ghost use Rattle.sc_daemon_owned.specs.Facts.{config_of};
 
 use crate::backlog::{Backlog, handed_count};
 use crate::conn::Conn;
 use crate::reading::Reading;
+use sc_daemon_hold::Hold;
+use sc_daemon_job::{Origin, count_level};
+use sc_daemon_owned::{Owned, Parts};
 use sc_entry::NoMemory;
-use sc_hold::Hold;
-use sc_job::{Origin, count_level};
 use sc_model::{Event, Owner, What};
-use sc_owned::{Owned, Parts};
 use sc_stats::{LevelStats, ServerStats};
 use std::alloc::Global;
 use std::marker::Model;
@@ -284,10 +285,10 @@ impl<P: Parts> Daemon<P> {
         number: u64,
         conn: &mut Conn,
     ) -> Result<Event, NoMemory>
-        requires rests { Rests self.old.state.config (disk_at self.old.state) conn.old.phase conn.old.entry conn.old.waiting }
+        requires rests { Rests (config_of self.old.state.config) (disk_at self.old.state) conn.old.phase conn.old.entry conn.old.waiting }
         requires free { self.old.free + 1 < 2 ^ 64 }
         ensures serves { IfOk result (λ event. ServesEvent number event self.old self.new conn.old conn.new) }
-        ensures rests { IfOk result (λ _. Rests self.old.state.config (disk_at self.new.state) conn.new.phase conn.new.entry conn.new.waiting) }
+        ensures rests { IfOk result (λ _. Rests (config_of self.old.state.config) (disk_at self.new.state) conn.new.phase conn.new.entry conn.new.waiting) }
         ensures free { IfOk result (λ _. self.new.free ≤ self.old.free + 1) }
     {
         let moment = self.now();
@@ -317,7 +318,7 @@ impl<P: Parts> Daemon<P> {
 
     /// Does the next event of the handed write at this place among those that are left, where there is one, and counts it.
     pub(crate) fn back(&mut self, alloc: Global, place: u64) -> Result<Event, NoMemory>
-        requires pending { ArePending self.old.state.config (disk_at self.old.state) self.old.background }
+        requires pending { ArePending (config_of self.old.state.config) (disk_at self.old.state) self.old.background }
         ensures backs { IfOk result (λ event. BacksEvent place event self.old self.new) }
     {
         let Some(write) = self.background.get(place as usize) else {

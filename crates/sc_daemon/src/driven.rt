@@ -1,6 +1,6 @@
-use sc_conn::End;
 use sc_entry::{ByteText, Items};
 use sc_model::{Event, Handed};
+use sc_wire_conn::End;
 
 /// What a connection came to: its end, and the bytes that it was sent.
 #[derive(Drop)]

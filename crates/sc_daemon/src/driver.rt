@@ -2,16 +2,17 @@
 ghost use Rattle.std.specs.Prelude.{◌≡◌, ◌+◌, ◌<◌, ◌^◌, [], true, IfOk, List, length};
 ghost use Rattle.sc_daemon.specs.Backlogs.{ArePending};
 ghost use Rattle.sc_daemon.specs.Drives.{AreAt, IsScriptOf, Steps, StepsOn, Tied, lines_of};
-ghost use Rattle.sc_job.specs.Setups.{setup};
+ghost use Rattle.sc_daemon_job.specs.Setups.{setup};
 ghost use Rattle.sc_model.specs.Script.{Script as GivenScript};
 ghost use Rattle.sc_model.specs.Trace.{Open};
-ghost use Rattle.sc_owned.specs.State.{disk_at};
+ghost use Rattle.sc_daemon_owned.specs.State.{disk_at};
+ghost use Rattle.sc_daemon_owned.specs.Facts.{config_of};
 
 use crate::conn::Conn;
 use crate::daemon::Daemon;
+use sc_daemon_owned::Parts;
 use sc_entry::{ByteText, NoMemory};
 use sc_model::{Event, Step};
-use sc_owned::Parts;
 use std::alloc::Global;
 
 /// A drive so far: its connections, and its events in their order.
@@ -54,9 +55,9 @@ impl Driver {
         number: u64,
         count: u64,
     ) -> Result<Event, NoMemory>
-        requires at { AreAt daemon.now.state.config (disk_at daemon.now.state) self.old.conns.items }
+        requires at { AreAt (config_of daemon.now.state.config) (disk_at daemon.now.state) self.old.conns.items }
         requires inputs { length self.old.conns.items ≡ length inputs.now }
-        ensures steps { IfOk result (λ event. (s : GivenScript) (opens : List Open) → IsScriptOf s daemon.now.state.config inputs.now → Tied daemon.now self.old.conns.items opens → Steps s (Step.Read number count) event daemon.now daemon.now self.old.conns.items self.new.conns.items opens) }
+        ensures steps { IfOk result (λ event. (s : GivenScript) (opens : List Open) → IsScriptOf s (config_of daemon.now.state.config) inputs.now → Tied daemon.now self.old.conns.items opens → Steps s (Step.Read number count) event daemon.now daemon.now self.old.conns.items self.new.conns.items opens) }
         ensures events { self.new.events ≡ self.old.events }
     {
         daemon.keeps();
@@ -81,11 +82,11 @@ impl Driver {
         daemon: &mut Daemon<P>,
         number: u64,
     ) -> Result<Event, NoMemory>
-        requires at { AreAt daemon.old.state.config (disk_at daemon.old.state) self.old.conns.items }
-        requires pending { ArePending daemon.old.state.config (disk_at daemon.old.state) daemon.old.background }
+        requires at { AreAt (config_of daemon.old.state.config) (disk_at daemon.old.state) self.old.conns.items }
+        requires pending { ArePending (config_of daemon.old.state.config) (disk_at daemon.old.state) daemon.old.background }
         requires told { daemon.old.state.told ≡ true }
         requires free { daemon.old.free + 1 < 2 ^ 64 }
-        ensures steps { IfOk result (λ event. (s : GivenScript) (opens : List Open) → s.setup ≡ setup daemon.old.state.config → Tied daemon.old self.old.conns.items opens → Steps s (Step.Serve number) event daemon.old daemon.new self.old.conns.items self.new.conns.items opens) }
+        ensures steps { IfOk result (λ event. (s : GivenScript) (opens : List Open) → s.setup ≡ setup (config_of daemon.old.state.config) → Tied daemon.old self.old.conns.items opens → Steps s (Step.Serve number) event daemon.old daemon.new self.old.conns.items self.new.conns.items opens) }
         ensures events { self.new.events ≡ self.old.events }
     {
         daemon.keeps();
@@ -104,12 +105,12 @@ impl Driver {
         inputs: &[ByteText],
         step: &Step,
     ) -> Result<Event, NoMemory>
-        requires at { AreAt daemon.old.state.config (disk_at daemon.old.state) self.old.conns.items }
+        requires at { AreAt (config_of daemon.old.state.config) (disk_at daemon.old.state) self.old.conns.items }
         requires inputs { length self.old.conns.items ≡ length inputs.now }
-        requires pending { ArePending daemon.old.state.config (disk_at daemon.old.state) daemon.old.background }
+        requires pending { ArePending (config_of daemon.old.state.config) (disk_at daemon.old.state) daemon.old.background }
         requires told { daemon.old.state.told ≡ true }
         requires free { daemon.old.free + 1 < 2 ^ 64 }
-        ensures steps { IfOk result (λ event. (s : GivenScript) (opens : List Open) → IsScriptOf s daemon.old.state.config inputs.now → Tied daemon.old self.old.conns.items opens → Steps s step.now event daemon.old daemon.new self.old.conns.items self.new.conns.items opens) }
+        ensures steps { IfOk result (λ event. (s : GivenScript) (opens : List Open) → IsScriptOf s (config_of daemon.old.state.config) inputs.now → Tied daemon.old self.old.conns.items opens → Steps s step.now event daemon.old daemon.new self.old.conns.items self.new.conns.items opens) }
         ensures events { self.new.events ≡ self.old.events }
     {
         match step {
@@ -136,12 +137,12 @@ impl Driver {
         inputs: &[ByteText],
         step: &Step,
     ) -> Result<(), NoMemory>
-        requires at { AreAt daemon.old.state.config (disk_at daemon.old.state) self.old.conns.items }
+        requires at { AreAt (config_of daemon.old.state.config) (disk_at daemon.old.state) self.old.conns.items }
         requires inputs { length self.old.conns.items ≡ length inputs.now }
-        requires pending { ArePending daemon.old.state.config (disk_at daemon.old.state) daemon.old.background }
+        requires pending { ArePending (config_of daemon.old.state.config) (disk_at daemon.old.state) daemon.old.background }
         requires told { daemon.old.state.told ≡ true }
         requires free { daemon.old.free + 1 < 2 ^ 64 }
-        ensures steps { IfOk result (λ _. StepsOn daemon.old.state.config inputs.now step.now self.old.events.items self.new.events.items daemon.old daemon.new self.old.conns.items self.new.conns.items) }
+        ensures steps { IfOk result (λ _. StepsOn (config_of daemon.old.state.config) inputs.now step.now self.old.events.items self.new.events.items daemon.old daemon.new self.old.conns.items self.new.conns.items) }
     {
         let event = self.event_of(alloc, daemon, inputs, step)?;
         self.events.push(event)?;

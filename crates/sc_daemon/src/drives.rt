@@ -1,20 +1,20 @@
 //! Drives of any steps over any bytes on any connections.
 ghost use Rattle.std.specs.Prelude.{◌≡◌, ℕ, [], true, Ok, IfOk, IsOk, length, map, reverse};
-ghost use Rattle.sc_conn.specs.Ends.{end_of};
+ghost use Rattle.sc_wire_conn.specs.Ends.{end_of};
 ghost use Rattle.sc_daemon.specs.Daemons.{IsIdleDaemon, anew, script_of};
 ghost use Rattle.sc_daemon.specs.Drives.{Progress, line_end, lines_of, result_of};
 ghost use Rattle.sc_model.specs.Headline.{Headline};
 ghost use Rattle.sc_model.specs.Trace.{reservations, reserved_at};
-ghost use Rattle.sc_owned.specs.State.{reserved_in};
+ghost use Rattle.sc_daemon_owned.specs.State.{reserved_in};
 
 use crate::backlog::Backlog;
 use crate::conn::Conn;
 use crate::daemon::Daemon;
 use crate::driven::{Driven, DrivenConn};
 use crate::driver::Driver;
+use sc_daemon_owned::Parts;
 use sc_entry::{ByteText, Items, NoMemory};
 use sc_model::{Event, Handed, Step, every_run};
-use sc_owned::Parts;
 use std::alloc::Global;
 
 /// Drops a connection in a call of its own: dropped where it is used it takes the check minutes.

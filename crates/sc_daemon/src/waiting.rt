@@ -4,9 +4,9 @@ ghost use Rattle.sc_daemon.specs.Lines.{IsFirst, first_of, listed};
 ghost use Rattle.sc_wire.specs.Requests.{AreServed};
 ghost use Rattle.sc_wire.specs.Streams.{served_reader};
 
-use sc_conn::Inbox;
 use sc_entry::{NoMemory, Queue};
 use sc_model::Request;
+use sc_wire_conn::Inbox;
 use std::alloc::Global;
 use std::marker::Model;
 

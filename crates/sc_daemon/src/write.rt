@@ -8,10 +8,10 @@ ghost use Rattle.sc_model.specs.World.{Need};
 ghost use Rattle.sc_model.specs.declared.level.LevelKind.TheVariants.{Disk, Remote};
 ghost use Rattle.sc_model.specs.declared.phase.Stage.TheVariants.{Filled as IsFilled, Fresh, Reserved as IsReserved};
 
-use sc_action::{EntryAction, commit_entry, fill_entry, open_entry};
+use sc_daemon_action::{EntryAction, commit_entry, fill_entry, open_entry};
+use sc_daemon_hold::Hold;
 use sc_disk::LruDiskCacheAddEntry;
 use sc_entry::NoMemory;
-use sc_hold::Hold;
 use sc_model::{Bytes, Handed, LevelKind, Mode, Stage, What, Written};
 use std::alloc::Global;
 use std::marker::Model;

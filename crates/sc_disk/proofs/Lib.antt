@@ -19,3 +19,6 @@ pub mod Preparing
 pub mod Reopening
 pub mod Wholes
 pub mod Written
+pub mod Rising
+pub mod Remaining
+pub mod Again

@@ -1,5 +1,11 @@
-//! Tests of `sc_disk`.
+//! Tests of `sc_disk` and `sc_disk_pair`, and of what a stop leaves of a store.
 #![tactic(auto)]
 
 #[cfg(test)]
-mod tests;
+mod disks;
+#[cfg(test)]
+mod pair;
+#[cfg(test)]
+mod reopen;
+#[cfg(test)]
+mod store;

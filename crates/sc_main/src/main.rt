@@ -1,10 +1,20 @@
-//! The program. Its words, its streams and its exit code are the process's; `sc_run::run` does the rest.
+//! The program. `run` does what its words say, over any streams; `main` gives it the process's own words, streams and exit code.
 #![tactic(auto)]
+
+mod outside;
+mod printing;
+mod running;
+mod scripted;
+#[cfg(test)]
+mod tests;
 
 ghost use Rattle.std.specs.Prelude.{◌≡◌, drop};
 
-use sc_entry::{ByteText, NoMemory, ReaderSource, WriterSink};
-use sc_run::{Ended, Outside, exit_code, run};
+use crate::outside::Outside;
+use crate::running::run;
+use sc_entry::{ByteText, NoMemory};
+use sc_host::{ReaderSource, WriterSink};
+use sc_main_report::{Ended, exit_code};
 use std::alloc::Global;
 use std::env;
 use std::process::ExitCode;

@@ -6,8 +6,8 @@ use Rattle.sc_model.specs.Plan.{note}
 use Rattle.sc_model.specs.Script.{Control, Default, ForceNoCache, ForceRecache, Setup, control, no_task}
 use Rattle.sc_model.specs.declared.event.Answer.{Answer}
 use Rattle.sc_model.specs.declared.event.Answer.TheVariants.{Hit, Refused, Size as SizeIs}
-use Rattle.sc_language.specs.declared.compiler_kind.CompilerKind.{CompilerKind}
-use Rattle.sc_language.specs.declared.compiler_kind.CompilerKind.TheVariants.{C as KindC, Rust as KindRust}
+use Rattle.sc_compile_language.specs.declared.compiler_kind.CompilerKind.{CompilerKind}
+use Rattle.sc_compile_language.specs.declared.compiler_kind.CompilerKind.TheVariants.{C as KindC, Rust as KindRust}
 use Rattle.sc_model.specs.declared.event.DistAnswer.{DistAnswer}
 use Rattle.sc_model.specs.declared.event.DistAnswer.TheVariants.{Done as DistDone, Http as DistHttp, Other as DistOther, TooLarge as DistTooLarge}
 use Rattle.sc_model.specs.declared.event.DistType.{DistType}

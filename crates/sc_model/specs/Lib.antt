@@ -12,5 +12,8 @@ pub mod Headline
 pub mod Stream
 pub mod Machine
 pub mod Collected
+pub mod Collecting
+pub mod GoodNames
+pub mod Notes
 pub mod There
 pub mod Devices

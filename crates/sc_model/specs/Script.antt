@@ -1,10 +1,10 @@
 -- What the caller hands in, and what its parts tell: bytes, limits, levels, policy, compiler part, texts.
 use Rattle.std.specs.Prelude.{◌≡◌, ℕ, ◌<◌, Bool, true, false, ◌||◌, List, [], ◌∷◌, ◌++◌, length, Option, slice_index_or, codes, bytes_eq}
-use Rattle.sc_language.specs.declared.compiler_kind.CCompilerKind.TheVariants.{Gcc, Nvcc}
-use Rattle.sc_language.specs.declared.compiler_kind.CompilerKind.TheVariants.{C as KindC}
+use Rattle.sc_compile_language.specs.declared.compiler_kind.CCompilerKind.TheVariants.{Gcc, Nvcc}
+use Rattle.sc_compile_language.specs.declared.compiler_kind.CompilerKind.TheVariants.{C as KindC}
 use Rattle.sc_model.specs.declared.event.DistAnswer.{DistAnswer}
 use Rattle.sc_model.specs.declared.event.KeyStep.{KeyStep}
-use Rattle.sc_language.specs.declared.language.Language.TheVariants.{C as LanguageC, Cuda}
+use Rattle.sc_compile_language.specs.declared.language.Language.TheVariants.{C as LanguageC, Cuda}
 use Rattle.sc_entry.specs.declared.object.Object.{Object}
 use Rattle.sc_model.specs.declared.event.Parsed.{Parsed}
 use Rattle.sc_model.specs.declared.event.RunAnswer.{RunAnswer}

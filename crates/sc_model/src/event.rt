@@ -3,8 +3,8 @@ ghost use Rattle.std.specs.Prelude.{◌≡◌};
 
 use crate::level::{Cause, Handed, Put};
 use crate::message::{Request, Response, StorageHandshakeInfo};
+use sc_compile_language::{CompilerKind, Language};
 use sc_entry::{ByteText, FileObjectSource, Items, Object, Text};
-use sc_language::{CompilerKind, Language};
 use sc_stats::{DistInfo, LevelStats, ServerStats};
 use std::alloc::AllocError;
 

@@ -98,17 +98,19 @@ impl Clone for LevelStats {
     ghost is_clone = { λ original copy. copy ≡ original };
 
     fn clone(&self) -> Result<LevelStats, AllocError> {
+        let name = self.name.clone()?;
+        let location = self.location.clone()?;
         Ok(LevelStats {
-            name: self.name.clone()?,
-            location: self.location.clone()?,
+            name,
+            location,
             hits: self.hits,
             misses: self.misses,
             writes: self.writes,
             write_failures: self.write_failures,
             backfills_from: self.backfills_from,
             backfills_to: self.backfills_to,
-            hit_duration: self.hit_duration.clone()?,
-            write_duration: self.write_duration.clone()?,
+            hit_duration: self.hit_duration.copy(),
+            write_duration: self.write_duration.copy(),
         })
     }
 }
@@ -124,34 +126,64 @@ fn copy_of_levels(
     }
 }
 
+/// Copies of the errors, the hits and the misses of the cache.
+fn copies_by_language(
+    stats: &ServerStats,
+) -> Result<(PerLanguageCount, PerLanguageCount, PerLanguageCount), AllocError>
+    ensures errors { IfOk result (λ copies. copies.0 ≡ stats.now.cache_errors) }
+    ensures hits { IfOk result (λ copies. copies.1 ≡ stats.now.cache_hits) }
+    ensures misses { IfOk result (λ copies. copies.2 ≡ stats.now.cache_misses) }
+{
+    let errors = stats.cache_errors.clone()?;
+    let hits = stats.cache_hits.clone()?;
+    let misses = stats.cache_misses.clone()?;
+    Ok((errors, hits, misses))
+}
+
+/// Copies of the reasons of what was not cached, of the servers, and of the levels.
+fn copies_by_name(
+    stats: &ServerStats,
+) -> Result<(Counts, Counts, Option<Items<LevelStats>>), AllocError>
+    ensures not_cached { IfOk result (λ copies. copies.0 ≡ stats.now.not_cached) }
+    ensures dist_compiles { IfOk result (λ copies. copies.1 ≡ stats.now.dist_compiles) }
+    ensures multi_level { IfOk result (λ copies. copies.2 ≡ stats.now.multi_level) }
+{
+    let not_cached = stats.not_cached.clone()?;
+    let dist_compiles = stats.dist_compiles.clone()?;
+    let multi_level = copy_of_levels(&stats.multi_level)?;
+    Ok((not_cached, dist_compiles, multi_level))
+}
+
 impl Clone for ServerStats {
     ghost is_clone = { λ original copy. copy ≡ original };
 
     fn clone(&self) -> Result<ServerStats, AllocError> {
+        let (cache_errors, cache_hits, cache_misses) = copies_by_language(self)?;
+        let (not_cached, dist_compiles, multi_level) = copies_by_name(self)?;
         Ok(ServerStats {
             compile_requests: self.compile_requests,
             requests_unsupported_compiler: self.requests_unsupported_compiler,
             requests_not_compile: self.requests_not_compile,
             requests_not_cacheable: self.requests_not_cacheable,
             requests_executed: self.requests_executed,
-            cache_errors: self.cache_errors.clone()?,
-            cache_hits: self.cache_hits.clone()?,
-            cache_misses: self.cache_misses.clone()?,
+            cache_errors,
+            cache_hits,
+            cache_misses,
             cache_timeouts: self.cache_timeouts,
             cache_read_errors: self.cache_read_errors,
             non_cacheable_compilations: self.non_cacheable_compilations,
             forced_recaches: self.forced_recaches,
             cache_write_errors: self.cache_write_errors,
             cache_writes: self.cache_writes,
-            cache_write_duration: self.cache_write_duration.clone()?,
-            cache_read_hit_duration: self.cache_read_hit_duration.clone()?,
+            cache_write_duration: self.cache_write_duration.copy(),
+            cache_read_hit_duration: self.cache_read_hit_duration.copy(),
             compilations: self.compilations,
-            compiler_write_duration: self.compiler_write_duration.clone()?,
+            compiler_write_duration: self.compiler_write_duration.copy(),
             compile_fails: self.compile_fails,
-            not_cached: self.not_cached.clone()?,
-            dist_compiles: self.dist_compiles.clone()?,
+            not_cached,
+            dist_compiles,
             dist_errors: self.dist_errors,
-            multi_level: copy_of_levels(&self.multi_level)?,
+            multi_level,
         })
     }
 }
@@ -160,14 +192,18 @@ impl Clone for ServerInfo {
     ghost is_clone = { λ original copy. copy ≡ original };
 
     fn clone(&self) -> Result<ServerInfo, AllocError> {
+        let cache_location = self.cache_location.clone()?;
+        let version = self.version.clone()?;
+        let basedirs = self.basedirs.clone()?;
+        let stats = self.stats.clone()?;
         Ok(ServerInfo {
-            stats: self.stats.clone()?,
-            cache_location: self.cache_location.clone()?,
+            stats,
+            cache_location,
             cache_size: self.cache_size,
             max_cache_size: self.max_cache_size,
             use_preprocessor_cache_mode: self.use_preprocessor_cache_mode,
-            version: self.version.clone()?,
-            basedirs: self.basedirs.clone()?,
+            version,
+            basedirs,
         })
     }
 }

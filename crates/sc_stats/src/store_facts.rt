@@ -1,4 +1,4 @@
-ghost use Rattle.std.specs.Prelude.{◌≡◌, map, IfOk};
+ghost use Rattle.std.specs.Prelude.{◌≡◌, codes, map, IfOk};
 ghost use Rattle.std.specs.Str.Lossy.{utf8_lossy};
 ghost use Rattle.std.specs.Option.{option_map};
 ghost use Rattle.sc_stats.specs.Store.{Facts, info_of};
@@ -62,22 +62,24 @@ impl ServerInfo {
     ) -> Result<ServerInfo, NoMemory>
         ensures { IfOk result (λ info. info ≡ info_of stats (Some (S.facts store.now))) }
     {
+        let (multi_level, cache_location, version, basedirs) = told_by(alloc, store)?;
         let mut stats = stats;
-        stats.multi_level = store.multilevel_stats(alloc)?;
+        stats.multi_level = multi_level;
         Ok(ServerInfo {
             stats,
-            cache_location: store.location(alloc)?,
+            cache_location,
             cache_size: store.current_size(),
             max_cache_size: store.max_size(),
             use_preprocessor_cache_mode: store.use_preprocessor_cache_mode(),
-            version: Text::from_str(alloc, VERSION)?,
-            basedirs: read_lossy(alloc, store.basedirs())?,
+            version,
+            basedirs,
         })
     }
 
     fn of_no_store(alloc: Global, stats: ServerStats) -> Result<ServerInfo, NoMemory>
         ensures { IfOk result (λ info. info ≡ info_of stats None) }
     {
+        let version = Text::from_str(alloc, VERSION)?;
         let mut stats = stats;
         stats.multi_level = None;
         Ok(ServerInfo {
@@ -86,10 +88,27 @@ impl ServerInfo {
             cache_size: None,
             max_cache_size: None,
             use_preprocessor_cache_mode: false,
-            version: Text::from_str(alloc, VERSION)?,
+            version,
             basedirs: Items::new(alloc),
         })
     }
+}
+
+/// What takes memory: the store's levels, its location, the version, and the base directories.
+fn told_by<S: StoreFacts>(
+    alloc: Global,
+    store: &S,
+) -> Result<(Option<Items<LevelStats>>, Text, Text, Items<Text>), NoMemory>
+    ensures levels { IfOk result (λ told. told.0 ≡ (S.facts store.now).levels) }
+    ensures location { IfOk result (λ told. told.1 ≡ (S.facts store.now).location) }
+    ensures version { IfOk result (λ told. told.2 ≡ codes "0.19.0") }
+    ensures basedirs { IfOk result (λ told. told.3 ≡ map utf8_lossy (S.facts store.now).basedirs) }
+{
+    let levels = store.multilevel_stats(alloc)?;
+    let location = store.location(alloc)?;
+    let version = Text::from_str(alloc, VERSION)?;
+    let basedirs = read_lossy(alloc, store.basedirs())?;
+    Ok((levels, location, version, basedirs))
 }
 
 /// Paths as texts, with replacement characters for what is no UTF-8.

@@ -1,10 +1,11 @@
-ghost use Rattle.std.specs.Prelude.{◌≡◌, [], ◌∷◌, codes, None, Some, true};
+ghost use Rattle.std.specs.Prelude.{◌≡◌};
 
 use crate::expected::{BY_COMPILER, BY_KIND, NO_STORE, NOTHING};
-use sc_entry::{ByteText, Counts, Items, NoMemory, Text};
+use crate::fixtures::{LevelNumbers, Levels, count, level_named, no_info, store, two_levels};
+use sc_entry::{Items, Text};
 use sc_stats::{
     DistInfo, LevelStats, MultiLevelStats, PerLanguageCount, ServerInfo, ServerStats,
-    ServerStatsWriter, Span, StdoutServerStatsWriter, StoreFacts,
+    ServerStatsWriter, Span, StdoutServerStatsWriter,
 };
 use std::alloc::Global;
 use std::test::Fail;
@@ -22,47 +23,6 @@ impl ServerStatsWriter for Page {
         let _kept = self.text.push_str(text);
         let _ended = self.text.push('\n');
     }
-}
-
-/// A store over levels.
-#[derive(Drop)]
-struct Levels {
-    levels: Items<LevelStats>,
-    basedirs: Items<ByteText>,
-}
-
-impl StoreFacts for Levels {
-    ghost facts = { λ s. record { location = codes "Local disk: \"/x\""; current_size = Some 1536; max_size = Some 2560; levels = Some s.levels; use_preprocessor_cache_mode = true; basedirs = s.basedirs } };
-
-    fn location(&self, alloc: Global) -> Result<Text, NoMemory> {
-        Text::from_str(alloc, "Local disk: \"/x\"")
-    }
-
-    fn current_size(&self) -> Option<u64> {
-        Some(1536)
-    }
-
-    fn max_size(&self) -> Option<u64> {
-        Some(2560)
-    }
-
-    fn multilevel_stats(&self, _alloc: Global) -> Result<Option<Items<LevelStats>>, NoMemory> {
-        Ok(Some(self.levels.clone()?))
-    }
-
-    fn use_preprocessor_cache_mode(&self) -> bool {
-        true
-    }
-
-    fn basedirs(&self) -> &[ByteText] {
-        self.basedirs.as_slice()
-    }
-}
-
-fn count(counts: &mut Counts, alloc: Global, text: &str, n: u64) -> Result<(), Fail> {
-    let text = Text::from_str(alloc, text)?;
-    counts.add(&text, n)?;
-    Ok(())
 }
 
 fn fill_requests(stats: &mut ServerStats) {
@@ -111,55 +71,46 @@ fn fill_texts(stats: &mut ServerStats, alloc: Global) -> Result<(), Fail> {
     Ok(())
 }
 
-fn level_named(alloc: Global, name: &str, location: &str) -> Result<LevelStats, Fail> {
-    let name = Text::from_str(alloc, name)?;
-    Ok(LevelStats::named(name, Text::from_str(alloc, location)?))
+const DISK: LevelNumbers = LevelNumbers {
+    hits: 1,
+    misses: 3,
+    writes: 2,
+    write_failures: 5,
+    backfills_from: 6,
+    backfills_to: 7,
+    hit_nanoseconds: 5,
+    write_seconds: 3,
+};
+
+/// A disk, and a level that counted nothing.
+fn levels_of_two(alloc: Global) -> Result<Items<LevelStats>, Fail> {
+    two_levels(alloc, &DISK, "redis")
 }
 
-fn fill_level(level: &mut LevelStats) {
-    level.hits = 1;
-    level.misses = 3;
-    level.writes = 2;
-    level.write_failures = 5;
-    level.backfills_from = 6;
-    level.backfills_to = 7;
-    level.hit_duration = Span::from_nanoseconds(5);
-    level.write_duration = Span::new(3, 0);
-}
-
-fn two_levels(alloc: Global) -> Result<Items<LevelStats>, Fail> {
-    let mut disk = level_named(alloc, "L0 (disk)", "/ö")?;
-    fill_level(&mut disk);
-    let mut levels = Items::new(alloc);
-    levels.push(disk)?;
-    levels.push(level_named(alloc, "Lé", "redis")?)?;
-    Ok(levels)
+fn fill(stats: &mut ServerStats, alloc: Global) -> Result<(), Fail> {
+    fill_requests(stats);
+    fill_writes(stats);
+    fill_languages(stats, alloc)?;
+    fill_texts(stats, alloc)?;
+    stats.multi_level = Some(levels_of_two(alloc)?);
+    Ok(())
 }
 
 fn full_stats(alloc: Global) -> Result<ServerStats, Fail> {
-    let levels = two_levels(alloc)?;
     let mut stats = ServerStats::new(alloc);
-    fill_requests(&mut stats);
-    fill_writes(&mut stats);
-    fill_languages(&mut stats, alloc)?;
-    fill_texts(&mut stats, alloc)?;
-    stats.multi_level = Some(levels);
+    fill(&mut stats, alloc)?;
     Ok(stats)
 }
 
-fn full_info(alloc: Global) -> Result<ServerInfo, Fail> {
-    let mut basedirs = Items::new(alloc);
-    basedirs.push(ByteText::from_slice(alloc, b"/a")?)?;
-    basedirs.push(ByteText::from_slice(alloc, b"/\xff")?)?;
-    let levels = two_levels(alloc)?;
-    let store = Levels { levels, basedirs };
+fn info_of(alloc: Global, store: &Levels) -> Result<ServerInfo, Fail> {
     let stats = full_stats(alloc)?;
-    Ok(ServerInfo::new(alloc, stats, Some(&store))?)
+    Ok(ServerInfo::new(alloc, stats, Some(store))?)
 }
 
-fn no_info(alloc: Global) -> Result<ServerInfo, Fail> {
-    let no_store: Option<&Levels> = None;
-    Ok(ServerInfo::new(alloc, ServerStats::new(alloc), no_store)?)
+fn full_info(alloc: Global) -> Result<ServerInfo, Fail> {
+    let levels = levels_of_two(alloc)?;
+    let store = store(alloc, levels, [b"/a", b"/\xff"])?;
+    info_of(alloc, &store)
 }
 
 fn empty_page(alloc: Global) -> Page {
@@ -188,47 +139,60 @@ fn tells(alloc: Global, info: &ServerInfo, text: &str) -> Result<bool, Fail> {
     Ok(page.text.as_str() == text)
 }
 
+fn prints_nothing(alloc: Global) -> Result<bool, Fail> {
+    let stats = ServerStats::new(alloc);
+    prints(alloc, &stats, 31, 7, NOTHING)
+}
+
+fn prints_all(alloc: Global) -> Result<bool, Fail> {
+    let stats = full_stats(alloc)?;
+    prints(alloc, &stats, 34, 20, BY_KIND)
+}
+
+fn tells_all(alloc: Global) -> Result<bool, Fail> {
+    let info = full_info(alloc)?;
+    tells(alloc, &info, BY_COMPILER)
+}
+
 #[test]
 fn prints_nothing_counted(rt: HostRuntime) -> Result<(), Fail> {
-    let alloc = rt.alloc();
-    let stats = ServerStats::new(alloc);
-    assert!(rt; prints(alloc, &stats, 31, 7, NOTHING)?);
+    assert!(rt; prints_nothing(rt.alloc())?);
     Ok(())
 }
 
 #[test]
 fn prints_by_kind(rt: HostRuntime) -> Result<(), Fail> {
-    let alloc = rt.alloc();
-    let stats = full_stats(alloc)?;
-    assert!(rt; prints(alloc, &stats, 34, 20, BY_KIND)?);
+    assert!(rt; prints_all(rt.alloc())?);
     Ok(())
 }
 
 #[test]
 fn prints_by_compiler(rt: HostRuntime) -> Result<(), Fail> {
-    let alloc = rt.alloc();
-    let info = full_info(alloc)?;
-    assert!(rt; tells(alloc, &info, BY_COMPILER)?);
+    assert!(rt; tells_all(rt.alloc())?);
     Ok(())
+}
+
+/// Whether what is printed ends so.
+fn ends_with(alloc: Global, info: &ServerInfo, end: &str) -> Result<bool, Fail> {
+    let mut page = empty_page(alloc);
+    info.print(alloc, &mut page, false, Some("ReadWrite"))?;
+    Ok(page.text.as_str().ends_with(end))
 }
 
 /// Whether what is printed with this limit ends so.
 fn shows_size(alloc: Global, size: u64, end: &str) -> Result<bool, Fail> {
     let mut info = no_info(alloc)?;
     info.max_cache_size = Some(size);
-    let mut page = empty_page(alloc);
-    info.print(alloc, &mut page, false, Some("ReadWrite"))?;
-    Ok(page.text.as_str().ends_with(end))
+    ends_with(alloc, &info, end)
 }
 
 #[test]
 fn sizes_round_half_to_even(rt: HostRuntime) -> Result<(), Fail> {
-    let alloc = rt.alloc();
     let kibi = "\nMax cache size                        2 KiB\n";
-    assert!(rt; shows_size(alloc, 1536, kibi)?);
-    assert!(rt; shows_size(alloc, 2560, kibi)?);
     let exbi = "\nMax cache size                       16 EiB\n";
-    assert!(rt; shows_size(alloc, u64::MAX, exbi)?);
+    for (size, end) in [(1536, kibi), (2560, kibi), (u64::MAX, exbi)] {
+        assert!(rt; shows_size(rt.alloc(), size, end)?, "{size}");
+    }
     Ok(())
 }
 
@@ -238,27 +202,33 @@ fn no_store_has_no_place(rt: HostRuntime) -> Result<(), Fail> {
     Ok(())
 }
 
+/// Whether a level prints its rate so.
+fn has_rate(alloc: Global, level: &LevelStats, rate: &str) -> Result<bool, Fail> {
+    let rows = level.format_stats(alloc)?;
+    Ok(rows.get(2).is_some_and(|row| row.value.as_str() == rate))
+}
+
 /// Whether a level's rate is printed so.
 fn shows_rate(alloc: Global, hits: u64, misses: u64, rate: &str) -> Result<bool, Fail> {
     let mut level = LevelStats::new(alloc);
     level.hits = hits;
     level.misses = misses;
-    let rows = level.format_stats(alloc)?;
-    match rows.get(2) {
-        Some(row) => Ok(row.value.as_str() == rate),
-        None => Ok(false),
-    }
+    has_rate(alloc, &level, rate)
 }
 
 #[test]
 fn rates_round_half_to_even(rt: HostRuntime) -> Result<(), Fail> {
-    let alloc = rt.alloc();
-    assert!(rt; shows_rate(alloc, 0, 0, "-")?);
-    assert!(rt; shows_rate(alloc, 0, 1, "0.00 %")?);
-    assert!(rt; shows_rate(alloc, 1, 3, "25.00 %")?);
-    assert!(rt; shows_rate(alloc, 1, 799, "0.12 %")?);
-    assert!(rt; shows_rate(alloc, 3, 797, "0.38 %")?);
-    assert!(rt; shows_rate(alloc, u64::MAX, u64::MAX, "50.00 %")?);
+    let cases = [
+        (0, 0, "-"),
+        (0, 1, "0.00 %"),
+        (1, 3, "25.00 %"),
+        (1, 799, "0.12 %"),
+        (3, 797, "0.38 %"),
+        (u64::MAX, u64::MAX, "50.00 %"),
+    ];
+    for (hits, misses, rate) in cases {
+        assert!(rt; shows_rate(rt.alloc(), hits, misses, rate)?, "{rate}");
+    }
     Ok(())
 }
 
@@ -284,13 +254,28 @@ fn all_hits(alloc: Global, requests: u64) -> Result<ServerStats, Fail> {
     Ok(stats)
 }
 
+/// The requests and the hits of a sum.
+fn added(stats: &mut ServerStats, more: &ServerStats) -> Result<(u64, u64), Fail> {
+    stats.add_assign(more)?;
+    Ok((stats.compile_requests, stats.cache_hits.all()))
+}
+
+fn added_one(stats: &mut ServerStats, alloc: Global) -> Result<(u64, u64), Fail> {
+    let one = all_hits(alloc, 1)?;
+    added(stats, &one)
+}
+
+/// The requests and the hits after so many and one more.
+fn counted_with_one(alloc: Global, requests: u64) -> Result<(u64, u64), Fail> {
+    let mut stats = all_hits(alloc, requests)?;
+    added_one(&mut stats, alloc)
+}
+
 #[test]
 fn counters_stop_at_their_end(rt: HostRuntime) -> Result<(), Fail> {
-    let alloc = rt.alloc();
-    let mut stats = all_hits(alloc, u64::MAX)?;
-    stats.add_assign(&all_hits(alloc, 1)?)?;
-    assert_eq!(rt; stats.compile_requests, u64::MAX);
-    assert_eq!(rt; stats.cache_hits.all(), u64::MAX);
+    let (requests, hits) = counted_with_one(rt.alloc(), u64::MAX)?;
+    assert_eq!(rt; requests, u64::MAX);
+    assert_eq!(rt; hits, u64::MAX);
     Ok(())
 }
 
@@ -302,20 +287,36 @@ fn spans_stop_at_their_end(rt: HostRuntime) {
     assert_eq!(rt; longest.subsec_nanos(), 999_999_999);
 }
 
+/// Adds counts of two languages to counts of one.
+fn add_languages(
+    counts: &mut PerLanguageCount,
+    more: &mut PerLanguageCount,
+    alloc: Global,
+) -> Result<(), Fail> {
+    count(&mut counts.counts, alloc, "Rust", 2)?;
+    count(&mut counts.adv_counts, alloc, "rust", 2)?;
+    count(&mut more.counts, alloc, "Rust", 3)?;
+    count(&mut more.counts, alloc, "C/C++", 4)?;
+    counts.add_assign(more)?;
+    Ok(())
+}
+
+/// The sum of all counts, and the counts of the kind `Rust` and of a compiler that was not counted.
+fn counted(
+    counts: &PerLanguageCount,
+    alloc: Global,
+) -> Result<(u64, Option<u64>, Option<u64>), Fail> {
+    let rust = Text::from_str(alloc, "Rust")?;
+    Ok((counts.all(), counts.get(&rust), counts.get_adv(&rust)))
+}
+
 #[test]
 fn languages_are_added_by_key(rt: HostRuntime) -> Result<(), Fail> {
     let alloc = rt.alloc();
-    let rust = Text::from_str(alloc, "Rust")?;
     let mut counts = PerLanguageCount::new(alloc);
-    count(&mut counts.counts, alloc, "Rust", 2)?;
-    count(&mut counts.adv_counts, alloc, "rust", 2)?;
     let mut more = PerLanguageCount::new(alloc);
-    count(&mut more.counts, alloc, "Rust", 3)?;
-    count(&mut more.counts, alloc, "C/C++", 4)?;
-    counts.add_assign(&more)?;
-    assert_eq!(rt; counts.all(), 9);
-    assert_eq!(rt; counts.get(&rust), Some(5));
-    assert_eq!(rt; counts.get_adv(&rust), None);
+    add_languages(&mut counts, &mut more, alloc)?;
+    assert!(rt; counted(&counts, alloc)? == (9, Some(5), None));
     Ok(())
 }
 
@@ -348,12 +349,15 @@ fn counts_four(stats: &ServerStats, alloc: Global) -> Result<bool, Fail> {
     )
 }
 
+fn counts_refusals(alloc: Global, stats: &mut ServerStats) -> Result<bool, Fail> {
+    refuse_four(stats, alloc)?;
+    counts_four(stats, alloc)
+}
+
 #[test]
 fn ample_record_not_cacheable(rt: HostRuntime) -> Result<(), Fail> {
-    let alloc = rt.alloc();
-    let mut stats = ServerStats::new(alloc);
-    refuse_four(&mut stats, alloc)?;
-    assert!(rt; counts_four(&stats, alloc)?);
+    let mut stats = ServerStats::new(rt.alloc());
+    assert!(rt; counts_refusals(rt.alloc(), &mut stats)?);
     Ok(())
 }
 
@@ -363,12 +367,17 @@ fn levels_named(alloc: Global, name: &str) -> Result<MultiLevelStats, Fail> {
     Ok(MultiLevelStats::from_levels(levels))
 }
 
+/// How many lines two levels print, once they are added to one.
+fn lines_of_sum(alloc: Global, levels: &mut MultiLevelStats) -> Result<usize, Fail> {
+    let more = MultiLevelStats::from_levels(levels_of_two(alloc)?);
+    levels.add_assign(&more)?;
+    Ok(levels.format_stats(alloc)?.len())
+}
+
 #[test]
 fn levels_are_added_by_place(rt: HostRuntime) -> Result<(), Fail> {
-    let alloc = rt.alloc();
-    let mut levels = levels_named(alloc, "Lé")?;
-    levels.add_assign(&MultiLevelStats::from_levels(two_levels(alloc)?))?;
-    assert_eq!(rt; levels.format_stats(alloc)?.len(), 19);
+    let mut levels = levels_named(rt.alloc(), "Lé")?;
+    assert_eq!(rt; lines_of_sum(rt.alloc(), &mut levels)?, 19);
     let levels = levels.into_levels();
     assert_eq!(rt; levels.len(), 2);
     let first = levels.get(0);
@@ -377,11 +386,20 @@ fn levels_are_added_by_place(rt: HostRuntime) -> Result<(), Fail> {
     Ok(())
 }
 
+/// Whether a copy is printed as the statistics of all.
+fn copy_tells(alloc: Global, info: &ServerInfo) -> Result<bool, Fail> {
+    let copy = info.clone()?;
+    tells(alloc, &copy, BY_COMPILER)
+}
+
+fn clone_tells(alloc: Global) -> Result<bool, Fail> {
+    let info = full_info(alloc)?;
+    copy_tells(alloc, &info)
+}
+
 #[test]
 fn ample_clone(rt: HostRuntime) -> Result<(), Fail> {
-    let alloc = rt.alloc();
-    let info = full_info(alloc)?.clone()?;
-    assert!(rt; tells(alloc, &info, BY_COMPILER)?);
+    assert!(rt; clone_tells(rt.alloc())?);
     Ok(())
 }
 

@@ -10,10 +10,10 @@ use Rattle.sc_model.specs.declared.level.LevelFacts.{LevelFacts}
 use Rattle.sc_model.specs.declared.level.Policy.{Policy}
 use Rattle.sc_entry.specs.Entries.{objects}
 use Rattle.sc_model.specs.declared.event.Mode.TheVariants.{Whole}
-use Rattle.sc_disk_cache.specs.DiskStores.{DiskStore}
-use Rattle.sc_disk_cache.specs.Marks.{Marks, no_marks}
-use Rattle.sc_disk_cache.specs.Moving.{ReserveCause}
-use Rattle.sc_disk_cache.specs.declared.reserving.Reservation.{Reservation}
+use Rattle.sc_store_disk.specs.DiskStores.{DiskStore}
+use Rattle.sc_store_disk.specs.Marks.{Marks, no_marks}
+use Rattle.sc_store_disk.specs.Moving.{ReserveCause}
+use Rattle.sc_store_disk.specs.declared.reserving.Reservation.{Reservation}
 use Rattle.sc_store.specs.Asking.{AloneAt, AsksAt, AsksLevel, CauseBy, MarksAsked, PutCause, PutsAt, PutsLevel, TellsMark, has_mode}
 use Rattle.sc_store.specs.Held.{AreWithin, Held, HeldLevel, IsWithin, Room, all_tell, disk_in, disk_of, held_of, level_in, marks_in, no_room, no_title, room_in, title_in}
 

@@ -19,9 +19,9 @@ use Rattle.sc_model.specs.declared.level.LevelFacts.{LevelFacts}
 use Rattle.sc_model.specs.declared.level.LevelKind.TheVariants.{Remote}
 use Rattle.sc_model.specs.declared.level.Policy.{Policy}
 use Rattle.sc_model.specs.declared.level.Store.TheVariants.{Remote as RemoteStore}
-use Rattle.sc_disk_cache.specs.Wholes.{hit_of, if_spells, mode_answer, whole_answer}
+use Rattle.sc_store_disk.specs.Wholes.{hit_of, if_spells, mode_answer, whole_answer}
 use Rattle.sc_store.specs.Asking.{raw_answer, reads_key, written_of}
-use Rattle.sc_disk_cache.specs.Marks.{Marks}
+use Rattle.sc_store_disk.specs.Marks.{Marks}
 use Rattle.sc_store.specs.Held.{Given, HeldLevel, Modes, Names, held_remote, marked, remote_facts, remote_level}
 use Rattle.sc_store.specs.Remotes.{Puts, ReadCause, Reads, WriteCause, Writes}
 use Rattle.sc_store.specs.declared.remote.RemoteRead.{RemoteRead}

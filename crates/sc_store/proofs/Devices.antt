@@ -8,9 +8,9 @@ use Rattle.sc_entry.specs.Causes.{Rose}
 use Rattle.sc_entry.specs.Failing.{fails_at, faults_after, one_more}
 use Rattle.sc_entry.specs.declared.calls.Calls.{Calls as Counted}
 use Rattle.sc_model.specs.Devices.{calls_failing, MakesOn, numbers_of}
-use Rattle.sc_disk_cache.specs.Devices.{calls_of}
-use Rattle.sc_disk_cache.proofs.Devices.{listed, same_numbers}
-pub use Rattle.sc_disk_cache.proofs.Devices.{later_same, later_then, new_calls}
+use Rattle.sc_store_disk.specs.Devices.{calls_of}
+use Rattle.sc_store_disk.proofs.Devices.{listed, same_numbers}
+pub use Rattle.sc_store_disk.proofs.Devices.{later_same, later_then, new_calls}
 
 -- a call that does not fail leaves the count of faults
 fault_at : (fails : Bool) (f g : ℕ) → g ≡ faults_after fails f → f < g → fails ≡ true

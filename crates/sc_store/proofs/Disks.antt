@@ -1,16 +1,16 @@
 -- Calls of a disk level, as a level of levels that all tell.
 use Rattle.std.proofs.Common.{◌≡◌, ℕ, Bool, true, false, List, Option, Result, Ok, Err, IfErr, OnErr}
 use Rattle.sc_disk.specs.Store.{AddEntry}
-use Rattle.sc_disk_cache.specs.DiskStores.{DiskStore}
-use Rattle.sc_disk_cache.specs.Entries.{ClosesEntry, CommitCause, CommitsEntry, CommitsNothing, FillsBy}
-use Rattle.sc_disk_cache.specs.Marked.{MarksCommitted}
-use Rattle.sc_disk_cache.specs.Marks.{Marks}
-use Rattle.sc_disk_cache.specs.Moving.{EvictsFor, OpensBy, SameEntries}
-use Rattle.sc_disk_cache.specs.Preprocessor.{PreCause}
-use Rattle.sc_disk_cache.specs.declared.filling.Filling.{Filling}
-use Rattle.sc_disk_cache.specs.declared.filling.Filling.TheVariants.{Filled, Refused as NotFilled}
-use Rattle.sc_disk_cache.specs.declared.reserving.Reservation.{Reservation}
-use Rattle.sc_disk_cache.specs.declared.reserving.Reservation.TheVariants.{Open, Refused as NotReserved}
+use Rattle.sc_store_disk.specs.DiskStores.{DiskStore}
+use Rattle.sc_store_disk.specs.Entries.{ClosesEntry, CommitCause, CommitsEntry, CommitsNothing, FillsBy}
+use Rattle.sc_store_disk.specs.Marked.{MarksCommitted}
+use Rattle.sc_store_disk.specs.Marks.{Marks}
+use Rattle.sc_store_disk.specs.Moving.{EvictsFor, OpensBy, SameEntries}
+use Rattle.sc_store_disk.specs.Preprocessor.{PreCause}
+use Rattle.sc_store_disk.specs.declared.filling.Filling.{Filling}
+use Rattle.sc_store_disk.specs.declared.filling.Filling.TheVariants.{Filled, Refused as NotFilled}
+use Rattle.sc_store_disk.specs.declared.reserving.Reservation.{Reservation}
+use Rattle.sc_store_disk.specs.declared.reserving.Reservation.TheVariants.{Open, Refused as NotReserved}
 use Rattle.sc_model.specs.World.{early_cause}
 use Rattle.sc_model.specs.declared.event.Written.{Written}
 use Rattle.sc_model.specs.declared.event.Written.TheVariants.{Done, Refused}

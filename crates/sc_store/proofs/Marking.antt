@@ -1,9 +1,9 @@
 -- Marks of the keys of a level.
 use Rattle.std.proofs.Common.{◌≡◌, ℕ, Bool, true, false, bytes_eq, List, Option, Some, None, refl, subst, sym, ap, ◌∙◌}
 use Rattle.sc_disk.proofs.Files.{same_path}
-use Rattle.sc_disk_cache.specs.Marked.{TellsMark as DiskTells}
-use Rattle.sc_disk_cache.specs.Marks.{Marks, Sets, is_marked}
-use Rattle.sc_disk_cache.specs.Wholes.{hit_of, if_spells, mode_answer, whole_answer}
+use Rattle.sc_store_disk.specs.Marked.{TellsMark as DiskTells}
+use Rattle.sc_store_disk.specs.Marks.{Marks, Sets, is_marked}
+use Rattle.sc_store_disk.specs.Wholes.{hit_of, if_spells, mode_answer, whole_answer}
 use Rattle.sc_entry.specs.Entries.{objects}
 use Rattle.sc_entry.specs.Keys.{normalize_key}
 use Rattle.sc_entry.specs.declared.object.Object.{Object}

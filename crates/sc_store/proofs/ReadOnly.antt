@@ -1,8 +1,8 @@
 -- A level that is only read, by the store in it.
 use Rattle.std.proofs.Common.{◌≡◌, ℕ, List, [], Option, Some, None, Result, Ok, Err, IfOk, subst, sym}
 use Rattle.sc_disk.specs.Store.{AddEntry}
-use Rattle.sc_disk_cache.specs.DiskStores.{OpenEntry, entry_at}
-use Rattle.sc_disk_cache.specs.Entries.{IsOpenAt}
+use Rattle.sc_store_disk.specs.DiskStores.{OpenEntry, entry_at}
+use Rattle.sc_store_disk.specs.Entries.{IsOpenAt}
 use Rattle.sc_entry.specs.Entries.{objects}
 use Rattle.sc_model.specs.World.{Answers, Later, Level}
 use Rattle.sc_model.specs.declared.event.Answer.{Answer}

@@ -4,11 +4,11 @@ use Rattle.sc_entry.specs.Causes.{Rose}
 use Rattle.sc_entry.specs.Entries.{objects}
 use Rattle.sc_entry.specs.Keys.{IsStoreKey, normalize_key}
 use Rattle.sc_model.specs.Plan.{level_facts}
-use Rattle.sc_disk_cache.specs.DiskStores.{DiskStore, entry_path}
-use Rattle.sc_disk_cache.specs.Marks.{Marks, Sets, is_marked}
-use Rattle.sc_disk_cache.specs.Moving.{AskCause as DiskCause, written_of as reserved_of}
-use Rattle.sc_disk_cache.specs.Preprocessor.{PreCause}
-use Rattle.sc_disk_cache.specs.declared.reserving.Reservation.{Reservation}
+use Rattle.sc_store_disk.specs.DiskStores.{DiskStore, entry_path}
+use Rattle.sc_store_disk.specs.Marks.{Marks, Sets, is_marked}
+use Rattle.sc_store_disk.specs.Moving.{AskCause as DiskCause, written_of as reserved_of}
+use Rattle.sc_store_disk.specs.Preprocessor.{PreCause}
+use Rattle.sc_store_disk.specs.declared.reserving.Reservation.{Reservation}
 use Rattle.sc_model.specs.World.{Asks, Level, Later, Reserves, Spells, Wrote_at, causes, early_cause}
 use Rattle.sc_model.specs.declared.event.Answer.{Answer}
 use Rattle.sc_model.specs.declared.event.Answer.TheVariants.{Hit, Miss, Refused, Size as SizeIs}

@@ -3,8 +3,8 @@ use Rattle.std.specs.Prelude.{◌≡◌, ◌≤◌, ◌+◌, ℕ, Bool, true, fa
 use Rattle.std.specs.Str.Lossy.{utf8_lossy}
 use Rattle.std.specs.Coded.{Coded, code_by, coded×, coded_bool, coded_ℕ, coded_list, coded_option}
 use Rattle.std.specs.FinSet as set
-use Rattle.sc_disk_cache.specs.DiskStores.{DiskStore, OpenEntry}
-use Rattle.sc_disk_cache.specs.Marks.{Marks, marks_code, no_marks}
+use Rattle.sc_store_disk.specs.DiskStores.{DiskStore, OpenEntry}
+use Rattle.sc_store_disk.specs.Marks.{Marks, marks_code, no_marks}
 use Rattle.sc_model.specs.Devices.{Calls, Numbers}
 use Rattle.sc_model.specs.Plan.{level_facts}
 use Rattle.sc_model.specs.World.{Files, Level, no_files, no_level_held, part_size}

@@ -1,15 +1,15 @@
 //! A disk store as a level's store.
 ghost use Rattle.std.specs.Prelude.{◌≡◌, ◌+◌, ◌≤◌, false, true, Some, Ok, Err, IfOk, IfErr, OnErr, length};
-ghost use Rattle.sc_disk_cache.specs.DiskStores.{entry_path, held_disk, unopened_store};
-ghost use Rattle.sc_disk_cache.specs.Entries.{ClosesEntry, CommitCause, CommitsEntry, CommitsNothing, FillsBy, IsOpenAt};
-ghost use Rattle.sc_disk_cache.specs.Marked.{MarksCommitted, MarksFilled, MarksOpened};
-ghost use Rattle.sc_disk_cache.specs.Marks.{Forgets};
-ghost use Rattle.sc_disk_cache.specs.Moving.{AskCause, AsksDisk, EvictsFor, OpensBy, ReserveCause, SameEntries, Stays, Steady};
-ghost use Rattle.sc_disk_cache.specs.Preprocessor.{PreCause, PutsPre};
-ghost use Rattle.sc_disk_cache.specs.declared.filling.EntryError.TheVariants.{NotOpen as IsNotOpen};
-ghost use Rattle.sc_disk_cache.specs.declared.reserving.Reservation.TheVariants.{Refused as IsNotReserved};
+ghost use Rattle.sc_store_disk.specs.DiskStores.{entry_path, held_disk, unopened_store};
+ghost use Rattle.sc_store_disk.specs.Entries.{ClosesEntry, CommitCause, CommitsEntry, CommitsNothing, FillsBy, IsOpenAt};
+ghost use Rattle.sc_store_disk.specs.Marked.{MarksCommitted, MarksFilled, MarksOpened};
+ghost use Rattle.sc_store_disk.specs.Marks.{Forgets};
+ghost use Rattle.sc_store_disk.specs.Moving.{AskCause, AsksDisk, EvictsFor, OpensBy, ReserveCause, SameEntries, Stays, Steady};
+ghost use Rattle.sc_store_disk.specs.Preprocessor.{PreCause, PutsPre};
+ghost use Rattle.sc_store_disk.specs.declared.filling.EntryError.TheVariants.{NotOpen as IsNotOpen};
+ghost use Rattle.sc_store_disk.specs.declared.reserving.Reservation.TheVariants.{Refused as IsNotReserved};
 ghost use Rattle.sc_entry.specs.Keys.{is_store_key as is_key};
-ghost use Rattle.sc_pair.specs.Twos.{joined_state, joins};
+ghost use Rattle.sc_disk_pair.specs.Twos.{joined_state, joins};
 ghost use Rattle.sc_model.specs.World.{causes, early_cause as early, part_size, same_maps};
 ghost use Rattle.sc_model.specs.declared.level.Cause.{Cause};
 ghost use Rattle.sc_model.specs.declared.level.LevelKind.TheVariants.{Disk as IsDisk};
@@ -18,9 +18,9 @@ ghost use Rattle.sc_store.specs.Held.{disk_given, disk_of, disk_title, nothing_g
 
 use crate::vouch::Vouch;
 use sc_disk::{Disk, LruDiskCacheAddEntry};
-use sc_disk_cache::{EntryCache, EntryError, Filling, Reservation};
 use sc_entry::{ByteText, CacheMode, Items, NoMemory, Text};
 use sc_model::{Answer, Mode, Policy, Written};
+use sc_store_disk::{EntryCache, EntryError, Filling, Reservation};
 use std::alloc::Global;
 use std::marker::{Model, PhantomData};
 
@@ -34,8 +34,8 @@ pub struct DiskCache<D: Disk, V: Vouch> {
 }
 
 impl<D: Disk, V: Vouch> Model for DiskCache<D, V> {
-    ghost use Rattle.sc_disk_cache.specs.DiskStores.{held_disk};
-    ghost use Rattle.sc_disk_cache.specs.Marked.{marks_of};
+    ghost use Rattle.sc_store_disk.specs.DiskStores.{held_disk};
+    ghost use Rattle.sc_store_disk.specs.Marked.{marks_of};
     ghost use Rattle.sc_store.specs.Held.{HeldLevel, disk_given, held_level_code, marked, of_disk};
 
     ghost Value = { HeldLevel };

@@ -1,12 +1,12 @@
 //! One level of a daemon's store.
 ghost use Rattle.std.specs.Prelude.{◌≡◌, true, false, Some, Ok, IfOk, IfErr, OnErr, Err, length};
-ghost use Rattle.sc_disk_cache.specs.DiskStores.{entry_path};
-ghost use Rattle.sc_disk_cache.specs.Entries.{ClosesEntry, CommitCause, CommitsEntry, CommitsNothing, FillsBy, IsOpenAt};
-ghost use Rattle.sc_disk_cache.specs.Marked.{MarksCommitted, MarksFilled, MarksOpened};
-ghost use Rattle.sc_disk_cache.specs.Marks.{Forgets};
-ghost use Rattle.sc_disk_cache.specs.Moving.{EvictsFor, OpensBy, ReserveCause, SameEntries};
-ghost use Rattle.sc_disk_cache.specs.declared.filling.EntryError.TheVariants.{NotOpen as IsNotOpen};
-ghost use Rattle.sc_disk_cache.specs.declared.reserving.Reservation.TheVariants.{Refused as IsNotReserved};
+ghost use Rattle.sc_store_disk.specs.DiskStores.{entry_path};
+ghost use Rattle.sc_store_disk.specs.Entries.{ClosesEntry, CommitCause, CommitsEntry, CommitsNothing, FillsBy, IsOpenAt};
+ghost use Rattle.sc_store_disk.specs.Marked.{MarksCommitted, MarksFilled, MarksOpened};
+ghost use Rattle.sc_store_disk.specs.Marks.{Forgets};
+ghost use Rattle.sc_store_disk.specs.Moving.{EvictsFor, OpensBy, ReserveCause, SameEntries};
+ghost use Rattle.sc_store_disk.specs.declared.filling.EntryError.TheVariants.{NotOpen as IsNotOpen};
+ghost use Rattle.sc_store_disk.specs.declared.reserving.Reservation.TheVariants.{Refused as IsNotReserved};
 ghost use Rattle.sc_entry.specs.Keys.{is_store_key as is_key};
 ghost use Rattle.sc_model.specs.World.{Later, causes, early_cause as early, same_maps};
 ghost use Rattle.sc_model.specs.declared.level.Cause.{Cause as CauseType};
@@ -26,9 +26,9 @@ use crate::remote::Remote;
 use crate::remote_storage::RemoteStorage;
 use crate::vouch::Vouch;
 use sc_disk::{Disk, LruDiskCacheAddEntry};
-use sc_disk_cache::{EntryError, Filling, Reservation};
 use sc_entry::{ByteText, CacheMode, NoMemory, Text};
 use sc_model::{Answer, Cause, LevelKind, Mode, Policy, Store, Written};
+use sc_store_disk::{EntryError, Filling, Reservation};
 use std::alloc::Global;
 
 /// Why a store that is only read refuses a put.

@@ -23,5 +23,5 @@ pub use mem_remote::MemRemote;
 pub use read_only::{ReadOnlyLevel, ReadOnlyStorage};
 pub use remote::{Remote, RemoteRead, RemoteWrite};
 pub use remote_storage::RemoteStorage;
-pub use sc_disk_cache::{EntryCache, EntryError, Filling, Reservation};
+pub use sc_store_disk::{EntryCache, EntryError, Filling, Reservation};
 pub use vouch::{Unvouched, Vouch};

@@ -4,7 +4,7 @@ ghost use Rattle.std.specs.Ordering.{nat_cmp, eq_by_cmp};
 ghost use Rattle.sc_entry.specs.Failing.{fails_at, faults_after, one_more};
 ghost use Rattle.sc_model.specs.Devices.{MakesOn, calls_failing};
 ghost use Rattle.sc_model.specs.World.{no_files, find_file, put_file};
-ghost use Rattle.sc_disk_cache.specs.Devices.{calls_of};
+ghost use Rattle.sc_store_disk.specs.Devices.{calls_of};
 ghost use Rattle.sc_store.specs.Held.{memory_names};
 ghost use Rattle.sc_store.specs.Paths.{entries_of, put_all, told_size};
 ghost use Rattle.sc_store.specs.Remotes.{Reads, ReadCause, Writes, WriteCause, read_of, write_of};

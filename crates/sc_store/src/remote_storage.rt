@@ -1,5 +1,5 @@
 ghost use Rattle.std.specs.Prelude.{◌≡◌, ℕ, true, false, is_some, Some, Ok, IfOk, OnErr, OnOk};
-ghost use Rattle.sc_disk_cache.specs.Marks.{Sets};
+ghost use Rattle.sc_store_disk.specs.Marks.{Sets};
 ghost use Rattle.sc_entry.specs.Entries.{objects};
 ghost use Rattle.sc_entry.specs.Keys.{IsStoreKey, is_store_key as is_key, normalize_key as key_path};
 ghost use Rattle.sc_model.specs.Plan.{reads_only};
@@ -16,9 +16,9 @@ use crate::checked::Checked;
 use crate::remote::{Remote, RemoteRead, RemoteWrite};
 use crate::vouch::Vouch;
 use sc_disk::{FileKey, is_store_key, normalize_key};
-use sc_disk_cache::{Marks, mode_answer};
 use sc_entry::{ByteText, CacheMode, Items, NoMemory, Text};
 use sc_model::{Answer, Cause, LevelKind, Mode, Policy, RemoteFault, Store, Written};
+use sc_store_disk::{Marks, mode_answer};
 use std::alloc::Global;
 use std::marker::{Model, PhantomData};
 

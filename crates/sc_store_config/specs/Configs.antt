@@ -4,12 +4,12 @@ use Rattle.std.specs.Char.{to_ascii_lowercase}
 use Rattle.std.specs.Option.{option_map}
 use Rattle.std.specs.Str.{bytes_eq, trim}
 use Rattle.sc_disk.specs.Disks.{DiskState}
-use Rattle.sc_disk_cache.specs.DiskStores.{unopened_store}
+use Rattle.sc_store_disk.specs.DiskStores.{unopened_store}
 use Rattle.sc_model.specs.Devices.{Calls}
 use Rattle.sc_model.specs.World.{Files}
 use Rattle.sc_model.specs.declared.level.Policy.{Policy}
 use Rattle.sc_model.specs.declared.level.Policy.TheVariants.{Levels, Single}
-use Rattle.sc_pair.specs.Twos.{joined_state, joins}
+use Rattle.sc_disk_pair.specs.Twos.{joined_state, joins}
 use Rattle.sc_store.specs.Held.{Held, HeldLevel, Names, as_configured, disk_given, held_of, held_remote, of_disk, remote_given}
 use Rattle.sc_store_config.specs.Policies.{chain_policies}
 use Rattle.sc_store_config.specs.declared.config_error.ConfigError.{ConfigError}

@@ -1,11 +1,11 @@
 use sc_disk::MemDisk;
-use sc_disk_cache::{Filling, Reservation};
 use sc_entry::{ByteText, CacheMode, Calls, Items, Text};
 use sc_model::{Answer, Cause, LevelKind, Mode, Policy, RemoteFault, Store, Written};
 use sc_store::{
     Checked, DiskCache, Layered, Level, MemRemote, ReadOnlyLevel, ReadOnlyStorage, Remote,
     RemoteRead, RemoteStorage, RemoteWrite, Unvouched,
 };
+use sc_store_disk::{Filling, Reservation};
 use std::alloc::Global;
 use std::collections::BTreeMap;
 use std::process::Abort;

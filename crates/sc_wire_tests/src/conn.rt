@@ -1,158 +1,174 @@
-use sc_conn::{End, Inbox};
-use sc_entry::{ByteText, Items, Queue};
-use sc_model::{Compile, Request};
+ghost use Rattle.std.specs.Prelude.{◌≡◌};
+
+use crate::frames::{compile, framed};
+use sc_entry::{Items, Queue};
+use sc_model::Request;
 use sc_wire::encode_request;
+use sc_wire_conn::{End, Inbox};
 use std::alloc::Global;
 use std::test::Fail;
 
 const LIMIT: u32 = 512;
 
+const WORDS: [&[u8]; 6] = [b"--key", b"key1", b"--out", b"obj=/o", b"--", b"a.c"];
+
 fn payload(alloc: Global) -> Result<Vec<u8>, Fail> {
-    let words = [
-        b"--key".as_slice(),
-        b"key1".as_slice(),
-        b"--out".as_slice(),
-        b"obj=/o".as_slice(),
-        b"--".as_slice(),
-        b"a.c".as_slice(),
-    ];
-    let mut args = Items::new(alloc);
-    for word in words {
-        args.push(ByteText::from_slice(alloc, word)?)?;
-    }
-    let request = Request::Compile(Compile {
-        exe: ByteText::from_slice(alloc, b"/cc")?,
-        cwd: ByteText::from_slice(alloc, b"/")?,
-        args,
-        env_vars: Items::new(alloc),
-    });
+    let request = compile(alloc, &WORDS, Items::new(alloc))?;
     Ok(encode_request(alloc, &request)?)
 }
 
-fn framed(alloc: Global, payload: &[u8]) -> Result<Vec<u8>, Fail> {
-    let length = u32::try_from(payload.len())?;
-    let mut bytes = length.to_be_bytes().to_vec(alloc)?;
-    bytes.extend_from_slice(payload)?;
-    Ok(bytes)
-}
-
-/// How a connection stands after these bytes, and how many compiles they gave.
-fn after(alloc: Global, bytes: &[u8]) -> Result<(End, usize), Fail> {
-    let mut inbox = Inbox::new(alloc, LIMIT);
-    let mut waiting = Queue::new(alloc);
-    inbox.take_bytes(alloc, bytes, &mut waiting)?;
+/// How a new connection stands after these bytes, and how many requests wait.
+fn taken(
+    alloc: Global,
+    inbox: &mut Inbox,
+    waiting: &mut Queue<Request>,
+    bytes: &[u8],
+) -> Result<(End, usize), Fail>
+    requires { inbox.old.got ≡ 0 }
+{
+    inbox.take_bytes(alloc, bytes, waiting)?;
     Ok((inbox.end(), waiting.len()))
 }
 
-fn is_bad(end: End) -> bool {
-    match end {
-        End::BadFrame => true,
-        _ => false,
-    }
+/// How a connection stands after these bytes, and how many requests they gave.
+fn after(alloc: Global, bytes: &[u8]) -> Result<(End, usize), Fail> {
+    let mut inbox = Inbox::new(alloc, LIMIT);
+    let mut waiting = Queue::new(alloc);
+    taken(alloc, &mut inbox, &mut waiting, bytes)
 }
 
-fn is_open(end: End) -> bool {
-    match end {
-        End::Open => true,
-        _ => false,
+/// Whether these bytes are bad behind so many requests.
+fn is_bad(alloc: Global, bytes: &[u8], requests: usize) -> Result<bool, Fail> {
+    let (end, got) = after(alloc, bytes)?;
+    Ok(matches!(end, End::BadFrame) && got == requests)
+}
+
+/// Whether more may come behind these bytes, which gave so many requests.
+fn is_open(alloc: Global, bytes: &[u8], requests: usize) -> Result<bool, Fail> {
+    let (end, got) = after(alloc, bytes)?;
+    Ok(matches!(end, End::Open) && got == requests)
+}
+
+/// Whether a frame of this payload is bad behind no request.
+fn is_bad_frame(alloc: Global, payload: &[u8]) -> Result<bool, Fail> {
+    let frame = framed(alloc, payload)?;
+    is_bad(alloc, frame.as_slice(), 0)
+}
+
+/// Gives a short piece.
+fn take(
+    alloc: Global,
+    inbox: &mut Inbox,
+    waiting: &mut Queue<Request>,
+    piece: &[u8],
+) -> Result<(), Fail> {
+    if inbox.got() < 1000 && piece.len() < 1000 {
+        inbox.take_bytes(alloc, piece, waiting)?;
     }
+    Ok(())
+}
+
+/// Gives the pieces, and tells how many requests wait.
+fn takes(
+    alloc: Global,
+    inbox: &mut Inbox,
+    waiting: &mut Queue<Request>,
+    pieces: [&[u8]; 3],
+) -> Result<usize, Fail> {
+    for piece in pieces {
+        take(alloc, inbox, waiting, piece)?;
+    }
+    Ok(waiting.len())
+}
+
+/// How many requests a payload's frame and a byte more give in three pieces, and how many bytes came.
+fn takes_pieces(alloc: Global, inbox: &mut Inbox, payload: &[u8]) -> Result<(usize, u64), Fail> {
+    let length = u32::try_from(payload.len())?.to_be_bytes();
+    let mut waiting = Queue::new(alloc);
+    let pieces = [length.as_slice(), payload, &[0]];
+    let requests = takes(alloc, inbox, &mut waiting, pieces)?;
+    Ok((requests, inbox.got()))
 }
 
 #[test]
 fn ample_take_bytes(rt: HostRuntime) -> Result<(), Fail> {
-    let alloc = rt.alloc();
-    let good = payload(alloc)?;
-    let length = u32::try_from(good.len())?;
-    let mut inbox = Inbox::new(alloc, LIMIT);
-    let mut waiting = Queue::new(alloc);
-    for piece in [length.to_be_bytes().as_slice(), good.as_slice(), &[0]] {
-        if inbox.got() < 1000 {
-            inbox.take_bytes(alloc, piece, &mut waiting)?;
+    let good = payload(rt.alloc())?;
+    let mut inbox = Inbox::new(rt.alloc(), LIMIT);
+    let (requests, got) = takes_pieces(rt.alloc(), &mut inbox, good.as_slice())?;
+    assert_eq!(rt; requests, 1);
+    assert_eq!(rt; got, 5 + good.len() as u64);
+    inbox.shut();
+    assert!(rt; matches!(inbox.end(), End::EndInFrame));
+    Ok(())
+}
+
+fn each_cut_is_bad(alloc: Global, payload: &[u8]) -> Result<bool, Fail> {
+    for length in 0..payload.len() {
+        if !is_bad_frame(alloc, &payload[..length])? {
+            return Ok(false);
         }
     }
-    assert_eq!(rt; waiting.len(), 1);
-    assert_eq!(rt; inbox.got(), 5 + u64::from(length));
-    inbox.shut();
-    let within = match inbox.end() {
-        End::EndInFrame => true,
-        _ => false,
-    };
-    assert!(rt; within);
-    Ok(())
+    Ok(true)
 }
 
 #[test]
 fn a_cut_payload_is_bad(rt: HostRuntime) -> Result<(), Fail> {
-    let alloc = rt.alloc();
-    let good = payload(alloc)?;
-    for length in 0..good.len() {
-        let frame = framed(alloc, &good[..length])?;
-        let (end, compiles) = after(alloc, frame.as_slice())?;
-        assert!(rt; is_bad(end));
-        assert_eq!(rt; compiles, 0);
-    }
+    let good = payload(rt.alloc())?;
+    assert!(rt; each_cut_is_bad(rt.alloc(), good.as_slice())?);
     Ok(())
 }
 
 #[test]
 fn a_byte_too_many_is_bad(rt: HostRuntime) -> Result<(), Fail> {
-    let alloc = rt.alloc();
-    let mut long = payload(alloc)?;
+    let mut long = payload(rt.alloc())?;
     long.push(0)?;
-    let frame = framed(alloc, long.as_slice())?;
-    let (end, compiles) = after(alloc, frame.as_slice())?;
-    assert!(rt; is_bad(end));
-    assert_eq!(rt; compiles, 0);
+    assert!(rt; is_bad_frame(rt.alloc(), long.as_slice())?);
     Ok(())
 }
 
 #[test]
 fn lengths_at_the_limit(rt: HostRuntime) -> Result<(), Fail> {
-    let alloc = rt.alloc();
     for length in [LIMIT + 1, u32::MAX] {
-        let (end, _) = after(alloc, &length.to_be_bytes())?;
-        assert!(rt; is_bad(end));
+        assert!(rt; is_bad(rt.alloc(), &length.to_be_bytes(), 0)?);
     }
-    let (end, _) = after(alloc, &LIMIT.to_be_bytes())?;
-    assert!(rt; is_open(end));
-    let (end, _) = after(alloc, &[255, 255, 255])?;
-    assert!(rt; is_open(end));
+    assert!(rt; is_open(rt.alloc(), &LIMIT.to_be_bytes(), 0)?);
+    assert!(rt; is_open(rt.alloc(), &[255, 255, 255], 0)?);
     Ok(())
 }
 
 #[test]
 fn other_variants_are_bad(rt: HostRuntime) -> Result<(), Fail> {
-    let alloc = rt.alloc();
     for variant in [3u32, 12, u32::MAX] {
-        let frame = framed(alloc, &variant.to_le_bytes())?;
-        let (end, requests) = after(alloc, frame.as_slice())?;
-        assert!(rt; is_bad(end));
-        assert_eq!(rt; requests, 0);
+        assert!(rt; is_bad_frame(rt.alloc(), &variant.to_le_bytes())?);
     }
     Ok(())
+}
+
+fn is_request(alloc: Global, payload: &[u8]) -> Result<bool, Fail> {
+    let frame = framed(alloc, payload)?;
+    is_open(alloc, frame.as_slice(), 1)
 }
 
 #[test]
 fn requests_without_fields(rt: HostRuntime) -> Result<(), Fail> {
-    let alloc = rt.alloc();
     for variant in [0u32, 1, 2, 5] {
-        let frame = framed(alloc, &variant.to_le_bytes())?;
-        let (end, requests) = after(alloc, frame.as_slice())?;
-        assert!(rt; is_open(end));
-        assert_eq!(rt; requests, 1);
+        assert!(rt; is_request(rt.alloc(), &variant.to_le_bytes())?);
     }
     Ok(())
 }
 
+/// Whether a frame without a payload is bad between two good ones.
+fn is_bad_between(alloc: Global, good: &[u8]) -> Result<bool, Fail> {
+    let mut bytes = good.to_vec(alloc)?;
+    bytes.extend_from_slice(&[0, 0, 0, 0])?;
+    bytes.extend_from_slice(good)?;
+    is_bad(alloc, bytes.as_slice(), 1)
+}
+
 #[test]
 fn requests_before_a_bad_frame_stay(rt: HostRuntime) -> Result<(), Fail> {
-    let alloc = rt.alloc();
-    let good = payload(alloc)?;
-    let mut bytes = framed(alloc, good.as_slice())?;
-    bytes.extend_from_slice(&[0, 0, 0, 0])?;
-    bytes.extend_from_slice(framed(alloc, good.as_slice())?.as_slice())?;
-    let (end, compiles) = after(alloc, bytes.as_slice())?;
-    assert!(rt; is_bad(end));
-    assert_eq!(rt; compiles, 1);
+    let good = payload(rt.alloc())?;
+    let frame = framed(rt.alloc(), good.as_slice())?;
+    assert!(rt; is_bad_between(rt.alloc(), frame.as_slice())?);
     Ok(())
 }

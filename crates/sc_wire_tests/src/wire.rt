@@ -1,5 +1,6 @@
+use crate::frames::{compile, framed};
 use sc_entry::{ByteText, Items};
-use sc_model::{ColorMode, Compile, CompileFinished, Request, Response, Variable};
+use sc_model::{ColorMode, CompileFinished, Request, Response, Variable};
 use sc_wire::{
     DecodeError, Framer, append_request, append_response, decode_request, decode_response,
     encode_frame, encode_request, encode_response,
@@ -23,30 +24,17 @@ fn finished(alloc: Global) -> Result<Response, Fail> {
     }))
 }
 
-fn compile(alloc: Global) -> Result<Request, Fail> {
-    let mut args = Items::new(alloc);
-    args.push(ByteText::from_slice(alloc, b"a.c")?)?;
-    let mut env_vars = Items::new(alloc);
-    env_vars.push(Variable {
-        name: ByteText::from_slice(alloc, b"N")?,
-        value: ByteText::from_slice(alloc, b"v")?,
-    })?;
-    let exe = ByteText::from_slice(alloc, b"/cc")?;
-    let cwd = ByteText::from_slice(alloc, b"/")?;
-    Ok(Request::Compile(Compile {
-        exe,
-        cwd,
-        args,
-        env_vars,
-    }))
+fn variable(alloc: Global) -> Result<Variable, Fail> {
+    let name = ByteText::from_slice(alloc, b"N")?;
+    let value = ByteText::from_slice(alloc, b"v")?;
+    Ok(Variable { name, value })
 }
 
-/// A payload in a frame.
-fn framed(alloc: Global, payload: &[u8]) -> Result<Vec<u8>, Fail> {
-    let length = u32::try_from(payload.len())?;
-    let mut bytes = length.to_be_bytes().to_vec(alloc)?;
-    bytes.extend_from_slice(payload)?;
-    Ok(bytes)
+/// A compile of `a.c` with one variable.
+fn compile_of_one(alloc: Global) -> Result<Request, Fail> {
+    let mut env_vars = Items::new(alloc);
+    env_vars.push(variable(alloc)?)?;
+    compile(alloc, &[b"a.c"], env_vars)
 }
 
 /// A response's frame, its frame added behind another byte, and its payload, one after the other.
@@ -75,38 +63,61 @@ fn spelled_request(alloc: Global, request: Request) -> Result<Vec<u8>, Fail> {
     request_spellings(alloc, &request)
 }
 
+/// A frame of a payload, the same frame, and the payload, one after the other.
+fn thrice(alloc: Global, payload: &[u8]) -> Result<Vec<u8>, Fail> {
+    let frame = framed(alloc, payload)?;
+    let mut all = frame.as_slice().to_vec(alloc)?;
+    for part in [frame.as_slice(), payload] {
+        all.push(b'|')?;
+        all.extend_from_slice(part)?;
+    }
+    Ok(all)
+}
+
+/// A payload, and its frame behind it.
+fn twice(alloc: Global, payload: &[u8]) -> Result<Vec<u8>, Fail> {
+    let frame = framed(alloc, payload)?;
+    let mut all = payload.to_vec(alloc)?;
+    all.push(b'|')?;
+    all.extend_from_slice(frame.as_slice())?;
+    Ok(all)
+}
+
+/// The spellings of the response that a payload spells; nothing where it spells none.
+fn response_again(alloc: Global, payload: &[u8]) -> Result<Vec<u8>, Fail> {
+    match decode_response(alloc, payload) {
+        Ok(response) => spelled_response(alloc, response),
+        Err(_) => Ok(Vec::new(alloc)),
+    }
+}
+
+fn request_again(alloc: Global, payload: &[u8]) -> Result<Vec<u8>, Fail> {
+    match decode_request(alloc, payload) {
+        Ok(request) => spelled_request(alloc, request),
+        Err(_) => Ok(Vec::new(alloc)),
+    }
+}
+
 #[test]
 fn ample_response(rt: HostRuntime) -> Result<(), Fail> {
-    let alloc = rt.alloc();
-    let got = spelled_response(alloc, finished(alloc)?)?;
-    let mut wanted = framed(alloc, FINISHED)?;
-    wanted.push(b'|')?;
-    wanted.extend_from_slice(framed(alloc, FINISHED)?.as_slice())?;
-    wanted.push(b'|')?;
-    wanted.extend_from_slice(FINISHED)?;
+    let wanted = thrice(rt.alloc(), FINISHED)?;
+    let got = spelled_response(rt.alloc(), finished(rt.alloc())?)?;
     assert_eq!(rt; got.as_slice(), wanted.as_slice());
-    let again = match decode_response(alloc, FINISHED) {
-        Ok(response) => spelled_response(alloc, response)?,
-        Err(_) => Vec::new(alloc),
-    };
+    let again = response_again(rt.alloc(), FINISHED)?;
     assert_eq!(rt; again.as_slice(), wanted.as_slice());
     Ok(())
 }
 
+/// A compile of `a.c` by `/cc` in `/`, with the variable `N` of value `v`.
+const COMPILE: &[u8] =
+    b"\x04\0\0\0\x03\0\0\0\0\0\0\0/cc\x01\0\0\0\0\0\0\0/\x01\0\0\0\0\0\0\0\x03\0\0\0\0\0\0\0a.c\x01\0\0\0\0\0\0\0\x01\0\0\0\0\0\0\0N\x01\0\0\0\0\0\0\0v";
+
 #[test]
 fn ample_request(rt: HostRuntime) -> Result<(), Fail> {
-    let alloc = rt.alloc();
-    let payload =
-        b"\x04\0\0\0\x03\0\0\0\0\0\0\0/cc\x01\0\0\0\0\0\0\0/\x01\0\0\0\0\0\0\0\x03\0\0\0\0\0\0\0a.c\x01\0\0\0\0\0\0\0\x01\0\0\0\0\0\0\0N\x01\0\0\0\0\0\0\0v".as_slice();
-    let got = spelled_request(alloc, compile(alloc)?)?;
-    let mut wanted = payload.to_vec(alloc)?;
-    wanted.push(b'|')?;
-    wanted.extend_from_slice(framed(alloc, payload)?.as_slice())?;
+    let wanted = twice(rt.alloc(), COMPILE)?;
+    let got = spelled_request(rt.alloc(), compile_of_one(rt.alloc())?)?;
     assert_eq!(rt; got.as_slice(), wanted.as_slice());
-    let again = match decode_request(alloc, payload) {
-        Ok(request) => spelled_request(alloc, request)?,
-        Err(_) => Vec::new(alloc),
-    };
+    let again = request_again(rt.alloc(), COMPILE)?;
     assert_eq!(rt; again.as_slice(), wanted.as_slice());
     Ok(())
 }
@@ -121,53 +132,70 @@ fn next_of(alloc: Global, framer: &mut Framer) -> Result<Vec<u8>, Fail> {
     }
 }
 
-#[test]
-fn ample_next_request(rt: HostRuntime) -> Result<(), Fail> {
-    let alloc = rt.alloc();
-    let mut framer = Framer::new(alloc, LIMIT);
+/// Whether the next request is this.
+fn comes_next(alloc: Global, framer: &mut Framer, wanted: &[u8]) -> Result<bool, Fail> {
+    let next = next_of(alloc, framer)?;
+    Ok(next.as_slice() == wanted)
+}
+
+/// Whether a request comes next once its last byte is given, and not before.
+fn comes_with_its_last_byte(alloc: Global, framer: &mut Framer) -> Result<bool, Fail> {
     for byte in b"\0\0\0\x04\x01\0\0" {
         framer.feed(alloc, &[*byte])?;
-        let next = next_of(alloc, &mut framer)?;
-        assert_eq!(rt; next.as_slice(), b"none".as_slice());
+        if !comes_next(alloc, framer, b"none")? {
+            return Ok(false);
+        }
     }
     framer.feed(alloc, &[0])?;
-    let next = next_of(alloc, &mut framer)?;
-    assert_eq!(rt;
-        next.as_slice(),
-        b"\x01\0\0\0|\0\0\0\x04\x01\0\0\0".as_slice()
-    );
+    comes_next(alloc, framer, b"\x01\0\0\0|\0\0\0\x04\x01\0\0\0")
+}
+
+#[test]
+fn ample_next_request(rt: HostRuntime) -> Result<(), Fail> {
+    let mut framer = Framer::new(rt.alloc(), LIMIT);
+    assert!(rt; comes_with_its_last_byte(rt.alloc(), &mut framer)?);
     assert!(rt; framer.is_empty());
     Ok(())
 }
 
+/// A lookup of the key `abc`.
+const LOOKUP: &[u8] = b"\x07\0\0\0\x03\0\0\0\0\0\0\0abc";
+
+/// Whether a lookup comes next, and what has a byte more is bad again and again.
+fn is_bad_behind_one(alloc: Global, framer: &mut Framer) -> Result<bool, Fail> {
+    for piece in [
+        b"\0\0\0\x0f".as_slice(),
+        LOOKUP,
+        b"\0\0\0\x10",
+        LOOKUP,
+        &[0],
+    ] {
+        framer.feed(alloc, piece)?;
+    }
+    let lookup = twice(alloc, LOOKUP)?;
+    Ok(
+        comes_next(alloc, framer, lookup.as_slice())?
+            && comes_next(alloc, framer, b"bad")?
+            && comes_next(alloc, framer, b"bad")?,
+    )
+}
+
 #[test]
 fn a_byte_too_many_is_bad(rt: HostRuntime) -> Result<(), Fail> {
-    let alloc = rt.alloc();
-    let key = b"\x07\0\0\0\x03\0\0\0\0\0\0\0abc".as_slice();
-    let mut framer = Framer::new(alloc, LIMIT);
-    framer.feed(alloc, b"\0\0\0\x0f")?;
-    framer.feed(alloc, key)?;
-    framer.feed(alloc, b"\0\0\0\x10")?;
-    framer.feed(alloc, key)?;
-    framer.feed(alloc, &[0])?;
-    let mut wanted = key.to_vec(alloc)?;
-    wanted.push(b'|')?;
-    wanted.extend_from_slice(framed(alloc, key)?.as_slice())?;
-    let first = next_of(alloc, &mut framer)?;
-    assert_eq!(rt; first.as_slice(), wanted.as_slice());
-    for _ in 0..2 {
-        let next = next_of(alloc, &mut framer)?;
-        assert_eq!(rt; next.as_slice(), b"bad".as_slice());
-    }
+    let mut framer = Framer::new(rt.alloc(), LIMIT);
+    assert!(rt; is_bad_behind_one(rt.alloc(), &mut framer)?);
     Ok(())
+}
+
+/// Whether a key that is no text is bad.
+fn is_bad_key(alloc: Global, framer: &mut Framer) -> Result<bool, Fail> {
+    framer.feed(alloc, b"\0\0\0\x0d\x07\0\0\0\x01\0\0\0\0\0\0\0\xff")?;
+    comes_next(alloc, framer, b"bad")
 }
 
 #[test]
 fn a_key_that_is_no_text_is_bad(rt: HostRuntime) -> Result<(), Fail> {
-    let alloc = rt.alloc();
-    let mut framer = Framer::new(alloc, LIMIT);
-    framer.feed(alloc, b"\0\0\0\x0d\x07\0\0\0\x01\0\0\0\0\0\0\0\xff")?;
-    let next = next_of(alloc, &mut framer)?;
-    assert_eq!(rt; next.as_slice(), b"bad".as_slice());
+    let mut framer = Framer::new(rt.alloc(), LIMIT);
+    assert!(rt; is_bad_key(rt.alloc(), &mut framer)?);
     Ok(())
 }

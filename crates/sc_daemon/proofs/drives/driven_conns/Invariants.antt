@@ -1,5 +1,5 @@
 use Rattle.std.proofs.Common.{◌≡◌, map}
-use Rattle.sc_conn.specs.Ends.{end_of}
+use Rattle.sc_wire_conn.specs.Ends.{end_of}
 use Rattle.sc_daemon.specs.Drives.{line_end}
 use Rattle.sc_daemon.specs.Lines.{Line}
 use Rattle.sc_daemon.specs.declared.driven.DrivenConn.{DrivenConn}

@@ -1,6 +1,6 @@
 use Rattle.std.proofs.Common.{◌∙◌, rules}
 use Rattle.sc_entry.proofs.Tallies.{on_err}
-use Rattle.sc_command.proofs.Texts.{set_step}
+use Rattle.sc_command.proofs.Names.{set_step}
 use Rattle.sc_command.proofs.variables.Variables.set_all.Goals as goal
 
 pub loop-variable-preserved : goal.loop-variable-preserved

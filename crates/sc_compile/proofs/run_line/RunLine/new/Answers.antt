@@ -1,5 +1,5 @@
 use Rattle.std.proofs.Common.{refl}
-use Rattle.sc_compile.specs.GoodNames.{is_good_answer}
+use Rattle.sc_model.specs.GoodNames.{is_good_answer}
 use Rattle.sc_compile.proofs.Making.{made}
 use Rattle.sc_compile.proofs.run_line.RunLine.new.Goals as goal
 

@@ -1,14 +1,14 @@
 use Rattle.std.proofs.Common.{ℕ, Option, drop, sym, ap, ◌≡◌, ◌∙◌, subst}
-use Rattle.sc_action.specs.Hands.{ActsWith, ServesWith, hand_of}
-use Rattle.sc_action.specs.declared.acted.Action.{Action}
+use Rattle.sc_daemon_action.specs.Hands.{ActsWith, ServesWith, hand_of}
+use Rattle.sc_daemon_action.specs.declared.acted.Action.{Action}
 use Rattle.sc_daemon.specs.Lines.{Line, conn_of}
 use Rattle.sc_daemon.specs.Turns.{ActsFirst, ActsFirst_or_none, CountsFirst, MovesFirst, SaysFirst}
 use Rattle.sc_daemon.specs.contracts.conn.Conn.{the_view}
 use Rattle.sc_daemon.proofs.Counted.{if_both, if_map}
 use Rattle.sc_daemon.proofs.Firsts.{current_is, first_rest}
 use Rattle.sc_disk.specs.Store.{AddEntry}
-use Rattle.sc_hold.specs.Holding.{HandsBy, KeepsHands}
-use Rattle.sc_job.specs.Setups.{setup}
+use Rattle.sc_daemon_hold.specs.Holding.{HandsBy, KeepsHands}
+use Rattle.sc_daemon_job.specs.Setups.{setup}
 use Rattle.sc_model.specs.Machine.{current, need_at}
 use Rattle.sc_model.specs.Rows.{count, row, zeroes}
 use Rattle.sc_model.specs.declared.message.Request.{Request}

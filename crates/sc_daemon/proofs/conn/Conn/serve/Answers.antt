@@ -1,9 +1,9 @@
 use Rattle.std.proofs.Common.{Option, refl, sym, subst}
-use Rattle.sc_action.specs.declared.acted.Action.{Action}
+use Rattle.sc_daemon_action.specs.declared.acted.Action.{Action}
 use Rattle.sc_daemon.specs.Lines.{conn_of}
 use Rattle.sc_daemon.specs.Turns.{ActsFirst, ActsFirst_or_none, CountsFirst, MovesFirst, SaysFirst, Serves_one}
 use Rattle.sc_daemon.proofs.Serving.{first_serves, serves_one, serves_rests}
-use Rattle.sc_job.specs.Setups.{setup}
+use Rattle.sc_daemon_job.specs.Setups.{setup}
 use Rattle.sc_model.specs.Machine.{current, need_at}
 use Rattle.sc_daemon.proofs.conn.Conn.serve.Given as given
 use Rattle.sc_daemon.proofs.conn.Conn.serve.Goals as goal

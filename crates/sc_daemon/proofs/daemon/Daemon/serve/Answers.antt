@@ -5,14 +5,15 @@ use Rattle.sc_daemon.specs.Lines.{conn_of}
 use Rattle.sc_daemon.specs.Standings.{Rests}
 use Rattle.sc_daemon.specs.Turns.{CountsLine, MovesHold, SaysLine, ServesLine}
 use Rattle.sc_daemon.proofs.Counted.{free_most, if_both_on, serves_event}
-use Rattle.sc_job.specs.Setups.{setup}
+use Rattle.sc_daemon_job.specs.Setups.{setup}
 use Rattle.sc_model.specs.Machine.{current, need_at}
 use Rattle.sc_model.specs.declared.event.Event.{Event}
 use Rattle.sc_model.specs.declared.event.What.{What}
-use Rattle.sc_owned.specs.Moving.{OwnedMoves}
-use Rattle.sc_owned.specs.State.{disk_at}
+use Rattle.sc_daemon_owned.specs.Moving.{OwnedMoves}
+use Rattle.sc_daemon_owned.specs.State.{disk_at}
 use Rattle.sc_stats.specs.declared.counters.LevelStats.{LevelStats}
 use Rattle.sc_daemon.proofs.daemon.Daemon.serve.Goals as goal
+use Rattle.sc_daemon_owned.specs.Facts.{config_of}
 
 pub returns-in-Some-clause-serves : goal.returns-in-Some-clause-serves
 returns-in-Some-clause-serves g c =
@@ -20,7 +21,7 @@ returns-in-Some-clause-serves g c =
     let d : Kept = record { state = i.owned; stats = i.stats; free = i.free; levels = i.levels.items; background = i.background; handed = i.handed } in
     let old = c.args.conn.now in
     let new = c.serve.new.self in
-    let k = d.state.config in
+    let k = config_of d.state.config in
     let m = d.state.world.moment in
     let one = subst (λ (o : Option What). ServesLine k (disk_at d.state) (disk_at c.serve.new.hold) m d.free o old new) c.in-Some.is c.in_ok-serve.ensures.serves in
     let moves = subst (λ (o : Option What). MovesHold OwnedMoves (need_at (setup k) (current (conn_of old)) old.phase) o d.state c.serve.new.hold) c.in-Some.is c.in_ok-serve.ensures.moves in
@@ -31,15 +32,15 @@ returns-in-Some-clause-serves g c =
     (if_both_on c.if_kept.result c.keep-kept.result c.if_kept.ensures.event c.if_kept.ensures.kept c.keep-kept.ensures
     (λ event is_event kept. subst (λ (e : Event). ServesEvent c.args.number e d c.keep-kept.new.self old new) (sym is_event)
     (serves_event c.args.number c.at-at.result c.now-moment.result c.last-last.result c.reserved-reserved.result c.in-Some.what d c.keep-kept.new.self c.serve.new.hold c.serve.new.stats old new
-    c.at-at.ensures (c.now-moment.ensures ∙ ap (λ (e : Kept). e.state.world.moment) (sym c.self.view_is)) c.last-last.ensures c.reserved-reserved.ensures one says moves c.in_ok-serve.ensures.same counts kept)))
+    c.at-at.ensures (c.now-moment.ensures ∙ ap (λ (e : Kept). e.state.world.moment) (sym c.self.view_is)) c.last-last.ensures c.reserved-reserved.ensures one says moves moves.4 counts kept)))
 
 pub returns-in-Some-clause-rests : goal.returns-in-Some-clause-rests
 returns-in-Some-clause-rests g c =
     let kept = c.keep-kept.new.self in
     let new = c.serve.new.self in
-    subst (λ (e : Kept). IfOk c.if_kept.result (λ (event : Event). Rests e.state.config (disk_at kept.state) new.phase new.entry new.waiting)) c.self.view_is
+    subst (λ (e : Kept). IfOk c.if_kept.result (λ (event : Event). Rests (config_of e.state.config) (disk_at kept.state) new.phase new.entry new.waiting)) c.self.view_is
     (if_both_on c.if_kept.result c.keep-kept.result c.if_kept.ensures.event c.if_kept.ensures.kept c.keep-kept.ensures
-    (λ event is_event same. subst (λ (e : Kept). Rests c.self.inside.owned.config (disk_at e.state) new.phase new.entry new.waiting) (sym same) c.in_ok-serve.ensures.rests))
+    (λ event is_event same. subst (λ (e : Kept). Rests (config_of c.self.inside.owned.config) (disk_at e.state) new.phase new.entry new.waiting) (sym same) c.in_ok-serve.ensures.rests))
 
 pub returns-in-Some-clause-free : goal.returns-in-Some-clause-free
 returns-in-Some-clause-free g c =

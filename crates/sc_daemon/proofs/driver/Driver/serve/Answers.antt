@@ -3,15 +3,16 @@ use Rattle.sc_daemon.specs.Daemons.{ServesEvent}
 use Rattle.sc_daemon.specs.Lines.{Line}
 use Rattle.sc_daemon.specs.Standings.{Rests}
 use Rattle.sc_daemon.proofs.Stepping.{at_line, steps_past, steps_serve}
-use Rattle.sc_owned.specs.State.{disk_at}
+use Rattle.sc_daemon_owned.specs.State.{disk_at}
 use Rattle.sc_daemon.proofs.driver.Driver.serve.Goals as goal
+use Rattle.sc_daemon_owned.specs.Facts.{config_of}
 
 pub serve-requires : goal.serve-requires
 serve-requires g c =
     let d = c.args.daemon.now in
     let lt : c.args.number < length c.args.self.now.conns.items = subst (λ (n : ℕ). c.args.number < n) (c.len.ensures ∙ c.args.self.now.conns.ok.0) c.if-number-len.false in
     record {
-      rests = subst (λ (l : Line). Rests d.state.config (disk_at d.state) l.phase l.entry l.waiting) (sym c.index_mut.ensures.value) (at_line d c.args.self.now.conns.items c.args.number _ lt c.requires.at).1;
+      rests = subst (λ (l : Line). Rests (config_of d.state.config) (disk_at d.state) l.phase l.entry l.waiting) (sym c.index_mut.ensures.value) (at_line d c.args.self.now.conns.items c.args.number _ lt c.requires.at).1;
       free = c.requires.free;
     }
 

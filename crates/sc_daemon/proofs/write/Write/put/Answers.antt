@@ -1,5 +1,5 @@
 use Rattle.std.proofs.Common.{refl}
-use Rattle.sc_action.proofs.Holding.{no_need}
+use Rattle.sc_daemon_action.proofs.Holding.{no_need}
 use Rattle.sc_daemon.proofs.Writes.{puts}
 use Rattle.sc_model.specs.declared.event.Mode.TheVariants.{Whole}
 use Rattle.sc_model.specs.declared.event.What.TheVariants.{Wrote}

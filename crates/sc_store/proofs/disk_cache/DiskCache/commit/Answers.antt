@@ -1,6 +1,6 @@
 use Rattle.std.proofs.Common.{subst}
-use Rattle.sc_disk_cache.specs.DiskStores.{held_disk}
-use Rattle.sc_disk_cache.specs.Entries.{ClosesEntry, IsOpenAt}
+use Rattle.sc_store_disk.specs.DiskStores.{held_disk}
+use Rattle.sc_store_disk.specs.Entries.{ClosesEntry, IsOpenAt}
 use Rattle.sc_store.specs.Held.{HeldLevel, disk_of}
 use Rattle.sc_store.proofs.disk_cache.DiskCache.commit.Goals as goal
 

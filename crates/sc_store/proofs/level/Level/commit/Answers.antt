@@ -1,5 +1,5 @@
 use Rattle.std.proofs.Common.{subst, sym}
-use Rattle.sc_disk_cache.specs.Entries.{ClosesEntry, IsOpenAt}
+use Rattle.sc_store_disk.specs.Entries.{ClosesEntry, IsOpenAt}
 use Rattle.sc_store.specs.Held.{disk_of}
 use Rattle.sc_store.specs.Levels.{held_level}
 use Rattle.sc_store.proofs.ReadOnly.{later_read}

@@ -1,8 +1,8 @@
 use Rattle.std.proofs.Common.{rules, length, ◌<◌, ◌≡◌, map, slice_index_or, slice_set, ap, sym, subst, ◌∙◌}
-use Rattle.sc_disk_cache.specs.DiskStores.{entry_at}
-use Rattle.sc_disk_cache.specs.Entries.{ClosesEntry, FillsBy, IsOpenAt}
-use Rattle.sc_disk_cache.specs.Marked.{MarksFilled}
-use Rattle.sc_disk_cache.specs.Marks.{Forgets}
+use Rattle.sc_store_disk.specs.DiskStores.{entry_at}
+use Rattle.sc_store_disk.specs.Entries.{ClosesEntry, FillsBy, IsOpenAt}
+use Rattle.sc_store_disk.specs.Marked.{MarksFilled}
+use Rattle.sc_store_disk.specs.Marks.{Forgets}
 use Rattle.sc_store.specs.Held.{AreWithin, disk_in, disk_of, held_of}
 use Rattle.sc_store.specs.Levels.{held_level}
 use Rattle.sc_store.proofs.Alone.{Alone, facts_at, within_stores, stays_within, alone_moved, disk_at, if_ok, later_at, maps_at, marks_at, moved, unmoved}

@@ -1,7 +1,7 @@
 use Rattle.std.proofs.Common.{rules, length, ◌<◌, ◌≡◌, map, slice_index_or, slice_set, ap, sym, subst, ◌∙◌}
-use Rattle.sc_disk_cache.specs.DiskStores.{entry_path}
-use Rattle.sc_disk_cache.specs.Marked.{MarksOpened}
-use Rattle.sc_disk_cache.specs.Moving.{EvictsFor, OpensBy, SameEntries}
+use Rattle.sc_store_disk.specs.DiskStores.{entry_path}
+use Rattle.sc_store_disk.specs.Marked.{MarksOpened}
+use Rattle.sc_store_disk.specs.Moving.{EvictsFor, OpensBy, SameEntries}
 use Rattle.sc_model.specs.World.{early_cause}
 use Rattle.sc_store.specs.Asking.{ReservesDisk}
 use Rattle.sc_store.specs.Held.{AreWithin, disk_in, disk_of, held_of}

@@ -1,5 +1,5 @@
 use Rattle.std.proofs.Common.{rules, ◌≡◌, true, ap, subst, sym, ◌∙◌}
-use Rattle.sc_disk_cache.specs.Wholes.{mode_answer}
+use Rattle.sc_store_disk.specs.Wholes.{mode_answer}
 use Rattle.sc_entry.specs.Entries.{objects}
 use Rattle.sc_model.specs.World.{Asks}
 use Rattle.sc_store.specs.Asking.{reads_key}

@@ -1,9 +1,0 @@
-use Rattle.std.proofs.Common.{◌≡◌, ◌++◌, length}
-use Rattle.sc_model.specs.Follows.{notes_then}
-use Rattle.sc_action.proofs.sending.replies_left.Given as goal
-
-abbrev pub invariant-loop-note : goal.invariant-loop-note
-invariant-loop-note l = l.left ++ notes_then l.rest l.last ≡ l.fn.left ++ notes_then l.fn.notes l.fn.last
-
-abbrev pub decreases-loop-note : goal.decreases-loop-note
-decreases-loop-note l = length l.rest

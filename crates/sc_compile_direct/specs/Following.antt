@@ -1,0 +1,61 @@
+-- What a compile does that is done at once.
+use Rattle.std.specs.Prelude.{◌≡◌, ℕ, List, [], ◌∷◌, ◌++◌, map, reverse}
+use Rattle.sc_model.specs.Follows.{Fits, ToFinish, due, what_of}
+use Rattle.sc_model.specs.Headline.{Carries, Stores}
+use Rattle.sc_model.specs.Job.{At, Own, finish, hit_of, job_of}
+use Rattle.sc_model.specs.Script.{Setup}
+use Rattle.sc_model.specs.World.{Need, keys_of, placed_of}
+use Rattle.sc_model.specs.declared.event.Parsed.TheVariants.{Started}
+use Rattle.sc_model.specs.declared.event.Task.{Task}
+use Rattle.sc_model.specs.declared.event.Told.TheVariants.{Compile as TellsCompile}
+use Rattle.sc_model.specs.declared.event.What.{What}
+use Rattle.sc_model.specs.declared.event.What.TheVariants.{Began, Dist, Keyed, Placed, Ran, Sent}
+use Rattle.sc_model.specs.declared.message.CompileResponse.TheVariants.{CompileStarted}
+use Rattle.sc_model.specs.declared.message.Request.{Request}
+use Rattle.sc_model.specs.declared.message.Response.TheVariants.{Compile as Answered}
+use Rattle.sc_compile_direct.specs.Answers.{answer_in}
+use Rattle.sc_compile_direct.specs.declared.direct.Compiled.{Compiled}
+use Rattle.sc_compile_direct.specs.declared.job_event.JobEvent.{JobEvent}
+
+-- a job's events, the newest first
+abbrev pub own_of : JobEvent → Own
+own_of e = At e.moment e.what
+
+abbrev pub newest_first : List JobEvent → List Own
+newest_first events = reverse (map own_of events)
+
+-- what went before: the compile was begun, and was told that it is started
+abbrev pub begun : Request → Task → List Own
+begun r task = At 0 (Sent (Answered CompileStarted)) ∷ At 0 (Began r (TellsCompile (Started task))) ∷ []
+
+-- events that come behind others, the newest first: each is the one that is due
+abbrev pub FollowOn : Setup → Request → List Own → List Own → Type 0
+FollowOn s r before [] = Unit {0}
+FollowOn s r before (x ∷ own) = Fits s r (due s r (own ++ before)) (what_of x) × FollowOn s r before own
+
+-- what an event needs of its job
+abbrev pub NeedsBy : Setup → Request → List Own → What → Need → Type 0
+NeedsBy s r own (Keyed first client step) n = n.keys ≡ keys_of s r
+NeedsBy s r own (Placed p) n = (n.key ≡ (job_of own).found.key) × (n.outputs ≡ placed_of (job_of own).found.locally_preprocessed (job_of own).found.outputs) × (n.hit ≡ hit_of own)
+NeedsBy s r own (Ran a) n = (n.key ≡ (job_of own).found.key) × (n.wanted ≡ (job_of own).found.outputs)
+NeedsBy s r own (Dist d) n = (n.key ≡ (job_of own).found.key) × (n.wanted ≡ (job_of own).found.outputs)
+NeedsBy s r own _ n = Unit {0}
+
+-- the hold moved by each of them in turn, from one to another; an event's moment is what it then told
+abbrev pub MovedBy : {H : Type 0} → (H → ℕ) → (H → Need → What → H → Type 0) → Setup → Request → List Own → H → List Own → H → Type 0
+MovedBy {H = H} moment moves s r before a [] b = b ≡ a
+MovedBy {H = H} moment moves s r before a (At m x ∷ own) b =
+    (h : H) × (n : Need) × MovedBy moment moves s r before a own h × (m ≡ moment h) × NeedsBy s r (own ++ before) x n × moves h n x b
+
+-- a compile's events move the hold; the first one stands first
+abbrev pub DoneBy : {H : Type 0} → (H → ℕ) → (H → Need → What → H → Type 0) → Setup → Request → Task → H → List JobEvent → H → Type 0
+DoneBy moment moves s r task a events b = MovedBy moment moves s r (begun r task) a (newest_first events) b
+
+-- what came of it: its events follow one another, and it is over; how it finished, and what it answers, is what they say
+pub record Compiles (s : Setup) (r : Request) (task : Task) (c : Compiled) : Type 0 where
+  pub follow : FollowOn s r (begun r task) (newest_first c.events)
+  pub answer : c.answer ≡ answer_in (newest_first c.events)
+  pub over : due s r (newest_first c.events ++ begun r task) ≡ ToFinish c.ending.notes c.ending.last
+  pub finished : finish s r (newest_first c.events ++ begun r task) ≡ c.ending.last
+  pub carries : Carries s r c.ending.last (newest_first c.events ++ begun r task)
+  pub stored : Stores s (newest_first c.events ++ begun r task)

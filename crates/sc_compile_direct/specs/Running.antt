@@ -1,0 +1,36 @@
+-- One action of a job that is under way.
+use Rattle.std.specs.Prelude.{◌≡◌, ℕ, Bool, true, false, [], ◌∷◌, ◌++◌, Option, Some, None}
+use Rattle.sc_daemon_action.specs.Hands.{StandsWith}
+use Rattle.sc_store_disk.specs.DiskStores.{DiskStore}
+use Rattle.sc_daemon_job.specs.Setups.{Config, setup}
+use Rattle.sc_model.specs.Follows.{Fits}
+use Rattle.sc_model.specs.Machine.{after, due_at, need_at}
+use Rattle.sc_model.specs.World.{Need}
+use Rattle.sc_model.specs.declared.event.What.{What}
+use Rattle.sc_model.specs.declared.message.Request.{Request}
+use Rattle.sc_model.specs.declared.phase.Ending.{Ending}
+use Rattle.sc_model.specs.declared.phase.Phase.{Phase}
+use Rattle.sc_model.specs.declared.phase.Phase.TheVariants.{AtFinish}
+use Rattle.sc_compile_direct.specs.declared.running.Running.{Running}
+
+-- nothing is left but to tell how it ended
+abbrev pub is_over : Phase → Bool
+is_over (AtFinish notes last) = true
+is_over _ = false
+
+-- the event is the one that is due, the phase after it is the machine's, and it can be gone on with there; d are the levels after it
+pub record Steps (k : Config) (d : ℕ → DiskStore) (r : Request) (m : ℕ) (old new : Running) (x : What) : Type 0 where
+  pub events : new.events ≡ old.events ++ record { moment = m; what = x } ∷ []
+  pub fits : Fits (setup k) r (due_at (setup k) r old.phase) x
+  pub then : new.phase ≡ after (setup k) r old.phase m x
+  pub stands : StandsWith k d new.phase new.entry r
+
+-- and the hold moves by it
+abbrev pub StepsBy : {H : Type 0} → (H → Config) → (H → ℕ → DiskStore) → (H → ℕ) → (H → Need → What → H → Type 0) → Request → H → H → Running → Running → Type 0
+StepsBy config disk moment moves r a b old new =
+    (x : What) × Steps (config a) (disk b) r (moment a) old new x × moves a (need_at (setup (config a)) r old.phase) x b × (config b ≡ config a)
+
+-- how it is to be told to end, where nothing else is left
+abbrev pub ending_of : Phase → Option Ending
+ending_of (AtFinish notes last) = Some (record { notes = notes; last = last })
+ending_of _ = None

@@ -1,5 +1,0 @@
-//! Tests of `sc_compiler_map`.
-#![tactic(auto)]
-
-#[cfg(test)]
-mod tests;

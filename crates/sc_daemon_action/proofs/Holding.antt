@@ -1,0 +1,208 @@
+-- Entries that are held, before and after an action.
+use Rattle.std.proofs.Common.{◌≡◌, ◌≢◌, ◌==◌, ℕ, ◌++◌, true, false, List, [], length, Option, Some, None, refl, ap, sym, subst, ◌∙◌, eqb-true, eq-eqb}
+use Rattle.sc_daemon_action.specs.Hands.{ActsWith, IsOwn, ServesWith, StandsWith, writes}
+use Rattle.sc_daemon_action.specs.Serves.{Serves, Stands}
+use Rattle.sc_daemon_action.specs.Telling.{ActsFor, IsStill}
+use Rattle.sc_daemon_action.specs.declared.acted.Acted.{Acted}
+use Rattle.sc_disk.specs.Store.{AddEntry}
+use Rattle.sc_store_disk.specs.DiskStores.{DiskStore, OpenEntry, entry_at, entry_path}
+use Rattle.sc_store_disk.specs.Entries.{ClosesEntry, FillsBy}
+use Rattle.sc_store_disk.specs.Moving.{OpensBy}
+use Rattle.sc_store_disk.specs.declared.filling.Filling.{Filling}
+use Rattle.sc_store_disk.specs.declared.filling.Filling.TheVariants.{Filled as StillOpen, Refused as NotFilled}
+use Rattle.sc_store_disk.specs.declared.reserving.Reservation.{Reservation}
+use Rattle.sc_store_disk.specs.declared.reserving.Reservation.TheVariants.{Open, Refused as NotReserved}
+use Rattle.sc_entry.specs.Keys.{IsStoreKey}
+use Rattle.sc_daemon_hold.specs.Holding.{Elsewhere, Hand, HandsBy, Holds, IsHand, KeepsHands, OpensNone, SameRoom, hand_at}
+use Rattle.sc_daemon_job.specs.Setups.{Config}
+use Rattle.sc_model.specs.World.{Need}
+use Rattle.sc_model.specs.declared.event.What.{What}
+use Rattle.sc_model.specs.declared.event.What.TheVariants.{Asked, Began, Closed, Committed, Dist, Filled, Idle, Keyed, Outcome, Passed, Placed, Ran, Reserved, Sent, Taken, TokenTaken, TooLong, WriteEnded, Wrote}
+use Rattle.sc_model.specs.declared.message.Request.{Request}
+use Rattle.sc_model.specs.declared.phase.Bytes.{Bytes}
+use Rattle.sc_model.specs.declared.phase.Phase.{Phase}
+use Rattle.sc_model.specs.declared.phase.Phase.TheVariants.{AtAsk, AtBegin, AtCommit, AtDist, AtEnd, AtEnded, AtFill, AtFinish, AtKey, AtOver, AtPlace, AtRun, AtSend, AtStarted, AtStore, AtTake, AtWrite, PathAsk, PreAsk, PrePut, RawAsk, SizeAsk}
+
+never : false ≡ true → ⊥
+never e = absurd (cc)
+
+not_none : {A : Type 0} (a : A) → Some a ≡ None → ⊥
+not_none a e = absurd (cc)
+
+by_number : {P : Type 0} (m l : ℕ) → (m ≡ l → P) → (m ≢ l → P) → P
+by_number {P} m l same apart = (elim (m == l) as (λ t. (m == l) ≡ t → P) [
+  | true ↦ λ e. same (eqb-true m l e)
+  | false ↦ λ e. apart (λ is. never (sym e ∙ eq-eqb m l is))
+]) refl
+
+-- needs nothing
+pub no_need : Need
+no_need = record { keys = λ first. None; key = []; wanted = []; outputs = []; hit = [] }
+
+module _ (l : ℕ) (old new : ℕ → DiskStore) (away : Elsewhere l old new) where
+  -- what is open at one level stays by a call there, and at all others
+  keeps_at : (held : Option Hand) → ((n : ℕ) (o : OpenEntry) → (IsHand held l n → ⊥) → entry_at (old l).entries n ≡ Some o → entry_at (new l).entries n ≡ Some o) → KeepsHands held old new
+  keeps_at held here m n o other at = by_number m l
+      (λ same. subst (λ (k : ℕ). entry_at (new k).entries n ≡ Some o) (sym same)
+      (here n o (λ is. other (subst (λ (k : ℕ). IsHand held k n) (sym same) is)) (subst (λ (k : ℕ). entry_at (old k).entries n ≡ Some o) same at)))
+      (λ apart. ap (λ es. entry_at es n) ((away m apart).1) ∙ at)
+
+  opens_here : (path : List ℕ) (size : ℕ) (how : Reservation) → OpensBy path size how (old l) (new l) → (n : ℕ) (o : OpenEntry) → entry_at (old l).entries n ≡ Some o → entry_at (new l).entries n ≡ Some o
+  opens_here path size (Open e) h n o at = by_number n e.number
+      (λ same. absurd (not_none o (sym at ∙ ap (λ k. entry_at (old l).entries k) same ∙ h.free)))
+      (λ apart. h.others n apart ∙ at)
+  opens_here path size (NotReserved c) h n o at = h.entries n ∙ at
+
+  pub opens_keep : (path : List ℕ) (size : ℕ) (how : Reservation) → OpensBy path size how (old l) (new l) → KeepsHands None old new
+  opens_keep path size how h = keeps_at None (λ n o other at. opens_here path size how h n o at)
+
+  fills_here : (e : AddEntry) (more : List ℕ) (how : Filling) → FillsBy e more how (old l) (new l) → (n : ℕ) (o : OpenEntry) → n ≢ e.number → entry_at (old l).entries n ≡ Some o → entry_at (new l).entries n ≡ Some o
+  fills_here e more (StillOpen same) h n o apart at = h.1.others n apart ∙ at
+  fills_here e more (NotFilled c) h n o apart at = h.2.others n apart ∙ at
+
+  pub fills_keep : (e : AddEntry) (more : List ℕ) (size : ℕ) (how : Filling) → FillsBy e more how (old l) (new l) → KeepsHands (hand_at (Some e) l size) old new
+  fills_keep e more size how h = keeps_at (hand_at (Some e) l size) (λ n o other at. fills_here e more how h n o (λ is. other (refl, is)) at)
+
+  pub closes_keep : (e : AddEntry) (size : ℕ) → ClosesEntry e.number (old l) (new l) → KeepsHands (hand_at (Some e) l size) old new
+  closes_keep e size h = keeps_at (hand_at (Some e) l size) (λ n o other at. h.others n (λ is. other (refl, is)) ∙ at)
+
+-- an entry that was opened is held, and is empty
+pub opened_holds : (s t : DiskStore) (e : AddEntry) (b : Bytes) → IsStoreKey b.key → OpensBy (entry_path b.key) (length b.bytes) (Open e) s t → Holds t e b []
+opened_holds s t e b good h = record { good = good; key = h.key; divided = h.divided; bytes = []; entry = h.opened; told = λ told. refl }
+
+filled_holds : (s t : DiskStore) (e : AddEntry) (b : Bytes) → t.told ≡ s.told → Holds s e b [] → FillsBy e b.bytes (StillOpen e) s t → Holds t e b b.bytes
+filled_holds s t e b same held h =
+    let now = h.1.entry (record { path = entry_path b.key; size = length b.bytes; bytes = held.bytes }) held.entry in
+    record {
+      good = held.good;
+      key = held.key;
+      divided = held.divided;
+      bytes = now.0;
+      entry = now.1;
+      told = λ told. now.2 (sym same ∙ told) ∙ ap (λ f. f ++ b.bytes) (held.told (sym same ∙ told));
+    }
+
+-- an entry that was filled is held, with its bytes
+pub fills_hold : (s t : DiskStore) (e f : AddEntry) (b : Bytes) → t.told ≡ s.told → Holds s e b [] → FillsBy e b.bytes (StillOpen f) s t → Holds t f b b.bytes
+fills_hold s t e f b same held h = subst (λ (x : AddEntry). Holds t x b b.bytes) (sym h.0) (filled_holds s t e b same held (refl, h.1))
+
+-- an event that opens, fills and closes no entry keeps each
+pub still_keeps : (held : Option Hand) (old new : ℕ → DiskStore) → ((l : ℕ) → SameRoom (old l) (new l)) → KeepsHands held old new
+still_keeps held old new same l n o other at = ap (λ es. entry_at es n) ((same l).1) ∙ at
+
+pub still_none : (x : What) → IsStill x → OpensNone x
+still_none Idle still = tt
+still_none (Passed a) still = absurd still
+still_none (Taken a b) still = tt
+still_none (Closed a) still = tt
+still_none (Began a b) still = tt
+still_none (Keyed a b d) still = tt
+still_none (Asked a b d f g) still = tt
+still_none (Placed a) still = tt
+still_none TokenTaken still = tt
+still_none (Ran a) still = tt
+still_none (Dist a) still = tt
+still_none (Outcome a b) still = tt
+still_none (Reserved a b d f) still = absurd still
+still_none (Filled a b d f g) still = absurd still
+still_none (Committed a b d f) still = absurd still
+still_none (Wrote a b d f g h) still = tt
+still_none (WriteEnded a b) still = tt
+still_none (Sent a) still = tt
+still_none (TooLong a) still = tt
+
+pub still_own : (x : What) → IsStill x → IsOwn x
+still_own Idle still = tt
+still_own (Passed a) still = absurd still
+still_own (Taken a b) still = tt
+still_own (Closed a) still = tt
+still_own (Began a b) still = tt
+still_own (Keyed a b d) still = tt
+still_own (Asked a b d f g) still = tt
+still_own (Placed a) still = tt
+still_own TokenTaken still = tt
+still_own (Ran a) still = tt
+still_own (Dist a) still = tt
+still_own (Outcome a b) still = tt
+still_own (Reserved a b d f) still = absurd still
+still_own (Filled a b d f g) still = absurd still
+still_own (Committed a b d f) still = absurd still
+still_own (Wrote a b d f g h) still = tt
+still_own (WriteEnded a b) still = tt
+still_own (Sent a) still = tt
+still_own (TooLong a) still = tt
+
+-- and none is held for it
+pub still_hands : (d : ℕ → DiskStore) (x : What) → IsStill x → HandsBy d x None None
+still_hands d Idle still = (refl, refl)
+still_hands d (Passed a) still = absurd still
+still_hands d (Taken a b) still = (refl, refl)
+still_hands d (Closed a) still = (refl, refl)
+still_hands d (Began a b) still = (refl, refl)
+still_hands d (Keyed a b f) still = (refl, refl)
+still_hands d (Asked a b f g h) still = (refl, refl)
+still_hands d (Placed a) still = (refl, refl)
+still_hands d TokenTaken still = (refl, refl)
+still_hands d (Ran a) still = (refl, refl)
+still_hands d (Dist a) still = (refl, refl)
+still_hands d (Outcome a b) still = (refl, refl)
+still_hands d (Reserved a b f g) still = absurd still
+still_hands d (Filled a b f g h) still = absurd still
+still_hands d (Committed a b f g) still = absurd still
+still_hands d (Wrote a b f g h i) still = (refl, refl)
+still_hands d (WriteEnded a b) still = (refl, refl)
+still_hands d (Sent a) still = (refl, refl)
+still_hands d (TooLong a) still = (refl, refl)
+
+-- where no write goes on none is held
+pub plain_serves : (k : Config) (d : ℕ → DiskStore) (p : Phase) (entry : Option AddEntry) (r : Request) → writes p ≡ false → ServesWith k d p entry r → Serves k p r × (entry ≡ None)
+plain_serves k d AtBegin entry r plain serves = serves
+plain_serves k d (AtSend a) entry r plain serves = serves
+plain_serves k d (AtStarted a) entry r plain serves = serves
+plain_serves k d (AtKey a b) entry r plain serves = serves
+plain_serves k d (AtAsk a b) entry r plain serves = serves
+plain_serves k d (AtPlace a b f) entry r plain serves = serves
+plain_serves k d (AtDist a) entry r plain serves = serves
+plain_serves k d (AtTake a) entry r plain serves = serves
+plain_serves k d (AtRun a) entry r plain serves = serves
+plain_serves k d (AtEnd a b f) entry r plain serves = serves
+plain_serves k d (AtStore a b f g) entry r plain serves = serves
+plain_serves k d (AtWrite a b f g) entry r plain serves = absurd (cc)
+plain_serves k d (AtFill a b f g h) entry r plain serves = absurd (cc)
+plain_serves k d (AtCommit a b f g h) entry r plain serves = absurd (cc)
+plain_serves k d (AtFinish a b) entry r plain serves = serves
+plain_serves k d (RawAsk a b) entry r plain serves = serves
+plain_serves k d (PathAsk a) entry r plain serves = serves
+plain_serves k d (PreAsk a b) entry r plain serves = serves
+plain_serves k d (PrePut a b f) entry r plain serves = serves
+plain_serves k d (SizeAsk a b f) entry r plain serves = serves
+plain_serves k d (AtEnded a) entry r plain serves = serves
+plain_serves k d AtOver entry r plain serves = serves
+
+-- and where none is held a request stands so
+pub stands_none : (k : Config) (d : ℕ → DiskStore) (p : Phase) (r : Request) → Stands k p r → StandsWith k d p None r
+stands_none k d AtBegin r stands = (stands, refl)
+stands_none k d (AtSend a) r stands = (stands, refl)
+stands_none k d (AtStarted a) r stands = (stands, refl)
+stands_none k d (AtKey a b) r stands = (stands, refl)
+stands_none k d (AtAsk a b) r stands = (stands, refl)
+stands_none k d (AtPlace a b f) r stands = (stands, refl)
+stands_none k d (AtDist a) r stands = (stands, refl)
+stands_none k d (AtTake a) r stands = (stands, refl)
+stands_none k d (AtRun a) r stands = (stands, refl)
+stands_none k d (AtEnd a b f) r stands = (stands, refl)
+stands_none k d (AtStore a b f g) r stands = (stands, refl)
+stands_none k d (AtWrite a b f g) r stands = (stands, refl)
+stands_none k d (AtFill a b f g h) r stands = absurd stands
+stands_none k d (AtCommit a b f g h) r stands = absurd stands
+stands_none k d (AtFinish a b) r stands = (stands, refl)
+stands_none k d (RawAsk a b) r stands = (stands, refl)
+stands_none k d (PathAsk a) r stands = (stands, refl)
+stands_none k d (PreAsk a b) r stands = (stands, refl)
+stands_none k d (PrePut a b f) r stands = (stands, refl)
+stands_none k d (SizeAsk a b f) r stands = (stands, refl)
+stands_none k d (AtEnded a) r stands = (stands, refl)
+stands_none k d AtOver r stands = (stands, refl)
+
+pub acts_none : (k : Config) (d : ℕ → DiskStore) (r : Request) (p : Phase) (m : ℕ) (a : Acted) → ActsFor k r p m a → ActsWith k d r p m (record { what = a.what; phase = a.phase; entry = None })
+acts_none k d r p m a acts = record { fits = acts.fits; then = acts.then; stands = stands_none k d a.phase r acts.stands; own = still_own a.what acts.still; there = acts.there }

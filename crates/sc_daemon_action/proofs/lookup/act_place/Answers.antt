@@ -1,0 +1,16 @@
+use Rattle.std.proofs.Common.{ℕ, ap, ◌∙◌}
+use Rattle.sc_daemon_job.specs.Setups.{setup}
+use Rattle.sc_model.specs.Machine.{placed_phase}
+use Rattle.sc_model.specs.declared.message.Request.TheVariants.{Compile as CompileOf}
+use Rattle.sc_daemon_action.proofs.lookup.act_place.Goals as goal
+
+pub returns-clause-acts : goal.returns-clause-acts
+returns-clause-acts g c =
+    let k = g.H.Hold.config c.args.hold.now in
+    record {
+      fits = tt;
+      then = c.in_ok-phase.ensures.phase k c.args.request.now ∙ ap (λ (m : ℕ). placed_phase (setup k) (CompileOf c.args.request.now) c.args.job c.args.entry c.args.duration m c.in_ok-placing.placing) c.now-now.ensures;
+      stands = c.in_ok-phase.ensures.stands k c.args.request.now;
+      plain = tt;
+      there = tt;
+    }

@@ -1,0 +1,288 @@
+//! One action of a request.
+ghost use Rattle.std.specs.Prelude.{◌≡◌, false, List, IfOk};
+ghost use Rattle.sc_daemon_action.specs.Acts.{Acts};
+ghost use Rattle.sc_daemon_action.specs.Hands.{ActsWith, ServesWith, hand_of, writes};
+ghost use Rattle.sc_daemon_action.specs.Sends.{Adds};
+ghost use Rattle.sc_daemon_action.specs.Serves.{Serves};
+ghost use Rattle.sc_daemon_action.specs.Telling.{ActsFor, SaysCounted};
+ghost use Rattle.sc_daemon_hold.specs.Holding.{HandsBy, KeepsHands};
+ghost use Rattle.sc_daemon_job.specs.Setups.{setup};
+ghost use Rattle.sc_model.specs.Machine.{need_at};
+ghost use Rattle.sc_model.specs.Trace.{sent_by};
+ghost use Rattle.sc_model.specs.declared.message.Request.TheVariants.{Compile as CompileOf, StorageGetRaw, StoragePutRaw};
+ghost use Rattle.sc_model.specs.declared.message.Request.TheVariants as requests;
+ghost use Rattle.sc_model.specs.declared.level.Policy.{Policy as PolicyType};
+ghost use Rattle.sc_stats.specs.declared.counters.LevelStats.{LevelStats as Counters};
+ghost use Rattle.sc_stats.specs.declared.counters.ServerStats.{ServerStats as Stats};
+
+use crate::acted::{Acted, Action, holding_none};
+use crate::early::{act_begin, act_key};
+use crate::lookup::{act_ask, act_place};
+use crate::raw::{act_begin_get, act_begin_put, act_raw_ask};
+use crate::running::{act_dist, act_run, act_take};
+use crate::sending::{act_finish, act_send, act_started};
+use crate::storing::{act_end, act_store};
+use crate::telling::{
+    act_begin_stats, act_dist_status, act_handshake, act_record, act_size_ask, act_zero,
+};
+use crate::writing::{act_writing, is_write};
+use sc_daemon_hold::Hold;
+use sc_disk::LruDiskCacheAddEntry;
+use sc_entry::{ByteText, NoMemory, Text};
+use sc_model::{Compile, Phase, Request};
+use sc_stats::{LevelStats, ServerStats};
+use std::alloc::Global;
+
+/// Does the action that is due of a compile.
+fn act_compile<H: Hold>(
+    alloc: Global,
+    hold: &mut H,
+    request: &Compile,
+    phase: Phase,
+    out: &mut Vec<u8>,
+) -> Result<Acted, NoMemory>
+    requires serves { Serves (H.config hold.old) phase (CompileOf request.now) }
+    requires plain { writes phase ≡ false }
+    ensures acts { IfOk result (λ a. Acts (H.config hold.old) (CompileOf request.now) phase (H.moment hold.old) a) }
+    ensures moves { IfOk result (λ a. H.moves hold.old (need_at (setup (H.config hold.old)) (CompileOf request.now) phase) a.what hold.new) }
+    ensures same { IfOk result (λ a. H.config hold.new ≡ H.config hold.old) }
+    ensures sent { IfOk result (λ a. Adds (H.config hold.old) (sent_by a.what) out.old.items out.new.items) }
+{
+    match phase {
+        Phase::AtBegin => act_begin(alloc, hold, request),
+        Phase::AtSend(reply) => act_send(alloc, hold, reply, out),
+        Phase::AtStarted(task) => act_started(alloc, hold, request, task, out),
+        Phase::AtKey(task, first) => act_key(alloc, hold, request, task, first),
+        Phase::AtAsk(job, level) => act_ask(alloc, hold, request, job, level),
+        Phase::AtPlace(job, entry, duration) => act_place(
+            alloc, hold, request, job, entry, duration,
+        ),
+        Phase::AtDist(work) => act_dist(alloc, hold, request, work),
+        Phase::AtTake(work) => act_take(hold, request, work),
+        Phase::AtRun(work) => act_run(alloc, hold, request, work),
+        Phase::AtEnd(verdict, task, ending) => act_end(hold, request, verdict, task, ending),
+        Phase::AtStore(verdict, task, bytes, ending) => {
+            act_store(alloc, hold, request, verdict, task, bytes, ending)
+        }
+        Phase::AtFinish(notes, last) => act_finish(alloc, hold, request, notes, last, out),
+        _ => unreachable!(),
+    }
+}
+
+/// Does the action that is due of a request for the bytes under a key.
+fn act_get_raw<H: Hold>(
+    alloc: Global,
+    hold: &mut H,
+    key: &Text,
+    phase: Phase,
+    out: &mut Vec<u8>,
+) -> Result<Acted, NoMemory>
+    requires { Serves (H.config hold.old) phase (StorageGetRaw key.now) }
+    ensures acts { IfOk result (λ a. Acts (H.config hold.old) (StorageGetRaw key.now) phase (H.moment hold.old) a) }
+    ensures moves { IfOk result (λ a. H.moves hold.old (need_at (setup (H.config hold.old)) (StorageGetRaw key.now) phase) a.what hold.new) }
+    ensures same { IfOk result (λ a. H.config hold.new ≡ H.config hold.old) }
+    ensures sent { IfOk result (λ a. Adds (H.config hold.old) (sent_by a.what) out.old.items out.new.items) }
+{
+    match phase {
+        Phase::AtBegin => act_begin_get(alloc, hold, key),
+        Phase::RawAsk(level, wanted) => act_raw_ask(alloc, hold, key, level, wanted),
+        Phase::AtSend(reply) => act_send(alloc, hold, reply, out),
+        _ => unreachable!(),
+    }
+}
+
+/// Does the action that is due of a put of bytes as they are.
+fn act_put_raw<H: Hold>(
+    alloc: Global,
+    hold: &mut H,
+    key: &Text,
+    put: &ByteText,
+    phase: Phase,
+    out: &mut Vec<u8>,
+) -> Result<Acted, NoMemory>
+    requires serves { Serves (H.config hold.old) phase (StoragePutRaw key.now put.now) }
+    requires plain { writes phase ≡ false }
+    ensures acts { IfOk result (λ a. Acts (H.config hold.old) (StoragePutRaw key.now put.now) phase (H.moment hold.old) a) }
+    ensures moves { IfOk result (λ a. H.moves hold.old (need_at (setup (H.config hold.old)) (StoragePutRaw key.now put.now) phase) a.what hold.new) }
+    ensures same { IfOk result (λ a. H.config hold.new ≡ H.config hold.old) }
+    ensures sent { IfOk result (λ a. Adds (H.config hold.old) (sent_by a.what) out.old.items out.new.items) }
+{
+    match phase {
+        Phase::AtBegin => act_begin_put(alloc, hold, key, put),
+        Phase::AtSend(reply) => act_send(alloc, hold, reply, out),
+        _ => unreachable!(),
+    }
+}
+
+/// Does the action that is due of a request for statistics.
+fn act_get_stats<H: Hold>(
+    alloc: Global,
+    hold: &mut H,
+    stats: &ServerStats,
+    levels: &[LevelStats],
+    phase: Phase,
+    out: &mut Vec<u8>,
+) -> Result<Acted, NoMemory>
+    requires { Serves (H.config hold.old) phase requests.GetStats }
+    ensures acts { IfOk result (λ a. ActsFor (H.config hold.old) requests.GetStats phase (H.moment hold.old) a) }
+    ensures says { IfOk result (λ a. SaysCounted (H.config hold.old).policy stats.now levels.now a.what) }
+    ensures moves { IfOk result (λ a. H.moves hold.old (need_at (setup (H.config hold.old)) requests.GetStats phase) a.what hold.new) }
+    ensures same { IfOk result (λ a. H.config hold.new ≡ H.config hold.old) }
+    ensures sent { IfOk result (λ a. Adds (H.config hold.old) (sent_by a.what) out.old.items out.new.items) }
+{
+    match phase {
+        Phase::AtBegin => act_begin_stats(alloc, hold, stats),
+        Phase::SizeAsk(level, told, sizes) => {
+            act_size_ask(alloc, hold, levels, level, told, sizes)
+        }
+        Phase::AtSend(reply) => act_send(alloc, hold, reply, out),
+        _ => unreachable!(),
+    }
+}
+
+/// Does the action that is due of a request that all counters start anew.
+fn act_zero_stats<H: Hold>(
+    alloc: Global,
+    hold: &mut H,
+    phase: Phase,
+    out: &mut Vec<u8>,
+) -> Result<Acted, NoMemory>
+    requires { Serves (H.config hold.old) phase requests.ZeroStats }
+    ensures acts { IfOk result (λ a. ActsFor (H.config hold.old) requests.ZeroStats phase (H.moment hold.old) a) }
+    ensures says { IfOk result (λ a. (p : PolicyType) (stats : Stats) (levels : List Counters) → SaysCounted p stats levels a.what) }
+    ensures moves { IfOk result (λ a. H.moves hold.old (need_at (setup (H.config hold.old)) requests.ZeroStats phase) a.what hold.new) }
+    ensures same { IfOk result (λ a. H.config hold.new ≡ H.config hold.old) }
+    ensures sent { IfOk result (λ a. Adds (H.config hold.old) (sent_by a.what) out.old.items out.new.items) }
+{
+    match phase {
+        Phase::AtBegin => act_zero(alloc, hold),
+        Phase::AtSend(reply) => act_send(alloc, hold, reply, out),
+        _ => unreachable!(),
+    }
+}
+
+/// Does the action that is due of a request that counters are added.
+fn act_record_stats<H: Hold>(
+    alloc: Global,
+    hold: &mut H,
+    delta: &ServerStats,
+    phase: Phase,
+    out: &mut Vec<u8>,
+) -> Result<Acted, NoMemory>
+    requires { Serves (H.config hold.old) phase (requests.RecordStats delta.now) }
+    ensures acts { IfOk result (λ a. ActsFor (H.config hold.old) (requests.RecordStats delta.now) phase (H.moment hold.old) a) }
+    ensures says { IfOk result (λ a. (p : PolicyType) (stats : Stats) (levels : List Counters) → SaysCounted p stats levels a.what) }
+    ensures moves { IfOk result (λ a. H.moves hold.old (need_at (setup (H.config hold.old)) (requests.RecordStats delta.now) phase) a.what hold.new) }
+    ensures same { IfOk result (λ a. H.config hold.new ≡ H.config hold.old) }
+    ensures sent { IfOk result (λ a. Adds (H.config hold.old) (sent_by a.what) out.old.items out.new.items) }
+{
+    match phase {
+        Phase::AtBegin => act_record(alloc, hold, delta),
+        Phase::AtSend(reply) => act_send(alloc, hold, reply, out),
+        _ => unreachable!(),
+    }
+}
+
+/// Does the action that is due of a handshake with the store.
+fn act_storage_handshake<H: Hold>(
+    alloc: Global,
+    hold: &mut H,
+    phase: Phase,
+    out: &mut Vec<u8>,
+) -> Result<Acted, NoMemory>
+    requires { Serves (H.config hold.old) phase requests.StorageHandshake }
+    ensures acts { IfOk result (λ a. ActsFor (H.config hold.old) requests.StorageHandshake phase (H.moment hold.old) a) }
+    ensures says { IfOk result (λ a. (p : PolicyType) (stats : Stats) (levels : List Counters) → SaysCounted p stats levels a.what) }
+    ensures moves { IfOk result (λ a. H.moves hold.old (need_at (setup (H.config hold.old)) requests.StorageHandshake phase) a.what hold.new) }
+    ensures same { IfOk result (λ a. H.config hold.new ≡ H.config hold.old) }
+    ensures sent { IfOk result (λ a. Adds (H.config hold.old) (sent_by a.what) out.old.items out.new.items) }
+{
+    match phase {
+        Phase::AtBegin => act_handshake(alloc, hold),
+        Phase::AtSend(reply) => act_send(alloc, hold, reply, out),
+        _ => unreachable!(),
+    }
+}
+
+/// Does the action that is due of a request for where the distributed client stands.
+fn act_told_dist<H: Hold>(
+    alloc: Global,
+    hold: &mut H,
+    phase: Phase,
+    out: &mut Vec<u8>,
+) -> Result<Acted, NoMemory>
+    requires { Serves (H.config hold.old) phase requests.DistStatus }
+    ensures acts { IfOk result (λ a. ActsFor (H.config hold.old) requests.DistStatus phase (H.moment hold.old) a) }
+    ensures says { IfOk result (λ a. (p : PolicyType) (stats : Stats) (levels : List Counters) → SaysCounted p stats levels a.what) }
+    ensures moves { IfOk result (λ a. H.moves hold.old (need_at (setup (H.config hold.old)) requests.DistStatus phase) a.what hold.new) }
+    ensures same { IfOk result (λ a. H.config hold.new ≡ H.config hold.old) }
+    ensures sent { IfOk result (λ a. Adds (H.config hold.old) (sent_by a.what) out.old.items out.new.items) }
+{
+    match phase {
+        Phase::AtBegin => act_dist_status(alloc, hold),
+        Phase::AtSend(reply) => act_send(alloc, hold, reply, out),
+        _ => unreachable!(),
+    }
+}
+
+/// Does the action that is due of a request that writes nothing now.
+fn act_plain<H: Hold>(
+    alloc: Global,
+    hold: &mut H,
+    stats: &ServerStats,
+    levels: &[LevelStats],
+    request: &Request,
+    phase: Phase,
+    out: &mut Vec<u8>,
+) -> Result<Acted, NoMemory>
+    requires serves { Serves (H.config hold.old) phase request.now }
+    requires plain { writes phase ≡ false }
+    ensures acts { IfOk result (λ a. ActsFor (H.config hold.old) request.now phase (H.moment hold.old) a) }
+    ensures says { IfOk result (λ a. SaysCounted (H.config hold.old).policy stats.now levels.now a.what) }
+    ensures moves { IfOk result (λ a. H.moves hold.old (need_at (setup (H.config hold.old)) request.now phase) a.what hold.new) }
+    ensures same { IfOk result (λ a. H.config hold.new ≡ H.config hold.old) }
+    ensures sent { IfOk result (λ a. Adds (H.config hold.old) (sent_by a.what) out.old.items out.new.items) }
+{
+    match request {
+        Request::Compile(compile) => act_compile(alloc, hold, compile, phase, out),
+        Request::StorageGetRaw(key) => act_get_raw(alloc, hold, key, phase, out),
+        Request::StoragePutRaw(key, put) => act_put_raw(alloc, hold, key, put, phase, out),
+        Request::GetStats => act_get_stats(alloc, hold, stats, levels, phase, out),
+        Request::ZeroStats => act_zero_stats(alloc, hold, phase, out),
+        Request::RecordStats(delta) => act_record_stats(alloc, hold, delta, phase, out),
+        Request::StorageHandshake => act_storage_handshake(alloc, hold, phase, out),
+        Request::DistStatus => act_told_dist(alloc, hold, phase, out),
+        _ => unreachable!(),
+    }
+}
+
+/// Does the action that is due of a request at this phase, with the entry of a disk level that it holds: its event, the phase
+/// after it, and the entry that it holds then. What it sends goes behind `out`. It waits for nothing: a token is there where
+/// one is taken. `stats` is what the daemon has counted, and `levels` what it has counted of each level; a request for
+/// statistics tells these.
+pub fn act<H: Hold>(
+    alloc: Global,
+    hold: &mut H,
+    stats: &ServerStats,
+    levels: &[LevelStats],
+    request: &Request,
+    phase: Phase,
+    entry: Option<LruDiskCacheAddEntry>,
+    out: &mut Vec<u8>,
+) -> Result<Action, NoMemory>
+    requires { ServesWith (H.config hold.old) (H.disk hold.old) phase entry request.now }
+    ensures acts { IfOk result (λ a. ActsWith (H.config hold.old) (H.disk hold.new) request.now phase (H.moment hold.old) a) }
+    ensures hands { IfOk result (λ a. HandsBy (H.disk hold.old) a.what (hand_of entry phase) (hand_of a.entry a.phase)) }
+    ensures others { IfOk result (λ a. KeepsHands (hand_of entry phase) (H.disk hold.old) (H.disk hold.new)) }
+    ensures says { IfOk result (λ a. SaysCounted (H.config hold.old).policy stats.now levels.now a.what) }
+    ensures moves { IfOk result (λ a. H.moves hold.old (need_at (setup (H.config hold.old)) request.now phase) a.what hold.new) }
+    ensures same { IfOk result (λ a. H.config hold.new ≡ H.config hold.old) }
+    ensures sent { IfOk result (λ a. Adds (H.config hold.old) (sent_by a.what) out.old.items out.new.items) }
+{
+    if is_write(&phase) {
+        let action = act_writing(alloc, hold, request, phase, entry)?;
+        return Ok(action);
+    }
+    let acted = act_plain(alloc, hold, stats, levels, request, phase, out)?;
+    Ok(holding_none(acted))
+}

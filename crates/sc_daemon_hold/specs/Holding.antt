@@ -1,0 +1,92 @@
+-- Entries of disk levels that are open, and who holds one.
+use Rattle.std.specs.Prelude.{◌≡◌, ◌≢◌, ℕ, ◌+◌, true, List, length, Option, Some, None}
+use Rattle.sc_disk.specs.Store.{AddEntry}
+use Rattle.sc_store_disk.specs.DiskStores.{DiskStore, OpenEntry, entry_at, entry_path}
+use Rattle.sc_store_disk.specs.declared.filling.Filling.{Filling}
+use Rattle.sc_store_disk.specs.declared.filling.Filling.TheVariants.{Filled as Filled_on, Refused as NotFilled}
+use Rattle.sc_store_disk.specs.declared.reserving.Reservation.{Reservation}
+use Rattle.sc_store_disk.specs.declared.reserving.Reservation.TheVariants.{Open, Refused as NotReserved}
+use Rattle.sc_entry.specs.Keys.{IsStoreKey}
+use Rattle.sc_model.specs.declared.event.What.{What}
+use Rattle.sc_model.specs.declared.event.What.TheVariants.{Committed, Filled, Reserved}
+use Rattle.sc_model.specs.declared.event.Written.{Written}
+use Rattle.sc_model.specs.declared.event.Written.TheVariants.{Done, Refused}
+use Rattle.sc_model.specs.declared.phase.Bytes.{Bytes}
+
+-- The level has an open entry for these bytes under their key. It has declared their length, and was filled with `filled`.
+pub record Holds (s : DiskStore) (e : AddEntry) (b : Bytes) (filled : List ℕ) : Type 0 where
+  pub good : IsStoreKey b.key
+  pub key : e.key ≡ entry_path b.key
+  pub divided : e.divided ≡ true
+  pub bytes : List ℕ
+  pub entry : entry_at s.entries e.number ≡ Some (record { path = entry_path b.key; size = length b.bytes; bytes = bytes })
+  pub told : s.told ≡ true → bytes ≡ filled
+
+-- an entry is opened for a store key alone
+abbrev pub IsGood : Reservation → List ℕ → Type 0
+IsGood (Open e) key = IsStoreKey key
+IsGood (NotReserved c) key = Unit {0}
+
+-- how a fill ended
+abbrev pub filled_of : Filling → Written
+filled_of (Filled_on e) = Done
+filled_of (NotFilled c) = Refused c
+
+-- nothing was opened or closed at a level
+abbrev pub SameRoom : DiskStore → DiskStore → Type 0
+SameRoom old new = (new.reserved ≡ old.reserved) × (new.entries ≡ old.entries)
+
+-- nor at any level but this one
+abbrev pub Elsewhere : ℕ → (ℕ → DiskStore) → (ℕ → DiskStore) → Type 0
+Elsewhere l old new = (m : ℕ) → m ≢ l → SameRoom (old m) (new m)
+
+-- an event that opens, fills and closes no entry
+abbrev pub OpensNone : What → Type 0
+OpensNone (Reserved l k n how) = ⊥
+OpensNone (Filled l k b mark how) = ⊥
+OpensNone (Committed l k b how) = ⊥
+OpensNone _ = Unit {0}
+
+-- what an event does to the bytes that are reserved at each level
+abbrev pub ReservesBy : What → (ℕ → ℕ) → (ℕ → ℕ) → Type 0
+ReservesBy (Reserved l k n Done) old new = (new l ≡ old l + n) × ((m : ℕ) → m ≢ l → new m ≡ old m)
+ReservesBy (Filled l k b mark (Refused c)) old new = (new l + length b ≡ old l) × ((m : ℕ) → m ≢ l → new m ≡ old m)
+ReservesBy (Committed l k b how) old new = (new l + length b ≡ old l) × ((m : ℕ) → m ≢ l → new m ≡ old m)
+ReservesBy _ old new = (m : ℕ) → new m ≡ old m
+
+-- the entry that one holds for these bytes, filled with those
+abbrev pub IsHeld : DiskStore → Option AddEntry → Bytes → List ℕ → Type 0
+IsHeld s None b filled = ⊥
+IsHeld s (Some e) b filled = Holds s e b filled
+
+-- one holds it where the last event at it was done, and none where that was refused
+abbrev pub HeldBy : Written → DiskStore → Option AddEntry → Bytes → List ℕ → Type 0
+HeldBy Done s entry b filled = IsHeld s entry b filled
+HeldBy (Refused c) s entry b filled = entry ≡ None
+
+-- An open entry that one holds: its level, its number there, and the bytes that it has declared.
+pub record Hand : Type 0 where
+  pub level : ℕ
+  pub number : ℕ
+  pub size : ℕ
+
+abbrev pub hand_at : Option AddEntry → ℕ → ℕ → Option Hand
+hand_at None l size = None
+hand_at (Some e) l size = Some (record { level = l; number = e.number; size = size })
+
+-- the entry of that level and number is the one that is held
+abbrev pub IsHand : Option Hand → ℕ → ℕ → Type 0
+IsHand None l number = ⊥
+IsHand (Some h) l number = (l ≡ h.level) × (number ≡ h.number)
+
+-- What an event makes of the entry that its owner holds: a new one has a number that was free; d are the levels before it.
+abbrev pub HandsBy : (ℕ → DiskStore) → What → Option Hand → Option Hand → Type 0
+HandsBy d (Reserved l k n Done) old new = (old ≡ None) × ((number : ℕ) × (new ≡ Some (record { level = l; number = number; size = n })) × (entry_at (d l).entries number ≡ None))
+HandsBy d (Filled l k b mark Done) old new = (number : ℕ) × (old ≡ Some (record { level = l; number = number; size = length b })) × (new ≡ Some (record { level = l; number = number; size = length b }))
+HandsBy d (Filled l k b mark (Refused c)) old new = (number : ℕ) × (old ≡ Some (record { level = l; number = number; size = length b })) × (new ≡ None)
+HandsBy d (Committed l k b how) old new = (number : ℕ) × (old ≡ Some (record { level = l; number = number; size = length b })) × (new ≡ None)
+HandsBy d _ old new = (old ≡ None) × (new ≡ None)
+
+-- every open entry but the one that is held is open as it was
+abbrev pub KeepsHands : Option Hand → (ℕ → DiskStore) → (ℕ → DiskStore) → Type 0
+KeepsHands held old new = (l number : ℕ) (o : OpenEntry) → (IsHand held l number → ⊥) → entry_at (old l).entries number ≡ Some o → entry_at (new l).entries number ≡ Some o

@@ -1,0 +1,262 @@
+ghost use Rattle.std.specs.Prelude.{◌≡◌, ◌≢◌, ◌<◌, ◌&&◌, ℕ, Bool, false, not, [], length, IfOk, List, Option};
+ghost use Rattle.sc_model.specs.There.{AreLevels};
+ghost use Rattle.sc_store_disk.specs.DiskStores.{DiskStore, entry_path};
+ghost use Rattle.sc_store_disk.specs.Entries.{ClosesEntry, FillsBy};
+ghost use Rattle.sc_store_disk.specs.Moving.{OpensBy, written_of as reserved_of};
+ghost use Rattle.sc_daemon_hold.specs.Distributing.{GoodDist};
+ghost use Rattle.sc_daemon_hold.specs.Holding.{Elsewhere, Holds, IsGood, OpensNone, ReservesBy, SameRoom, filled_of};
+ghost use Rattle.sc_daemon_hold.specs.Quiet.{IsQuiet};
+ghost use Rattle.sc_entry.specs.Causes.{IfTold};
+ghost use Rattle.sc_daemon_job.specs.Setups.{Config, setup};
+ghost use Rattle.sc_model.specs.Collected.{GoodAnswer};
+ghost use Rattle.sc_model.specs.Follows.{all_read_only, kind_at, mode_of};
+ghost use Rattle.sc_model.specs.Plan.{backfills, handed_by, is_none, plan, put_answer};
+ghost use Rattle.sc_model.specs.Script.{is_single};
+ghost use Rattle.sc_model.specs.World.{Need, keys_of};
+ghost use Rattle.sc_model.specs.declared.event.What.{What};
+ghost use Rattle.sc_model.specs.declared.event.What.TheVariants.{Asked as AskedEvent, Began, Committed, Dist, Filled, Keyed, Outcome, Placed, Ran, Reserved, Wrote};
+ghost use Rattle.sc_model.specs.declared.event.Answer.TheVariants.{Size as SizeIs};
+ghost use Rattle.sc_model.specs.declared.event.Task.{Task};
+ghost use Rattle.sc_model.specs.declared.event.Told.TheVariants.{Dist as TellsDist};
+ghost use Rattle.sc_model.specs.declared.event.Verdict.TheVariants.{Http as HttpError};
+ghost use Rattle.sc_model.specs.declared.event.Mode.TheVariants.{Path, Size as SizeMode, Whole};
+ghost use Rattle.sc_stats.specs.declared.counters.LevelStats.{LevelStats};
+ghost use Rattle.sc_wire.specs.Responses.{payload};
+ghost use Rattle.sc_model.specs.declared.level.LevelKind.TheVariants.{Disk, Remote};
+ghost use Rattle.sc_model.specs.declared.message.Request.TheVariants.{Compile as CompileOf, DistStatus};
+
+use sc_disk::LruDiskCacheAddEntry;
+use sc_entry::{ByteText, CacheMode, FileObjectSource, Items, NoMemory, Queue, Text};
+use sc_model::{
+    Answer, Bytes, Compile, DistAnswer, Handed, KeyStep, LevelKind, Mode, Parsed, Placing, Put,
+    Refusal, RunAnswer, Written,
+};
+use sc_stats::DistInfo;
+use sc_store_disk::{Filling, Reservation};
+use std::alloc::Global;
+
+/// A lookup's answer at one level, and the writes that it hands on.
+#[derive(Drop)]
+pub struct Lookup {
+    pub answer: Answer,
+    pub handed: Items<Handed>,
+}
+
+/// A put's answer, and the writes that it hands on.
+#[derive(Drop)]
+pub struct PutEnd {
+    pub answer: Put,
+    pub handed: Items<Handed>,
+}
+
+/// A key step's answer, and whether the job has a distributed client.
+#[derive(Drop)]
+pub struct Keying {
+    pub client: bool,
+    pub step: KeyStep,
+}
+
+/// What one action of a request works on: a daemon of one's own, or one behind locks.
+pub trait Hold {
+    /// What the daemon is made of. No action changes it.
+    ghost config: { Self → Config };
+
+    /// How the hold may move by an event of a request that needs this of its parts.
+    ghost moves: { Self → Need → What → Self → Type 0 };
+
+    /// Its clock.
+    ghost moment: { Self → ℕ };
+
+    /// A level as a disk store: what is open there.
+    ghost disk: { Self → ℕ → DiskStore };
+
+    fn now(&self) -> u64
+        ensures { result ≡ moment self.now };
+
+    /// The greatest payload of a frame.
+    fn limit(&self) -> u32
+        ensures { result ≡ (config self.now).limit };
+
+    fn level_count(&self) -> u64
+        ensures { result ≡ length (config self.now).levels };
+
+    /// Whether one store stands alone, and is written by itself.
+    fn is_single(&self) -> bool
+        ensures { result ≡ is_single (config self.now).policy };
+
+    /// Where its store is, in words.
+    fn location(&self, alloc: Global) -> Result<Text, NoMemory>
+        ensures { IfOk result (λ text. text ≡ (config self.now).store.location) };
+
+    /// What type its store has, in a word.
+    fn cache_type_name(&self) -> &str
+        ensures { result.now ≡ (config self.now).store.type_name };
+
+    /// The base directories of its store.
+    fn basedirs(&self, alloc: Global) -> Result<Items<ByteText>, NoMemory>
+        ensures { IfOk result (λ basedirs. basedirs ≡ (config self.now).store.basedirs) };
+
+    /// Whether its store is to keep entries of the preprocessor.
+    fn use_preprocessor_cache_mode(&self) -> bool
+        ensures { result ≡ (config self.now).store.flag };
+
+    /// The most bytes that its store may take, where that is known.
+    fn max_size(&self) -> Option<u64>
+        ensures { result ≡ (config self.now).store.max_size };
+
+    /// The mode of its store: read-only where there are levels and each is.
+    fn cache_mode(&self) -> CacheMode
+        ensures { result ≡ mode_of (not (is_none (config self.now).levels) && all_read_only (config self.now).levels) };
+
+    /// What a compile's output is called where a server's refusal of it is told.
+    fn pretty(&self, alloc: Global, request: &Compile) -> Result<ByteText, NoMemory>
+        ensures { IfOk result (λ text. text ≡ (config self.now).pretty request.now) };
+
+    /// The levels that are written before an answer.
+    fn plan(&self, alloc: Global) -> Result<Queue<u64>, NoMemory>
+        ensures { IfOk result (λ levels. levels ≡ plan (config self.now).policy (config self.now).levels) };
+
+    /// What a put comes to.
+    fn put_end(&self, alloc: Global, bytes: &Bytes, refusal: Refusal) -> Result<PutEnd, NoMemory>
+        ensures answer { IfOk result (λ end. end.answer ≡ put_answer (config self.now).policy (config self.now).levels refusal) }
+        ensures handed { IfOk result (λ end. end.handed ≡ handed_by (config self.now).policy (config self.now).levels bytes.now refusal) };
+
+    /// What a compile's words are, by the compiler at its path.
+    fn begin(&self, alloc: Global, request: &Compile) -> Result<Parsed, NoMemory>
+        ensures { IfOk result (λ parsed. IfTold ((config self.now).reads request.now) (λ told. parsed ≡ told)) };
+
+    /// The key step of a compile, its first or a later one. It asks for a distributed client first.
+    fn key(&mut self, alloc: Global, request: &Compile, first: bool) -> Result<Keying, NoMemory>
+        ensures moves { IfOk result (λ keying. (n : Need) → n.keys ≡ keys_of (setup (config self.old)) (CompileOf request.now) → moves self.old n (Keyed first keying.client keying.step) self.new) }
+        ensures same { IfOk result (λ _. config self.new ≡ config self.old) };
+
+    /// Tells where the distributed client stands.
+    fn dist_status(&mut self, alloc: Global) -> Result<DistInfo, NoMemory>
+        ensures moves { IfOk result (λ info. (n : Need) → moves self.old n (Began DistStatus (TellsDist info)) self.new) }
+        ensures same { IfOk result (λ _. config self.new ≡ config self.old) };
+
+    /// Compiles by the distributed client.
+    fn distribute(
+        &mut self,
+        alloc: Global,
+        request: &Compile,
+        key: &Text,
+        outputs: &[FileObjectSource],
+    ) -> Result<DistAnswer, NoMemory>
+        ensures moves { IfOk result (λ answer. (n : Need) → n.key ≡ key.now → n.wanted ≡ outputs.now → moves self.old n (Dist answer) self.new) }
+        ensures good { IfOk result (λ answer. GoodDist answer) }
+        ensures same { IfOk result (λ answer. config self.new ≡ config self.old) };
+
+    /// Has the distributed client made anew at its next use: a server refused a job.
+    fn reset_state(&mut self)
+        ensures moves { (n : Need) (task : Task) → moves self.old n (Outcome HttpError task) self.new }
+        ensures same { config self.new ≡ config self.old };
+
+    /// Asks a level. Paths are asked for by a call of their own.
+    fn ask(&mut self, alloc: Global, level: u64, key: &Text, mode: Mode) -> Result<Lookup, NoMemory>
+        requires level { level < length (config self.old).levels }
+        requires mode { mode ≢ Path }
+        ensures moves { IfOk result (λ lookup. (n : Need) → moves self.old n (AskedEvent level key.now mode lookup.answer lookup.handed) self.new) }
+        ensures handed { IfOk result (λ lookup. lookup.handed ≡ backfills (config self.old).policy (config self.old).levels level key.now mode lookup.answer) }
+        ensures same { IfOk result (λ lookup. config self.new ≡ config self.old) };
+
+    /// The bytes that a level holds and has reserved, where that is known. Whatever was counted at the level may be told
+    /// beside it.
+    fn size(&mut self, alloc: Global, level: u64) -> Result<Option<u64>, NoMemory>
+        requires { level < length (config self.old).levels }
+        ensures moves { IfOk result (λ size. (n : Need) (counters : Option LevelStats) → moves self.old n (AskedEvent level [] SizeMode (SizeIs size counters) []) self.new) }
+        ensures same { IfOk result (λ _. config self.new ≡ config self.old) };
+
+    /// Places a hit's outputs.
+    fn place(
+        &mut self,
+        alloc: Global,
+        key: &Text,
+        outputs: &[FileObjectSource],
+        entry: &ByteText,
+    ) -> Result<Placing, NoMemory>
+        ensures moves { IfOk result (λ placing. (n : Need) → n.key ≡ key.now → n.outputs ≡ outputs.now → n.hit ≡ entry.now → moves self.old n (Placed placing) self.new) }
+        ensures same { IfOk result (λ placing. config self.new ≡ config self.old) };
+
+    /// Runs a compile.
+    fn run(
+        &mut self,
+        alloc: Global,
+        request: &Compile,
+        key: &Text,
+        outputs: &[FileObjectSource],
+    ) -> Result<RunAnswer, NoMemory>
+        ensures moves { IfOk result (λ answer. (n : Need) → n.key ≡ key.now → n.wanted ≡ outputs.now → moves self.old n (Ran answer) self.new) }
+        ensures good { IfOk result (λ answer. GoodAnswer answer) }
+        ensures same { IfOk result (λ answer. config self.new ≡ config self.old) };
+
+    /// Writes an entry at a remote level.
+    fn write(&mut self, alloc: Global, level: u64, bytes: &Bytes) -> Result<Written, NoMemory>
+        requires level { level < length (config self.old).levels }
+        requires remote { kind_at (config self.old).levels level ≡ Remote }
+        ensures moves { IfOk result (λ written. (n : Need) → moves self.old n (Wrote level bytes.now.key bytes.now.bytes Whole bytes.now.run written) self.new) }
+        ensures same { IfOk result (λ written. config self.new ≡ config self.old) };
+
+    /// What kind of store a level is.
+    fn kind(&self, level: u64) -> LevelKind
+        requires { level < length (config self.now).levels }
+        ensures { result ≡ kind_at (config self.now).levels level };
+
+    /// Opens an entry at a disk level, for these bytes under their key.
+    fn reserve(&mut self, level: u64, bytes: &Bytes) -> Result<Reservation, NoMemory>
+        requires level { level < length (config self.old).levels }
+        requires disk { kind_at (config self.old).levels level ≡ Disk }
+        ensures moves { IfOk result (λ how. (n : Need) → moves self.old n (Reserved level bytes.now.key (length bytes.now.bytes) (reserved_of how)) self.new) }
+        ensures opens { IfOk result (λ how. OpensBy (entry_path bytes.now.key) (length bytes.now.bytes) how (disk self.old level) (disk self.new level)) }
+        ensures good { IfOk result (λ how. IsGood how bytes.now.key) }
+        ensures elsewhere { IfOk result (λ _. Elsewhere level (disk self.old) (disk self.new)) }
+        ensures same { IfOk result (λ _. config self.new ≡ config self.old) };
+
+    /// Fills an open entry of a disk level with these bytes. A refusal closes it.
+    fn fill(
+        &mut self,
+        level: u64,
+        entry: LruDiskCacheAddEntry,
+        bytes: &Bytes,
+    ) -> Result<Filling, NoMemory>
+        requires level { level < length (config self.old).levels }
+        requires disk { kind_at (config self.old).levels level ≡ Disk }
+        requires holds { Holds (disk self.old level) entry bytes.now [] }
+        ensures moves { IfOk result (λ how. (n : Need) → moves self.old n (Filled level bytes.now.key bytes.now.bytes bytes.now.run (filled_of how)) self.new) }
+        ensures fills { IfOk result (λ how. FillsBy entry bytes.now.bytes how (disk self.old level) (disk self.new level)) }
+        ensures elsewhere { IfOk result (λ _. Elsewhere level (disk self.old) (disk self.new)) }
+        ensures same { IfOk result (λ _. config self.new ≡ config self.old) };
+
+    /// Puts an open entry of a disk level, which was filled with these bytes, in its key's place. It is closed then, also by a
+    /// refusal.
+    fn commit(
+        &mut self,
+        level: u64,
+        entry: LruDiskCacheAddEntry,
+        bytes: &Bytes,
+    ) -> Result<Written, NoMemory>
+        requires level { level < length (config self.old).levels }
+        requires disk { kind_at (config self.old).levels level ≡ Disk }
+        requires holds { Holds (disk self.old level) entry bytes.now bytes.now.bytes }
+        ensures moves { IfOk result (λ how. (n : Need) → moves self.old n (Committed level bytes.now.key bytes.now.bytes how) self.new) }
+        ensures closes { IfOk result (λ _. ClosesEntry entry.number (disk self.old level) (disk self.new level)) }
+        ensures elsewhere { IfOk result (λ _. Elsewhere level (disk self.old) (disk self.new)) }
+        ensures same { IfOk result (λ _. config self.new ≡ config self.old) };
+
+    /// An event that opens, fills and closes no entry leaves what is open at each level.
+    ghost still: { (a : Self) (n : Need) (what : What) (b : Self) → moves a n what b → OpensNone what → (l : ℕ) → SameRoom (disk a l) (disk b l) };
+
+    /// Whether the levels tell what they hold does not change.
+    ghost tells: { (a : Self) (n : Need) (what : What) (b : Self) → moves a n what b → (l : ℕ) → (disk b l).told ≡ (disk a l).told };
+
+    /// The bytes that are reserved at each level are those of the events.
+    ghost reserves: { (a : Self) (n : Need) (what : What) (b : Self) → moves a n what b → ReservesBy what (λ l. (disk a l).reserved) (λ l. (disk b l).reserved) };
+
+    /// A reply is spelled as it is on the wire.
+    ghost spells: { (hold : Self) → (config hold).payload ≡ payload };
+
+    /// The levels that a write goes to are there.
+    ghost planned: { (hold : Self) → AreLevels (length (config hold).levels) (plan (config hold).policy (config hold).levels) };
+
+    ghost quiet: { (hold : Self) (n : Need) (what : What) → IsQuiet what → moves hold n what hold };
+}

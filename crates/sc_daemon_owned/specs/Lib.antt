@@ -1,0 +1,6 @@
+pub mod Codes
+pub mod Distributing
+pub mod Facts
+pub mod Laws
+pub mod Moving
+pub mod State

@@ -1,5 +1,0 @@
-//! Tests of `sc_direct`.
-#![tactic(auto)]
-
-#[cfg(test)]
-mod tests;

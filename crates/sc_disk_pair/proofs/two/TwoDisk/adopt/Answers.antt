@@ -1,0 +1,48 @@
+use Rattle.std.proofs.Common.{[], ap, map as each, ◌∷◌}
+use Rattle.sc_disk.specs.Disks.{Adopts, AdoptsPart, DiskCause}
+use Rattle.sc_disk.specs.declared.change.Change.TheVariants.{Added}
+use Rattle.sc_disk_pair.specs.declared.part.Part.TheVariants.{Main, Pre}
+use Rattle.sc_disk_pair.proofs.Arms.{before, cause-main, cause-pre, either, given, on_err, on_ok}
+use Rattle.sc_disk_pair.proofs.Weaving.{pair, weaves-main, weaves-pre, adopts-main, adopts-pre, adopts_part-main, adopts_part-pre, weaves_adopted-main, weaves_adopted-pre}
+use Rattle.sc_disk.proofs.Doing.{changes-of}
+use Rattle.sc_disk_pair.proofs.two.TwoDisk.adopt.Goals as goal
+
+pub invariant_of-self : goal.invariant_of-self
+invariant_of-self g c = let s = c.self.inside in let state = g.D.Disk.state in let past = each (λ x. ((state x.0).told, (state x.1).told)) s.history.items in let now = each (λ x. ((state x.0).told, (state x.1).told)) c.and-self-inside.result.items in let is = ap (each (λ x. ((state x.0).told, (state x.1).told))) c.and-self-inside.ensures in let w = c.self.invariant in
+    let m = state s.main in let p = state s.pre in let n = state c.adopt-added.new.self in let at = c.in_ok-part.field-0 in let old = c.args.self.now in
+    either c.adopt-added.result _ _ _ c.adopt-added.ensures.ok c.adopt-added.ensures.err (λ d. weaves-main m n p past now (Added at.path d.0 ∷ []) is w (changes-of m n (Added at.path d.0 ∷ []) d.2)) (λ d. weaves_adopted-main m n p past now c.args.outside.now at.path is w d)
+
+pub returns-in-Main-clause-ok : goal.returns-in-Main-clause-ok
+returns-in-Main-clause-ok g c = let s = c.self.inside in let state = g.D.Disk.state in let past = each (λ x. ((state x.0).told, (state x.1).told)) s.history.items in let now = each (λ x. ((state x.0).told, (state x.1).told)) c.and-self-inside.result.items in let is = ap (each (λ x. ((state x.0).told, (state x.1).told))) c.and-self-inside.ensures in let w = c.self.invariant in
+    let m = state s.main in let p = state s.pre in let n = state c.adopt-added.new.self in let at = c.in_ok-part.field-0 in let old = c.args.self.now in
+    on_ok c.adopt-added.result _ _ (λ d. given (λ q v. Adopts c.args.outside.now q v (pair n p s.refused now)) c.args.path.now at.path at.part Main _ c.place.new.self old c.in_ok-part.ensures.placed c.in-Main.is c.self.view_is c.in_ok-part.ensures.ok (adopts-main m n p s.refused past now c.args.outside.now at.path is w d)) c.adopt-added.ensures.ok
+
+pub returns-in-Main-clause-err : goal.returns-in-Main-clause-err
+returns-in-Main-clause-err g c = let s = c.self.inside in let state = g.D.Disk.state in let past = each (λ x. ((state x.0).told, (state x.1).told)) s.history.items in let now = each (λ x. ((state x.0).told, (state x.1).told)) c.and-self-inside.result.items in let is = ap (each (λ x. ((state x.0).told, (state x.1).told))) c.and-self-inside.ensures in let w = c.self.invariant in
+    let m = state s.main in let p = state s.pre in let n = state c.adopt-added.new.self in let at = c.in_ok-part.field-0 in let old = c.args.self.now in
+    on_err c.adopt-added.result _ _ (λ d. given (λ q v. AdoptsPart c.args.outside.now q v (pair n p s.refused now)) c.args.path.now at.path at.part Main _ c.place.new.self old c.in_ok-part.ensures.placed c.in-Main.is c.self.view_is c.in_ok-part.ensures.ok (adopts_part-main m n p s.refused past now c.args.outside.now at.path is w d)) c.adopt-added.ensures.err
+
+pub returns-in-Main-clause-cause : goal.returns-in-Main-clause-cause
+returns-in-Main-clause-cause g c = let s = c.self.inside in let state = g.D.Disk.state in let past = each (λ x. ((state x.0).told, (state x.1).told)) s.history.items in let now = each (λ x. ((state x.0).told, (state x.1).told)) c.and-self-inside.result.items in let w = c.self.invariant in
+    let m = state s.main in let p = state s.pre in let n = state c.adopt-added.new.self in let at = c.in_ok-part.field-0 in let old = c.args.self.now in
+    before (λ v. DiskCause v (pair n p s.refused now) c.adopt-added.result) _ c.place.new.self old c.self.view_is c.in_ok-part.ensures.ok (cause-main m n p s.refused past now c.adopt-added.result c.adopt-added.ensures.cause)
+
+pub invariant_of-self-in-Pre : goal.invariant_of-self-in-Pre
+invariant_of-self-in-Pre g c = let s = c.self.inside in let state = g.D.Disk.state in let past = each (λ x. ((state x.0).told, (state x.1).told)) s.history.items in let now = each (λ x. ((state x.0).told, (state x.1).told)) c.and-self-inside-in-Pre.result.items in let is = ap (each (λ x. ((state x.0).told, (state x.1).told))) c.and-self-inside-in-Pre.ensures in let w = c.self.invariant in
+    let m = state s.main in let p = state s.pre in let n = state c.adopt-added-in-Pre.new.self in let at = c.in_ok-part.field-0 in let old = c.args.self.now in
+    either c.adopt-added-in-Pre.result _ _ _ c.adopt-added-in-Pre.ensures.ok c.adopt-added-in-Pre.ensures.err (λ d. weaves-pre m p n past now (Added at.path d.0 ∷ []) is w (changes-of p n (Added at.path d.0 ∷ []) d.2)) (λ d. weaves_adopted-pre m p n past now c.args.outside.now at.path is w d)
+
+pub returns-clause-ok : goal.returns-clause-ok
+returns-clause-ok g c = let s = c.self.inside in let state = g.D.Disk.state in let past = each (λ x. ((state x.0).told, (state x.1).told)) s.history.items in let now = each (λ x. ((state x.0).told, (state x.1).told)) c.and-self-inside-in-Pre.result.items in let is = ap (each (λ x. ((state x.0).told, (state x.1).told))) c.and-self-inside-in-Pre.ensures in let w = c.self.invariant in
+    let m = state s.main in let p = state s.pre in let n = state c.adopt-added-in-Pre.new.self in let at = c.in_ok-part.field-0 in let old = c.args.self.now in
+    on_ok c.adopt-added-in-Pre.result _ _ (λ d. given (λ q v. Adopts c.args.outside.now q v (pair m n s.refused now)) c.args.path.now at.path at.part Pre _ c.place.new.self old c.in_ok-part.ensures.placed c.in-Pre.is c.self.view_is c.in_ok-part.ensures.ok (adopts-pre m p n s.refused past now c.args.outside.now at.path is w d)) c.adopt-added-in-Pre.ensures.ok
+
+pub returns-clause-err : goal.returns-clause-err
+returns-clause-err g c = let s = c.self.inside in let state = g.D.Disk.state in let past = each (λ x. ((state x.0).told, (state x.1).told)) s.history.items in let now = each (λ x. ((state x.0).told, (state x.1).told)) c.and-self-inside-in-Pre.result.items in let is = ap (each (λ x. ((state x.0).told, (state x.1).told))) c.and-self-inside-in-Pre.ensures in let w = c.self.invariant in
+    let m = state s.main in let p = state s.pre in let n = state c.adopt-added-in-Pre.new.self in let at = c.in_ok-part.field-0 in let old = c.args.self.now in
+    on_err c.adopt-added-in-Pre.result _ _ (λ d. given (λ q v. AdoptsPart c.args.outside.now q v (pair m n s.refused now)) c.args.path.now at.path at.part Pre _ c.place.new.self old c.in_ok-part.ensures.placed c.in-Pre.is c.self.view_is c.in_ok-part.ensures.ok (adopts_part-pre m p n s.refused past now c.args.outside.now at.path is w d)) c.adopt-added-in-Pre.ensures.err
+
+pub returns-clause-cause : goal.returns-clause-cause
+returns-clause-cause g c = let s = c.self.inside in let state = g.D.Disk.state in let past = each (λ x. ((state x.0).told, (state x.1).told)) s.history.items in let now = each (λ x. ((state x.0).told, (state x.1).told)) c.and-self-inside-in-Pre.result.items in let w = c.self.invariant in
+    let m = state s.main in let p = state s.pre in let n = state c.adopt-added-in-Pre.new.self in let at = c.in_ok-part.field-0 in let old = c.args.self.now in
+    before (λ v. DiskCause v (pair m n s.refused now) c.adopt-added-in-Pre.result) _ c.place.new.self old c.self.view_is c.in_ok-part.ensures.ok (cause-pre m p n s.refused past now c.adopt-added-in-Pre.result c.adopt-added-in-Pre.ensures.cause)

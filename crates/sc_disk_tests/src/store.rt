@@ -1,0 +1,431 @@
+//! A store of files on one disk.
+use crate::disks::{disk_beside, hold, key_of, len_at};
+use sc_disk::{
+    Disk, EntryFile, Error, FileWriter, InsertError, LruDiskCache, LruDiskCacheAddEntry, MemDisk,
+    OpenError, make_key_path, normalize_key,
+};
+use sc_entry::{ByteText, NoMemory, Text};
+use std::alloc::Global;
+use std::collections::BTreeMap;
+use std::process::Abort;
+use std::test::Fail;
+
+type Store = LruDiskCache<MemDisk>;
+
+/// An outside file `out` of four bytes.
+fn outside_of(alloc: Global) -> Result<BTreeMap<ByteText, ByteText>, Fail> {
+    let path = ByteText::from_slice(alloc, b"out")?;
+    let bytes = ByteText::from_slice(alloc, b"wxyz")?;
+    let mut outside = BTreeMap::new(alloc);
+    outside.insert(path, bytes)?;
+    Ok(outside)
+}
+
+/// A disk in memory beside the outside file, which refuses the calls of these numbers.
+fn disk_of(alloc: Global, failing: &[u64]) -> Result<MemDisk, Fail> {
+    disk_beside(alloc, b"/r", outside_of(alloc)?, failing)
+}
+
+fn opened(answer: Result<Store, OpenError<MemDisk>>) -> Result<Store, Fail> {
+    match answer {
+        Ok(store) => Ok(store),
+        Err(refused) => Err(Fail::new(refused.error)),
+    }
+}
+
+/// A store on an empty disk.
+fn store_of(alloc: Global, capacity: u64, failing: &[u64]) -> Result<Store, Fail> {
+    let disk = disk_of(alloc, failing)?;
+    opened(LruDiskCache::new(alloc, disk, capacity, 0))
+}
+
+fn insert(
+    alloc: Global,
+    store: &mut Store,
+    key: &str,
+    bytes: &[u8],
+    now: u64,
+) -> Result<(), Error> {
+    let key = key_of(alloc, key)?;
+    store.insert_bytes(&key, bytes, now)
+}
+
+fn insert_outside(alloc: Global, store: &mut Store, key: &str) -> Result<(), Error> {
+    let key = key_of(alloc, key)?;
+    let outside = ByteText::from_slice(alloc, b"out")?;
+    store.insert_file(&key, &outside, 8)
+}
+
+fn remove(alloc: Global, store: &mut Store, key: &str) -> Result<(), Error> {
+    let key = key_of(alloc, key)?;
+    store.remove(&key)
+}
+
+fn has(alloc: Global, store: &Store, key: &str) -> Result<bool, NoMemory> {
+    let key = key_of(alloc, key)?;
+    Ok(store.contains_key(&key))
+}
+
+fn read(alloc: Global, store: &mut Store, key: &str) -> Result<Vec<u8>, Error> {
+    let key = key_of(alloc, key)?;
+    match store.get(&key, 4) {
+        Ok(file) => Ok(file.into_inner()),
+        Err(refused) => Err(refused),
+    }
+}
+
+/// Whether these bytes are read under a key.
+fn reads(alloc: Global, store: &mut Store, key: &str, expected: &[u8]) -> Result<bool, Error> {
+    let bytes = read(alloc, store, key)?;
+    Ok(bytes.as_slice() == expected)
+}
+
+/// The error of an entry that isn't opened.
+fn refused_to_add(
+    alloc: Global,
+    store: &mut Store,
+    key: &str,
+    size: u64,
+) -> Result<Option<Error>, NoMemory> {
+    let key = key_of(alloc, key)?;
+    Ok(store.prepare_add(&key, size, 3).err())
+}
+
+#[test]
+fn key_paths(rt: HostRuntime) -> Result<(), Fail> {
+    let alloc = rt.alloc();
+    let key = Text::from_str(alloc, "abcdef")?;
+    assert_eq!(rt; make_key_path(alloc, &key)?.as_str(), "a/b/abcdef");
+    assert_eq!(rt; normalize_key(alloc, &key)?.as_str(), "a/b/c/abcdef");
+    Ok(())
+}
+
+/// Stores three files of ten bytes.
+fn three_files(alloc: Global, store: &mut Store) -> Result<(), Error> {
+    for (name, now) in [("file1", 1), ("file2", 2), ("file3", 3)] {
+        insert(alloc, store, name, b"0123456789", now)?;
+    }
+    Ok(())
+}
+
+/// The first of three files goes from the index and from the disk.
+fn keeps_newest(rt: &impl Abort, alloc: Global, store: &mut Store) -> Result<(), Fail> {
+    three_files(alloc, store)?;
+    let indexed = has(alloc, store, "file1")?;
+    let held = len_at(alloc, store.disk(), "file1")?;
+    assert!(rt; !indexed && held.is_none() && store.size() == 20);
+    Ok(())
+}
+
+#[test]
+fn oldest_goes(rt: HostRuntime) -> Result<(), Fail> {
+    let mut store = store_of(rt.alloc(), 25, &[])?;
+    keeps_newest(&rt, rt.alloc(), &mut store)
+}
+
+/// The second of three files is replaced and read, and outlives the third.
+fn replaces(rt: &impl Abort, alloc: Global, store: &mut Store) -> Result<(), Fail> {
+    three_files(alloc, store)?;
+    insert(alloc, store, "file2", b"abcdefghij", 4)?;
+    let size = store.size();
+    let replaced = reads(alloc, store, "file2", b"abcdefghij")?;
+    insert(alloc, store, "file1", b"0123456789", 6)?;
+    let second = has(alloc, store, "file2")?;
+    let third = has(alloc, store, "file3")?;
+    assert!(rt; size == 20 && replaced && second && !third);
+    Ok(())
+}
+
+/// A replaced file is counted once, and a read makes it the newest.
+#[test]
+fn replaced_file(rt: HostRuntime) -> Result<(), Fail> {
+    let mut store = store_of(rt.alloc(), 25, &[])?;
+    replaces(&rt, rt.alloc(), &mut store)
+}
+
+/// Abandons an entry that is open.
+fn let_go(store: &mut Store, entry: LruDiskCacheAddEntry) -> Result<(), Error> {
+    if store.is_open(&entry) {
+        store.abandon(entry)
+    } else {
+        Ok(())
+    }
+}
+
+/// Opens an entry of eight bytes, tries another beside it, and abandons the first.
+fn declares_twice(alloc: Global, store: &mut Store) -> Result<Option<Error>, Error> {
+    let key = key_of(alloc, "a")?;
+    let first = store.prepare_add(&key, 8, 1)?;
+    let refused = refused_to_add(alloc, store, "b", 8);
+    let_go(store, first)?;
+    Ok(refused?)
+}
+
+/// Whether an entry of eight bytes is opened, and takes its room.
+fn takes_room(alloc: Global, store: &mut Store) -> Result<bool, Error> {
+    let key = key_of(alloc, "b")?;
+    let entry = store.prepare_add(&key, 8, 1)?;
+    Ok(store.is_open(&entry) && store.size() == 8)
+}
+
+/// The room of an entry is refused to another until it is abandoned.
+fn reserves(rt: &impl Abort, alloc: Global, store: &mut Store) -> Result<(), Fail> {
+    let refused = declares_twice(alloc, store)?;
+    let size = store.size();
+    let taken = takes_room(alloc, store)?;
+    assert!(rt; refused == Some(Error::Reserved) && size == 0 && taken);
+    Ok(())
+}
+
+/// What an open entry has declared isn't free until it is closed.
+#[test]
+fn reserved_room(rt: HostRuntime) -> Result<(), Fail> {
+    let mut store = store_of(rt.alloc(), 10, &[])?;
+    reserves(&rt, rt.alloc(), &mut store)
+}
+
+/// Stores bytes that nothing was declared for.
+fn commit_undeclared(
+    alloc: Global,
+    store: &mut Store,
+    key: &str,
+    bytes: &[u8],
+) -> Result<(), Error> {
+    let key = key_of(alloc, key)?;
+    let entry = store.prepare_add(&key, 0, 1)?;
+    store.fill(&entry, bytes)?;
+    store.commit(entry, 1)
+}
+
+/// Four bytes are stored, and then eleven are refused.
+fn measures(rt: &impl Abort, alloc: Global, store: &mut Store) -> Result<(), Fail> {
+    commit_undeclared(alloc, store, "a", b"0123")?;
+    let size = store.size();
+    let large = commit_undeclared(alloc, store, "b", b"0123456789A");
+    let left = len_at(alloc, store.disk(), ".sccachetmp0")?;
+    let refused = large == Err(Error::FileTooLarge) && left.is_none();
+    assert!(rt; size == 4 && refused && store.size() == 4);
+    Ok(())
+}
+
+/// A commit measures what was filled, and leaves no temporary of what is too large.
+#[test]
+fn undeclared_bytes(rt: HostRuntime) -> Result<(), Fail> {
+    let mut store = store_of(rt.alloc(), 10, &[])?;
+    measures(&rt, rt.alloc(), &mut store)
+}
+
+/// Texts that are no keys are refused, and so is a size over the capacity; nothing is stored.
+fn refuses_keys(rt: &impl Abort, alloc: Global, store: &mut Store) -> Result<(), Fail> {
+    for bad in ["x/.sccachetmp1", "", "a//b", "../x", "a/.", "/a"] {
+        assert_eq!(rt;
+            refused_to_add(alloc, store, bad, 1)?,
+            Some(Error::BadKey),
+            "{bad}"
+        );
+    }
+    let large = refused_to_add(alloc, store, "c", 11)?;
+    let absent = read(alloc, store, "c").err();
+    assert!(rt; large == Some(Error::FileTooLarge) && absent == Some(Error::FileNotInCache));
+    Ok(())
+}
+
+#[test]
+fn refused_keys(rt: HostRuntime) -> Result<(), Fail> {
+    let mut store = store_of(rt.alloc(), 10, &[])?;
+    refuses_keys(&rt, rt.alloc(), &mut store)
+}
+
+/// Opens an entry, and removes its temporary.
+fn abandons(alloc: Global, store: &mut Store) -> Result<(), Error> {
+    let key = key_of(alloc, "a/b")?;
+    let entry = store.prepare_add(&key, 3, 7)?;
+    store.abandon(entry)
+}
+
+/// Each kind of call of a store that was just opened, by 27 calls of its disk. The 22nd call fills an entry, which stays open
+/// where that is refused, and the last one removes a temporary.
+fn story(alloc: Global, store: &mut Store) -> Result<(), Error> {
+    insert(alloc, store, "a/b", b"012345", 1)?;
+    insert(alloc, store, "c", b"012345", 2)?;
+    insert_outside(alloc, store, "a/b")?;
+    read(alloc, store, "c")?;
+    remove(alloc, store, "c")?;
+    commit_undeclared(alloc, store, "c", b"0123456")?;
+    abandons(alloc, store)
+}
+
+/// The story ends, by all of its calls.
+fn ends_story(rt: &impl Abort, alloc: Global, store: &mut Store) -> Result<(), Fail> {
+    story(alloc, store)?;
+    assert!(rt; store.disk().calls() == 28 && store.size() == 7);
+    Ok(())
+}
+
+#[test]
+fn whole_story(rt: HostRuntime) -> Result<(), Fail> {
+    let mut store = store_of(rt.alloc(), 10, &[])?;
+    ends_story(&rt, rt.alloc(), &mut store)
+}
+
+/// Whether the story is refused once, and the store stays within its capacity.
+fn is_refused_once(alloc: Global, store: &mut Store) -> bool {
+    let answer = story(alloc, store);
+    answer == Err(Error::Io) && store.disk().faults() == 1 && store.size() <= 10
+}
+
+/// The story is refused by the call of this number, and leaves a temporary by two of them alone.
+fn refuses_story(
+    rt: &impl Abort,
+    alloc: Global,
+    store: &mut Store,
+    number: u64,
+) -> Result<(), Fail> {
+    let refused = is_refused_once(alloc, store);
+    let left = len_at(alloc, store.disk(), ".sccachetmp0")?.is_some();
+    let leaves = number == 22 || number == 28;
+    assert!(rt; refused && left == leaves, "{number}");
+    insert_outside(alloc, store, "d")?;
+    Ok(())
+}
+
+/// A store whose disk refuses the call of this number.
+fn refuses_call(rt: &impl Abort, alloc: Global, number: u64) -> Result<(), Fail> {
+    let mut store = store_of(alloc, 10, &[number])?;
+    refuses_story(rt, alloc, &mut store, number)
+}
+
+/// Whether a listing that is refused refuses the opening.
+fn is_refused(alloc: Global) -> Result<bool, Fail> {
+    let disk = disk_of(alloc, &[1])?;
+    Ok(LruDiskCache::new(alloc, disk, 10, 0).is_err())
+}
+
+/// Whichever call of the disk is refused, the story is refused once, the store stays within its capacity, no temporary is
+/// left but one whose removal was refused, and the outside file stays.
+#[test]
+fn each_call_refused(rt: HostRuntime) -> Result<(), Fail> {
+    for number in 2..29 {
+        refuses_call(&rt, rt.alloc(), number)?;
+    }
+    assert!(rt; is_refused(rt.alloc())?);
+    Ok(())
+}
+
+/// Puts three files on a disk, a temporary, and a file over nine bytes.
+fn hold_files(alloc: Global, disk: &mut MemDisk) -> Result<(), NoMemory> {
+    hold(alloc, disk, "old", 1, b"0123")?;
+    hold(alloc, disk, "new", 3, b"0123")?;
+    hold(alloc, disk, "mid", 2, b"0123")?;
+    hold(alloc, disk, "x/.sccachetmp7", 4, b"0")?;
+    hold(alloc, disk, "large", 5, b"0123456789")
+}
+
+fn held_disk(alloc: Global) -> Result<MemDisk, Fail> {
+    let mut disk = disk_of(alloc, &[])?;
+    hold_files(alloc, &mut disk)?;
+    Ok(disk)
+}
+
+/// The two newest files that fit are indexed, and the others are gone.
+fn keeps_held(rt: &impl Abort, alloc: Global, store: &Store) -> Result<(), Fail> {
+    let middle = has(alloc, store, "mid")?;
+    let newest = has(alloc, store, "new")?;
+    assert!(rt; store.len() == 2 && middle && newest);
+    for gone in ["old", "x/.sccachetmp7", "large"] {
+        assert_eq!(rt; len_at(alloc, store.disk(), gone)?, None, "{gone}");
+    }
+    Ok(())
+}
+
+/// An opening keeps the newest files that fit; temporaries and files over the capacity go.
+#[test]
+fn reopened(rt: HostRuntime) -> Result<(), Fail> {
+    let disk = held_disk(rt.alloc())?;
+    let store = opened(LruDiskCache::new(rt.alloc(), disk, 9, 6))?;
+    keeps_held(&rt, rt.alloc(), &store)
+}
+
+/// Writes a text in two pieces, or refuses after the first.
+#[derive(Drop)]
+struct TwoPieces {
+    refuses: bool,
+}
+
+impl FileWriter for TwoPieces {
+    type Refusal = Error;
+
+    ghost wrote = { λ _ _ _. Unit {0} };
+
+    fn write<D: Disk>(self, file: &mut EntryFile<'_, D>) -> Result<(), Error> {
+        file.write_all(b"ab")?;
+        if self.refuses {
+            return Err(Error::BadKey);
+        }
+        file.write_all(b"cd")?;
+        Ok(())
+    }
+}
+
+fn write(alloc: Global, store: &mut Store, refuses: bool) -> Result<(), InsertError<Error>> {
+    match key_of(alloc, "a") {
+        Ok(key) => store.insert_with(&key, TwoPieces { refuses }, 1),
+        Err(_) => Err(InsertError::Store(Error::NoMemory)),
+    }
+}
+
+/// Whether a writer that refuses stores nothing.
+fn refuses_writer(alloc: Global, store: &mut Store) -> bool {
+    let refused = write(alloc, store, true);
+    matches!(refused, Err(InsertError::Writer(Error::BadKey))) && store.size() == 0
+}
+
+/// A writer that refuses stores nothing, and one that doesn't stores both pieces.
+fn writes(rt: &impl Abort, alloc: Global, store: &mut Store) -> Result<(), Fail> {
+    let refused = refuses_writer(alloc, store);
+    let written = write(alloc, store, false).is_ok();
+    let whole = reads(alloc, store, "a", b"abcd")?;
+    assert!(rt; refused && written && whole);
+    Ok(())
+}
+
+/// What a writer writes stands under its key, and nothing does where it refuses.
+#[test]
+fn written_file(rt: HostRuntime) -> Result<(), Fail> {
+    let mut store = store_of(rt.alloc(), 10, &[])?;
+    writes(&rt, rt.alloc(), &mut store)
+}
+
+fn path_of(alloc: Global, store: &mut Store, key: &str) -> Result<Option<Vec<u8>>, Error> {
+    let key = key_of(alloc, key)?;
+    match store.get_abs_path(&key)? {
+        Some(path) => Ok(Some(path.into_vec())),
+        None => Ok(None),
+    }
+}
+
+/// Whether a key's file stands at this path.
+fn stands_at(alloc: Global, store: &mut Store, key: &str, expected: &[u8]) -> Result<bool, Error> {
+    match path_of(alloc, store, key)? {
+        Some(path) => Ok(path.as_slice() == expected),
+        None => Ok(false),
+    }
+}
+
+/// The second of three files is asked for its path, and is kept.
+fn finds_path(rt: &impl Abort, alloc: Global, store: &mut Store) -> Result<(), Fail> {
+    three_files(alloc, store)?;
+    let absent = path_of(alloc, store, "file1")?.is_none();
+    let found = stands_at(alloc, store, "file2", b"/r/file2")?;
+    insert(alloc, store, "file1", b"0123456789", 6)?;
+    let kept = has(alloc, store, "file2")?;
+    assert!(rt; absent && found && kept);
+    Ok(())
+}
+
+/// A key that is asked for its path is the newest.
+#[test]
+fn absolute_path(rt: HostRuntime) -> Result<(), Fail> {
+    let mut store = store_of(rt.alloc(), 25, &[])?;
+    finds_path(&rt, rt.alloc(), &mut store)
+}

@@ -1,5 +1,0 @@
-//! Tests of `sc_generate`.
-#![tactic(auto)]
-
-#[cfg(test)]
-mod tests;

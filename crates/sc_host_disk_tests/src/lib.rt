@@ -1,5 +1,0 @@
-//! Tests of `sc_host_disk`.
-#![tactic(auto)]
-
-#[cfg(test)]
-mod tests;

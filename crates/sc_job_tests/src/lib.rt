@@ -1,7 +1,0 @@
-//! Tests of `sc_compile` and `sc_job`.
-#![tactic(auto)]
-
-#[cfg(test)]
-mod compile;
-#[cfg(test)]
-mod job;

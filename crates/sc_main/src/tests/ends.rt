@@ -1,0 +1,170 @@
+//! The ends of the program: its exit code, what it printed, and the line on standard error.
+use crate::outside::Outside;
+use crate::running::run;
+use sc_entry::{ByteText, Calls, Items, MemSink, MemSource};
+use sc_main_report::exit_code;
+use std::alloc::Global;
+use std::test::Fail;
+
+/// A run, and what it comes to.
+struct Row {
+    words: &'static [&'static [u8]],
+    input: &'static [u8],
+    /// The calls that the input, the output and standard error refuse, counted from 1.
+    refused: [Option<u64>; 3],
+    code: u8,
+    printed: &'static [u8],
+    told: &'static [u8],
+}
+
+/// One compile that misses and is stored.
+const SCRIPT: &[u8] = b"script 1
+conns 1
+level remote rw
+tool /cc 1 gcc
+run key1 0 hi - obj=AB
+ask 0 compile /cc / -- --key key1 --out obj=/o -- a.c
+read 0 1000
+serve 0 10
+";
+
+const REPORT: &[u8] = b"conn 0 open
+started
+finished 0 - hi - auto
+level 0 41 1
+background 0
+tokens 1
+runs 1
+compile_requests 1
+requests_executed 1
+cache_misses 1
+cache_writes 1
+compilations 1
+end
+";
+
+const ROWS: [Row; 6] = [
+    Row {
+        words: &[b"drive"],
+        input: SCRIPT,
+        refused: [None, None, None],
+        code: 0,
+        printed: REPORT,
+        told: b"",
+    },
+    Row {
+        words: &[b"drive", b"x"],
+        input: b"",
+        refused: [None, None, None],
+        code: 120,
+        printed: b"",
+        told: b"usage: sccache drive\n",
+    },
+    Row {
+        words: &[b"drive"],
+        input: b"script 1\nlevel tape rw\nconns 1\n",
+        refused: [None, None, None],
+        code: 121,
+        printed: b"",
+        told: b"bad script at line 2\n",
+    },
+    Row {
+        words: &[b"drive"],
+        input: SCRIPT,
+        refused: [Some(2), None, None],
+        code: 123,
+        printed: b"",
+        told: b"read fault\n",
+    },
+    Row {
+        words: &[b"drive"],
+        input: SCRIPT,
+        refused: [None, Some(1), None],
+        code: 124,
+        printed: b"",
+        told: b"",
+    },
+    Row {
+        words: &[b"drive", b"x"],
+        input: b"",
+        refused: [None, None, Some(1)],
+        code: 124,
+        printed: b"",
+        told: b"",
+    },
+];
+
+#[derive(Drop)]
+struct Memory {
+    alloc: Global,
+}
+
+impl Outside for Memory {
+    fn alloc(&self) -> Global {
+        self.alloc
+    }
+}
+
+#[derive(Drop)]
+struct Streams {
+    input: MemSource,
+    out: MemSink,
+    err: MemSink,
+}
+
+fn words_of(alloc: Global, row: &Row) -> Result<Vec<ByteText>, Fail> {
+    let mut words = Vec::new(alloc);
+    for word in row.words {
+        words.push(ByteText::from_slice(alloc, word)?)?;
+    }
+    Ok(words)
+}
+
+/// The calls of a stream that refuses one of them, or none.
+fn calls(alloc: Global, refused: Option<u64>) -> Result<Calls, Fail> {
+    let mut numbers = Items::new(alloc);
+    if let Some(number) = refused {
+        numbers.push(number)?;
+    }
+    Ok(Calls::failing_at(alloc, numbers)?)
+}
+
+fn streams_of(alloc: Global, row: &Row) -> Result<Streams, Fail> {
+    let input = ByteText::from_slice(alloc, row.input)?;
+    let [reads, writes, lines] = row.refused;
+    let reads = calls(alloc, reads)?;
+    let writes = calls(alloc, writes)?;
+    let lines = calls(alloc, lines)?;
+    Ok(Streams {
+        input: MemSource::new(input, reads),
+        out: MemSink::new(alloc, writes),
+        err: MemSink::new(alloc, lines),
+    })
+}
+
+/// The exit code of a run over lent streams.
+fn code_of(alloc: Global, words: &[ByteText], streams: &mut Streams) -> u8 {
+    let mut outside = Memory { alloc };
+    let ended = run(
+        words,
+        &mut streams.input,
+        &mut streams.out,
+        &mut streams.err,
+        &mut outside,
+    );
+    exit_code(&ended)
+}
+
+#[test]
+fn each_end(rt: HostRuntime) -> Result<(), Fail> {
+    let alloc = rt.alloc();
+    for row in &ROWS {
+        let words = words_of(alloc, row)?;
+        let mut streams = streams_of(alloc, row)?;
+        let code = code_of(alloc, &words, &mut streams);
+        assert_eq!(rt; code, row.code);
+        assert_eq!(rt; streams.out.as_slice(), row.printed, "at {code}");
+        assert_eq!(rt; streams.err.as_slice(), row.told, "at {code}");
+    }
+    Ok(())
+}

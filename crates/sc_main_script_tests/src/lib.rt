@@ -1,0 +1,9 @@
+//! Tests of `sc_main_script` and `sc_main_report`.
+#![tactic(auto)]
+
+#[cfg(test)]
+mod levels;
+#[cfg(test)]
+mod report;
+#[cfg(test)]
+mod script;

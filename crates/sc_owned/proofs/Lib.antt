@@ -1,6 +1,0 @@
-pub mod Distributing
-pub mod Finding
-pub mod Making
-pub mod Opened
-pub mod Passing
-pub mod Steps

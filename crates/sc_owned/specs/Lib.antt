@@ -1,5 +1,0 @@
-pub mod Codes
-pub mod Distributing
-pub mod Laws
-pub mod Moving
-pub mod State

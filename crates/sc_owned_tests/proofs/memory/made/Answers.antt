@@ -1,4 +1,0 @@
-use Rattle.sc_owned_tests.proofs.memory.made.Goals as goal
-
-pub make-requires : goal.make-requires
-make-requires c = record { good = c.read_scripts_are_good.ensures _ _ c.in_ok-script.ensures }

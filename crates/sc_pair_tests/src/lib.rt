@@ -1,5 +1,0 @@
-//! Tests of `sc_pair`.
-#![tactic(auto)]
-
-#[cfg(test)]
-mod pair;

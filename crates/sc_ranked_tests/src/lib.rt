@@ -1,5 +1,0 @@
-//! Tests of `sc_ranked`.
-#![tactic(auto)]
-
-#[cfg(test)]
-mod tests;

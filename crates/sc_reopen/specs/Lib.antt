@@ -1,4 +1,0 @@
-pub mod Moments
-pub mod Openings
-pub mod Reopening
-pub mod Stops

@@ -1,5 +1,0 @@
-//! Tests of `sc_reopen`.
-#![tactic(auto)]
-
-#[cfg(test)]
-mod tests;

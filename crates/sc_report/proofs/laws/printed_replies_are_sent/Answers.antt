@@ -1,5 +1,0 @@
-use Rattle.sc_report.proofs.Replies.{replies_to_is_sent}
-use Rattle.sc_report.proofs.laws.printed_replies_are_sent.Goals as goal
-
-pub returns : goal.returns
-returns c = replies_to_is_sent

@@ -1,8 +1,0 @@
-use Rattle.sc_script.specs.Counters.{lookup_lines}
-use Rattle.sc_script.proofs.Chains.{then_more, then_last}
-use Rattle.sc_script.proofs.counters.put_lookups.Goals as goal
-
-pub returns : goal.returns
-unfolding lookup_lines
-returns c =
-    then_last c.put_counter-5.result c.args.out.now.items c.put_counter-4.new.out.items c.put_counter-5.new.out.items _ _ (then_more c.args.out.now.items c.put_counter-3.new.out.items c.put_counter-4.new.out.items _ _ (then_more c.args.out.now.items c.put_counter-2.new.out.items c.put_counter-3.new.out.items _ _ (then_more c.args.out.now.items c.put_counter.new.out.items c.put_counter-2.new.out.items _ _ (rw c.total.ensures at c.in_ok-put_counter.ensures) (rw c.total-2.ensures at c.in_ok-put_counter-2.ensures)) (rw c.total-3.ensures at c.in_ok-put_counter-3.ensures)) c.in_ok-put_counter-4.ensures) c.put_counter-5.ensures

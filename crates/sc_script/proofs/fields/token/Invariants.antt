@@ -1,9 +1,0 @@
-use Rattle.std.proofs.Common.{◌≡◌, [], length}
-use Rattle.sc_script.specs.Fields.{bytes_onto}
-use Rattle.sc_script.proofs.fields.token.Given as goal
-
-abbrev pub invariant-loop-left : goal.invariant-loop-left
-invariant-loop-left l = bytes_onto l.bytes l.left ≡ bytes_onto [] l.fn.word
-
-abbrev pub decreases-loop-left : goal.decreases-loop-left
-decreases-loop-left l = length l.left

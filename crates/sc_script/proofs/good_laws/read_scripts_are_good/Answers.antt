@@ -1,5 +1,0 @@
-use Rattle.sc_script.proofs.GoodScripts.{good_script}
-use Rattle.sc_script.proofs.good_laws.read_scripts_are_good.Goals as goal
-
-pub returns : goal.returns
-returns c = good_script

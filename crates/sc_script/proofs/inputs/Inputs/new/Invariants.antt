@@ -1,5 +1,0 @@
-use Rattle.std.proofs.Common.{◌≡◌, [], replicate}
-use Rattle.sc_script.proofs.inputs.Inputs.new.Given as goal
-
-abbrev pub invariant-loop : goal.invariant-loop
-invariant-loop l = l.texts.items ≡ replicate l.counter []

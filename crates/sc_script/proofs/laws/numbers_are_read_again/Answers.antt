@@ -1,5 +1,0 @@
-use Rattle.sc_script.proofs.NumberLaws.{number_again}
-use Rattle.sc_script.proofs.laws.numbers_are_read_again.Goals as goal
-
-pub returns : goal.returns
-returns c = number_again

@@ -1,5 +1,0 @@
-use Rattle.sc_script.proofs.TokenLaws.{token_again}
-use Rattle.sc_script.proofs.laws.tokens_are_read_again.Goals as goal
-
-pub returns : goal.returns
-returns c = token_again

@@ -1,9 +1,0 @@
-pub mod Answered
-pub mod Chained
-pub mod Chains
-pub mod DiskPuts
-pub mod Keeping
-pub mod Places
-pub mod Preprocessing
-pub mod Sums
-pub mod Turns

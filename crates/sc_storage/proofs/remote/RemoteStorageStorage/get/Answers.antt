@@ -1,6 +1,0 @@
-use Rattle.sc_model.specs.declared.event.Mode.TheVariants.{Whole}
-use Rattle.sc_storage.proofs.Answered.{lookup_refused}
-use Rattle.sc_storage.proofs.remote.RemoteStorageStorage.get.Goals as goal
-
-pub returns-clause-refused : goal.returns-clause-refused
-returns-clause-refused g c = lookup_refused c.cache_in.result c.args.key.now Whole c.in_ok-answer.answer c.args.self.now c.look_remote.new.store c.in_ok-answer.ensures.looked c.cache_in.ensures.refused

@@ -1,0 +1,5 @@
+pub mod Answered
+pub mod DiskPuts
+pub mod Keeping
+pub mod Preprocessing
+pub mod Spelled

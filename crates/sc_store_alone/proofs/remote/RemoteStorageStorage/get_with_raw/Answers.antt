@@ -1,0 +1,6 @@
+use Rattle.sc_model.specs.declared.event.Mode.TheVariants.{Whole}
+use Rattle.sc_store_alone.proofs.Answered.{lookup_refused}
+use Rattle.sc_store_alone.proofs.remote.RemoteStorageStorage.get_with_raw.Goals as goal
+
+pub returns-clause-refused : goal.returns-clause-refused
+returns-clause-refused g c = lookup_refused c.both_in.result c.args.key.now Whole c.in_ok-answer.answer c.args.self.now c.look_remote.new.store c.in_ok-answer.ensures.looked c.both_in.ensures.refused

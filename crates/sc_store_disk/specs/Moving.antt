@@ -1,0 +1,135 @@
+-- What the calls of a disk store do.
+use Rattle.std.specs.Prelude.{◌≡◌, ◌≢◌, ℕ, ◌+◌, Bool, true, false, List, [], Some, None}
+use Rattle.sc_disk.specs.Store.{AddEntry, IsOpen, Store}
+use Rattle.sc_entry.specs.Causes.{Rose}
+use Rattle.sc_entry.specs.Entries.{objects}
+use Rattle.sc_entry.specs.Keys.{IsStoreKey}
+use Rattle.sc_disk_pair.specs.declared.part.Part.{Part}
+use Rattle.sc_disk_pair.specs.declared.part.Part.TheVariants.{Main, Pre}
+use Rattle.sc_model.specs.World.{Files, Asks, Causes, Evicts, Later, Level, Spells, find_file, room_cause}
+use Rattle.sc_model.specs.declared.event.Answer.{Answer}
+use Rattle.sc_model.specs.declared.event.Answer.TheVariants.{Found, Hit, Miss, Refused, Size as SizeIs}
+use Rattle.sc_model.specs.declared.event.Mode.{Mode}
+use Rattle.sc_model.specs.declared.event.Mode.TheVariants.{Path, Pre as PreMode, Raw, Size as Sizes, Whole}
+use Rattle.sc_model.specs.declared.event.Written.{Written}
+use Rattle.sc_model.specs.declared.event.Written.TheVariants.{Done as WriteDone, Refused as WriteRefused}
+use Rattle.sc_model.specs.declared.level.Cause.TheVariants.{BadEntry, BadKey, Io}
+use Rattle.sc_model.specs.declared.level.LevelKind.TheVariants.{Disk}
+use Rattle.sc_store_disk.specs.DiskStores.{DiskStore, entry_at}
+use Rattle.sc_store_disk.specs.declared.reserving.Reservation.{Reservation}
+use Rattle.sc_store_disk.specs.declared.reserving.Reservation.TheVariants.{Open as IsOpened, Refused as IsRefused}
+
+-- nothing that is held changed
+pub record Steady (old new : DiskStore) : Type 0 where
+  pub facts : new.facts ≡ old.facts
+  pub told : new.told ≡ old.told
+  pub later : Later old.level new.level
+  pub main : new.level.main ≡ old.level.main
+  pub pre : new.level.pre ≡ old.level.pre
+  pub reserved : new.reserved ≡ old.reserved
+  pub entries : new.entries ≡ old.entries
+
+-- the files of a part of a level
+abbrev pub part_files : Part → Level → Files
+part_files Main v = v.main
+part_files Pre v = v.pre
+
+-- what a read at a path of a part of an opened store answers
+abbrev pub ReadsAt : Part → List ℕ → Answer → Bool → Level → Level → Type 0
+ReadsAt part path (Hit bytes mark) told v w = (mark ≡ false) × (told ≡ true → find_file (part_files part w) path ≡ Some bytes)
+ReadsAt part path Miss told v w = find_file (part_files part w) path ≡ None
+ReadsAt part path (Refused Io) told v w = Rose v.faults w.faults
+ReadsAt part path answer told v w = ⊥
+
+-- whether a file stands at a path of the main part of an opened store
+abbrev pub HasFile : List ℕ → Bool → Bool → Level → Type 0
+HasFile path true told w = told ≡ true → (bytes : List ℕ) × (find_file w.main path ≡ Some bytes)
+HasFile path false told w = find_file w.main path ≡ None
+
+-- an opened store, unless the answer is a refusal
+abbrev pub OpensFor : Answer → Bool → Type 0
+OpensFor (Refused c) opened = Unit {0}
+OpensFor answer opened = opened ≡ true
+
+-- the lookups that read what stands under a key
+abbrev pub reads_key : Mode → Bool
+reads_key Whole = true
+reads_key Raw = true
+reads_key mode = false
+
+-- a refusal as a miss
+abbrev pub hit_or_miss : Answer → Answer
+hit_or_miss (Refused c) = Miss
+hit_or_miss answer = answer
+
+-- A lookup at a disk store whose disks tell what they hold.
+abbrev pub AsksDisk : List ℕ → Mode → Answer → DiskStore → DiskStore → Type 0
+AsksDisk key mode answer old new = old.told ≡ true → Asks objects old.facts old.reserved key mode answer old.level new.level
+
+-- Why a lookup was answered so, whether or not the disks tell what they hold. A preprocessor entry has no mark.
+abbrev pub AskCause : Mode → Answer → List ℕ → Level → Level → Type 0
+AskCause Whole (Hit bytes mark) key before now = IsStoreKey key × Spells (objects bytes)
+AskCause Whole Miss key before now = IsStoreKey key
+AskCause Whole (Refused BadKey) key before now = IsStoreKey key → ⊥
+AskCause Whole (Refused BadEntry) key before now = IsStoreKey key
+AskCause Whole (Refused Io) key before now = IsStoreKey key × Rose before.faults now.faults
+AskCause Raw (Hit bytes mark) key before now = IsStoreKey key
+AskCause Raw Miss key before now = IsStoreKey key
+AskCause Raw (Refused BadKey) key before now = IsStoreKey key → ⊥
+AskCause Raw (Refused Io) key before now = IsStoreKey key × Rose before.faults now.faults
+AskCause Path (Found path) key before now = IsStoreKey key
+AskCause Path Miss key before now = Unit {0}
+AskCause PreMode (Hit bytes mark) key before now = IsStoreKey key × (mark ≡ false)
+AskCause PreMode Miss key before now = Unit {0}
+AskCause PreMode (Refused Io) key before now = IsStoreKey key × Rose before.faults now.faults
+AskCause Sizes (SizeIs size counters) key before now = Unit {0}
+AskCause mode answer key before now = ⊥
+
+-- how a reservation ended
+abbrev pub written_of : Reservation → Written
+written_of (IsOpened e) = WriteDone
+written_of (IsRefused c) = WriteRefused c
+
+-- what a call that may evict leaves alone
+pub record Stays (old new : DiskStore) : Type 0 where
+  pub facts : new.facts ≡ old.facts
+  pub told : new.told ≡ old.told
+  pub later : Later old.level new.level
+
+-- a reservation that was not made for want of memory: files went while they, the reservations and the wanted bytes took more
+-- than the capacity
+abbrev pub EvictsFor : ℕ → DiskStore → DiskStore → Type 0
+EvictsFor size old new = old.told ≡ true → (ps : List (Bool × List ℕ)) × Evicts old.facts.capacity (old.reserved + size) ps old.level new.level
+
+-- the same open entries, with the same bytes, and as much is reserved
+pub record SameEntries (old new : DiskStore) : Type 0 where
+  pub reserved : new.reserved ≡ old.reserved
+  pub entries : (number : ℕ) → entry_at new.entries number ≡ entry_at old.entries number
+
+-- An entry was opened, under a number that was free. It is empty, and its size is reserved.
+pub record Opens (path : List ℕ) (size : ℕ) (e : AddEntry) (old new : DiskStore) : Type 0 where
+  pub key : e.key ≡ path
+  pub divided : e.divided ≡ true
+  pub free : entry_at old.entries e.number ≡ None
+  pub opened : entry_at new.entries e.number ≡ Some (record { path = path; size = size; bytes = [] })
+  pub others : (number : ℕ) → number ≢ e.number → entry_at new.entries number ≡ entry_at old.entries number
+  pub reserved : new.reserved ≡ old.reserved + size
+
+abbrev pub OpensBy : List ℕ → ℕ → Reservation → DiskStore → DiskStore → Type 0
+OpensBy path size (IsOpened e) old new = Opens path size e old new
+OpensBy path size (IsRefused c) old new = SameEntries old new
+
+-- the entry that was opened is open in the store
+abbrev pub HasOpened : Reservation → Store → Type 0
+HasOpened (IsOpened e) s = IsOpen s e
+HasOpened (IsRefused c) s = Unit {0}
+
+-- Why an entry was opened or not, whether or not the disks tell what they hold.
+abbrev pub ReserveCause : Causes → Reservation → Level → Level → Type 0
+ReserveCause expected (IsOpened e) before now = expected.all ≡ None
+ReserveCause expected (IsRefused Io) before now = (expected.early ≡ None) × Rose before.faults now.faults
+ReserveCause expected (IsRefused c) before now = expected.all ≡ Some c
+
+-- the causes of a reservation whose mode and key are good
+abbrev pub room_causes : ℕ → ℕ → ℕ → Causes
+room_causes capacity reserved size = record { early = None; all = room_cause Disk capacity reserved size }

@@ -1,5 +1,0 @@
-//! Tests of `sc_workshop`.
-#![tactic(auto)]
-
-#[cfg(test)]
-mod workshop;
