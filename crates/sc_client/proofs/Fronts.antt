@@ -45,3 +45,17 @@ then_some bytes more (Some x) (Some y) (Some z) all told =
 pub on_refusal : {T E : Type 0} (r : Result T E) (P : Type 0) → P → OnErr r P
 on_refusal (Ok x) P p = tt
 on_refusal (Err e) P p = p
+
+-- all of both
+pub then_all : (bytes more : List ℕ) (o p q : Option (List ℕ)) → Told (WritesAll bytes) o p → Told (WritesAll more) p q → Told (WritesAll (bytes ++ more)) o q
+then_all bytes more None None None all told = tt
+then_all bytes more None None (Some z) all told = absurd told
+then_all bytes more None (Some y) q all told = absurd all
+then_all bytes more (Some x) None q all told = absurd all
+then_all bytes more (Some x) (Some y) None all told = absurd told
+then_all bytes more (Some x) (Some y) (Some z) all told = told ∙ ap (λ (bs : List ℕ). bs ++ more) all ∙ append_assoc x bytes more
+
+-- nothing
+pub none_all : (o : Option (List ℕ)) → Told (WritesAll []) o o
+none_all None = tt
+none_all (Some x) = sym (append-nil x)

@@ -1,3 +1,16 @@
 pub mod Escapes
-pub mod Finished
 pub mod Outlets
+pub mod Finished
+pub mod Refusals
+pub mod Conversations
+pub mod Connections
+pub mod Framing
+pub mod Connecting
+pub mod Retrying
+pub mod Asking
+pub mod Which
+pub mod Notes
+pub mod Talking
+pub mod Deciding
+pub mod Local
+pub mod Compiling

@@ -42,11 +42,11 @@ fn end_line(alloc: Global, finished: &CompileFinished) -> Result<Text, NoMemory>
 
 /// What goes to the streams of a client of a compile that finished.
 #[derive(Drop)]
-struct Printed {
-    stdout: ByteText,
-    stderr: ByteText,
+pub(crate) struct Printed {
+    pub(crate) stdout: ByteText,
+    pub(crate) stderr: ByteText,
     /// What stands behind `stdout`.
-    line: Text,
+    pub(crate) line: Text,
 }
 
 fn texts_of(
@@ -69,7 +69,11 @@ fn texts_of(
 }
 
 /// Writes it to two sinks.
-fn print<O: Sink, E: Sink>(printed: &Printed, out: &mut O, err: &mut E) -> Result<(), WriteError>
+pub(crate) fn print<O: Sink, E: Sink>(
+    printed: &Printed,
+    out: &mut O,
+    err: &mut E,
+) -> Result<(), WriteError>
     ensures out { OnOk result (Told (WritesAll (printed.now.stdout ++ printed.now.line)) (O.written out.old) (O.written out.new)) }
     ensures err { OnOk result (Told (WritesAll printed.now.stderr) (E.written err.old) (E.written err.new)) }
     ensures some_out { OnErr result (Told (WritesSome (printed.now.stdout ++ printed.now.line)) (O.written out.old) (O.written out.new)) }
