@@ -71,7 +71,7 @@ pub idle_anew : (d : Kept) → IsIdleDaemon d → IsIdleDaemon (anew d)
 idle_anew d idle = record { free = idle.free; levels = idle.levels; background = idle.background; reserved = idle.reserved }
 
 -- nothing is held before the first step
-tied_first : (d : Kept) (n : ℕ) → IsIdleDaemon d → Tied d (lines_of d.state.config.limit n) []
+pub tied_first : (d : Kept) (n : ℕ) → IsIdleDaemon d → Tied d (lines_of d.state.config.limit n) []
 tied_first d n idle = record {
   at = at_first (config_of d.state.config) (disk_at d.state) n;
   pending = subst (ArePending (config_of d.state.config) (disk_at d.state)) (sym idle.background) tt;

@@ -7,6 +7,7 @@ pub mod Leaving
 pub mod Machines
 pub mod Plain
 pub mod Serving
+pub mod Sessions
 pub mod Staying
 pub mod Stepping
 pub mod Tying

@@ -141,7 +141,7 @@ idle_tied c d d2 lines opens l new t kept stays =
     subst (λ (k : Kept). Tied k (set lines c new) opens) (sym kept)
     (subst (λ (ls : List Line). Tied d ls opens) (sym (ap (λ (n : Line). set lines c n) stays ∙ set-get_or lines c l)) t)
 
-serves_tied : (c : ℕ) (o : Owner) (x : What) (d d2 : Kept) (lines : List Line) (opens : List Open) (l new : Line) → c < length lines → Tied d lines opens → ServesWhat c o x d d2 (get_or lines c l) new
+pub serves_tied : (c : ℕ) (o : Owner) (x : What) (d d2 : Kept) (lines : List Line) (opens : List Open) (l new : Line) → c < length lines → Tied d lines opens → ServesWhat c o x d d2 (get_or lines c l) new
     → Rests (config_of d.state.config) (disk_at d2.state) new.phase new.entry new.waiting → Tied d2 (set lines c new) (reserved_by o x opens)
 serves_tied c (OfRequest e j) x d d2 lines opens l new lt t (same, at) rests =
     subst (λ (o : Owner). Tied d2 (set lines c new) (reserved_by o x opens)) (λ i. OfRequest (sym same i) (sym at.number i)) (served_tied c j x d d2 lines opens l new lt t at rests)
@@ -275,7 +275,7 @@ steps_unread s inputs d lines opens c n e of t most count le is_idle =
     }
 
 -- What an event of a handed write leaves.
-backed_tied : (d d2 : Kept) (lines : List Line) (opens : List Open) (i : ℕ) (w : Write) (e : Event) → Tied d lines opens → write_at i d.background ≡ Some w → BacksAt i w e d d2 → Tied d2 lines (reserved_by (OfWrite w.pending.number) e.what opens)
+pub backed_tied : (d d2 : Kept) (lines : List Line) (opens : List Open) (i : ℕ) (w : Write) (e : Event) → Tied d lines opens → write_at i d.background ≡ Some w → BacksAt i w e d d2 → Tied d2 lines (reserved_by (OfWrite w.pending.number) e.what opens)
 backed_tied d d2 lines opens i w e t at backs =
     let k = config_of d.state.config in
     let z = new_line k.limit in
@@ -349,7 +349,7 @@ pub steps_back : (s : Script) (d d2 : Kept) (lines : List Line) (opens : List Op
 steps_back s d d2 lines opens i e is_setup t told most (inl (past, is_idle, same)) = idle_steps s d d2 lines opens i e is_setup t (subst (λ (k : Kept). AreLevelsWithin k.state) same most) past is_idle same
 steps_back s d d2 lines opens i e is_setup t told most (inr (w, at, backs)) = write_steps s d d2 lines opens i w e is_setup t told most at backs
 
-passed_tied : (d : Kept) (n : ℕ) (lines : List Line) (opens : List Open) → Tied d lines opens → Tied (passed d n) lines opens
+pub passed_tied : (d : Kept) (n : ℕ) (lines : List Line) (opens : List Open) → Tied d lines opens → Tied (passed d n) lines opens
 passed_tied d n lines opens t = record { at = t.at; pending = t.pending; numbers = t.numbers; owns = t.owns; reserved = t.reserved; lines = t.lines; writes = t.writes }
 
 pub steps_pass : (s : Script) (d d2 : Kept) (lines : List Line) (opens : List Open) (n : ℕ) (e : Event) → s.setup ≡ setup (config_of d.state.config) → Tied d lines opens → AreLevelsWithin d2.state → d2 ≡ passed d n

@@ -3,6 +3,7 @@ ghost use Rattle.std.specs.Prelude.{◌≡◌, ◌+◌, ◌<◌, ◌≤◌, ◌^
 ghost use Rattle.sc_daemon_action.specs.Hands.{ServesWith};
 ghost use Rattle.sc_wire_conn.specs.Ends.{end_of};
 ghost use Rattle.sc_daemon.specs.Lines.{IsDone, conn_of, new_line};
+ghost use Rattle.sc_daemon.specs.Sessions.{Feeds};
 ghost use Rattle.sc_daemon.specs.Standings.{Rests, standing_of};
 ghost use Rattle.sc_daemon.specs.Turns.{ActsFirst_or_none, CountsFirst, CountsLine, IsIdleLine, MovesFirst, MovesHold, Reads, SaysFirst, SaysLine, ServesLine, TakesMore};
 ghost use Rattle.sc_daemon.specs.declared.standing.Standing.TheVariants.{Ended, Takes};
@@ -101,6 +102,11 @@ fn if_counted(counted: Result<(), NoMemory>, acted: Action) -> Result<Option<Act
     }
 }
 
+/// Drops a connection in a call of its own: dropped where it is used it takes the check minutes.
+pub(crate) fn discard_conn(conn: Conn) {
+    drop(conn);
+}
+
 impl Conn {
     /// Nothing came yet.
     pub fn new(alloc: Global, limit: u32) -> Conn
@@ -155,7 +161,7 @@ impl Conn {
     }
 
     /// Whether nothing more is read.
-    fn is_done(&self) -> bool
+    pub(crate) fn is_done(&self) -> bool
         ensures yes { result ≡ true → IsDone self.now }
         ensures no { result ≡ false → IsDone self.now → ⊥ }
     {
@@ -172,6 +178,26 @@ impl Conn {
             self.waiting = Waiting::new(alloc);
         }
         took
+    }
+
+    /// Takes a piece of the stream, where more is read.
+    pub(crate) fn feed(&mut self, alloc: Global, piece: &[u8]) -> Result<(), NoMemory>
+        ensures { OnOk result (Feeds piece.now self.old self.new) }
+    {
+        if self.is_done() {
+            return Ok(());
+        }
+        if self.inbox.got().checked_add(piece.len() as u64).is_none() {
+            return Err(NoMemory);
+        }
+        self.take_piece(alloc, piece)
+    }
+
+    /// No more bytes come.
+    pub(crate) fn shut(&mut self)
+        ensures { self.new ≡ record self.old { closed = true } }
+    {
+        self.inbox.shut();
     }
 
     /// Reads at most so many bytes of the input.

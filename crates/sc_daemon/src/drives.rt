@@ -8,7 +8,7 @@ ghost use Rattle.sc_model.specs.Trace.{reservations, reserved_at};
 ghost use Rattle.sc_daemon_owned.specs.State.{reserved_in};
 
 use crate::backlog::Backlog;
-use crate::conn::Conn;
+use crate::conn::{Conn, discard_conn};
 use crate::daemon::Daemon;
 use crate::driven::{Driven, DrivenConn};
 use crate::driver::Driver;
@@ -16,11 +16,6 @@ use sc_daemon_owned::Parts;
 use sc_entry::{ByteText, Items, NoMemory};
 use sc_model::{Event, Handed, Step, every_run};
 use std::alloc::Global;
-
-/// Drops a connection in a call of its own: dropped where it is used it takes the check minutes.
-fn discard_conn(conn: Conn) {
-    drop(conn);
-}
 
 /// What a connection came to.
 fn driven_conn(alloc: Global, conn: Conn) -> DrivenConn

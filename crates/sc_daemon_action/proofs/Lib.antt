@@ -5,3 +5,4 @@ pub mod Putting
 pub mod Requests
 pub mod Saying
 pub mod Sizes
+pub mod Statistics

@@ -5,7 +5,7 @@ use Rattle.sc_wire.specs.Requests.{IsServed}
 use Rattle.sc_daemon_hold.specs.Quiet.{IsQuietVerdict}
 use Rattle.sc_daemon_job.specs.Setups.{Config}
 use Rattle.sc_model.specs.declared.message.Request.{Request}
-use Rattle.sc_model.specs.declared.message.Request.TheVariants.{Compile, GetStats, StorageGetRaw, StoragePutRaw}
+use Rattle.sc_model.specs.declared.message.Request.TheVariants.{Compile, GetStats, Shutdown, StorageGetRaw, StoragePutRaw}
 use Rattle.sc_model.specs.declared.phase.Ending.{Ending}
 use Rattle.sc_model.specs.declared.phase.Phase.{Phase}
 use Rattle.sc_model.specs.declared.phase.Phase.TheVariants.{AtAsk, AtBegin, AtDist, AtEnd, AtEnded, AtFinish, AtKey, AtOver, AtPlace, AtRun, AtSend, AtStarted, AtStore, AtTake, AtWrite, RawAsk, SizeAsk}
@@ -14,9 +14,11 @@ abbrev pub IsCompile : Request → Type 0
 IsCompile (Compile c) = Unit {0}
 IsCompile _ = ⊥
 
-abbrev pub IsGetStats : Request → Type 0
-IsGetStats GetStats = Unit {0}
-IsGetStats _ = ⊥
+-- a request whose reply tells statistics
+abbrev pub TellsStatistics : Request → Type 0
+TellsStatistics GetStats = Unit {0}
+TellsStatistics Shutdown = Unit {0}
+TellsStatistics _ = ⊥
 
 abbrev pub IsGetRaw : Request → Type 0
 IsGetRaw (StorageGetRaw k) = Unit {0}
@@ -44,7 +46,7 @@ Serves k (AtStore v task b ending) r = IsCompile r × IsQuietVerdict v
 Serves k (AtWrite b ls f ending) r = AreLevels (length k.levels) ls × IsWriter r ending
 Serves k (AtFinish ns last) r = IsCompile r
 Serves k (RawAsk l key) r = IsGetRaw r × (l < length k.levels)
-Serves k (SizeAsk l stats zs) r = IsGetStats r × (l < length k.levels)
+Serves k (SizeAsk l stats zs) r = TellsStatistics r × (l < length k.levels)
 Serves k _ r = ⊥
 
 -- What a connection may stand at: also where a reply was too long.

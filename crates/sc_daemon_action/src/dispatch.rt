@@ -3,7 +3,7 @@ ghost use Rattle.std.specs.Prelude.{◌≡◌, false, List, IfOk};
 ghost use Rattle.sc_daemon_action.specs.Acts.{Acts};
 ghost use Rattle.sc_daemon_action.specs.Hands.{ActsWith, ServesWith, hand_of, writes};
 ghost use Rattle.sc_daemon_action.specs.Sends.{Adds};
-ghost use Rattle.sc_daemon_action.specs.Serves.{Serves};
+ghost use Rattle.sc_daemon_action.specs.Serves.{Serves, TellsStatistics};
 ghost use Rattle.sc_daemon_action.specs.Telling.{ActsFor, SaysCounted};
 ghost use Rattle.sc_daemon_hold.specs.Holding.{HandsBy, KeepsHands};
 ghost use Rattle.sc_daemon_job.specs.Setups.{setup};
@@ -114,26 +114,28 @@ fn act_put_raw<H: Hold>(
     }
 }
 
-/// Does the action that is due of a request for statistics.
-fn act_get_stats<H: Hold>(
+/// Does the action that is due of a request whose reply tells statistics.
+fn act_stats<H: Hold>(
     alloc: Global,
     hold: &mut H,
+    request: &Request,
     stats: &ServerStats,
     levels: &[LevelStats],
     phase: Phase,
     out: &mut Vec<u8>,
 ) -> Result<Acted, NoMemory>
-    requires { Serves (H.config hold.old) phase requests.GetStats }
-    ensures acts { IfOk result (λ a. ActsFor (H.config hold.old) requests.GetStats phase (H.moment hold.old) a) }
+    requires tells { TellsStatistics request.now }
+    requires serves { Serves (H.config hold.old) phase request.now }
+    ensures acts { IfOk result (λ a. ActsFor (H.config hold.old) request.now phase (H.moment hold.old) a) }
     ensures says { IfOk result (λ a. SaysCounted (H.config hold.old).policy stats.now levels.now a.what) }
-    ensures moves { IfOk result (λ a. H.moves hold.old (need_at (setup (H.config hold.old)) requests.GetStats phase) a.what hold.new) }
+    ensures moves { IfOk result (λ a. H.moves hold.old (need_at (setup (H.config hold.old)) request.now phase) a.what hold.new) }
     ensures same { IfOk result (λ a. H.config hold.new ≡ H.config hold.old) }
     ensures sent { IfOk result (λ a. Adds (H.config hold.old) (sent_by a.what) out.old.items out.new.items) }
 {
     match phase {
-        Phase::AtBegin => act_begin_stats(alloc, hold, stats),
+        Phase::AtBegin => act_begin_stats(alloc, hold, request, stats),
         Phase::SizeAsk(level, told, sizes) => {
-            act_size_ask(alloc, hold, levels, level, told, sizes)
+            act_size_ask(alloc, hold, request, levels, level, told, sizes)
         }
         Phase::AtSend(reply) => act_send(alloc, hold, reply, out),
         _ => unreachable!(),
@@ -247,7 +249,8 @@ fn act_plain<H: Hold>(
         Request::Compile(compile) => act_compile(alloc, hold, compile, phase, out),
         Request::StorageGetRaw(key) => act_get_raw(alloc, hold, key, phase, out),
         Request::StoragePutRaw(key, put) => act_put_raw(alloc, hold, key, put, phase, out),
-        Request::GetStats => act_get_stats(alloc, hold, stats, levels, phase, out),
+        Request::GetStats => act_stats(alloc, hold, request, stats, levels, phase, out),
+        Request::Shutdown => act_stats(alloc, hold, request, stats, levels, phase, out),
         Request::ZeroStats => act_zero_stats(alloc, hold, phase, out),
         Request::RecordStats(delta) => act_record_stats(alloc, hold, delta, phase, out),
         Request::StorageHandshake => act_storage_handshake(alloc, hold, phase, out),

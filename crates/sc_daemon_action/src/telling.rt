@@ -1,7 +1,7 @@
 //! The actions of requests for what a daemon has counted, and for what its store and its distributed client tell of themselves.
 ghost use Rattle.std.specs.Prelude.{◌≡◌, ◌+◌, ◌<◌, ◌++◌, [], List, length, map, IfOk};
 ghost use Rattle.std.specs.Str.Lossy.{utf8_lossy};
-ghost use Rattle.sc_daemon_action.specs.Serves.{Stands};
+ghost use Rattle.sc_daemon_action.specs.Serves.{Stands, TellsStatistics};
 ghost use Rattle.sc_daemon_action.specs.Sizes.{counters_of, with_size};
 ghost use Rattle.sc_daemon_action.specs.Telling.{ActsFor, SaysCounted};
 ghost use Rattle.sc_daemon_job.specs.Setups.{Config, setup};
@@ -11,7 +11,6 @@ ghost use Rattle.sc_model.specs.Script.{is_single};
 ghost use Rattle.sc_model.specs.Trace.{sent_by};
 ghost use Rattle.sc_model.specs.declared.level.Policy.{Policy as PolicyType};
 ghost use Rattle.sc_model.specs.declared.message.Request.TheVariants as requests;
-ghost use Rattle.sc_model.specs.declared.message.Response.TheVariants.{Stats as StatsReply};
 ghost use Rattle.sc_stats.specs.declared.counters.LevelStats.{LevelStats as Counters};
 ghost use Rattle.sc_stats.specs.declared.counters.ServerStats.{ServerStats as Stats};
 
@@ -225,40 +224,68 @@ fn server_info<H: Hold>(
     })
 }
 
+/// The same request, which tells statistics and so has no fields.
+fn same_request(request: &Request) -> Request
+    requires { TellsStatistics request.now }
+    ensures { result ≡ request.now }
+{
+    match request {
+        Request::GetStats => Request::GetStats,
+        Request::Shutdown => Request::Shutdown,
+        _ => unreachable!(),
+    }
+}
+
+/// The last reply of a request for statistics.
+fn stats_reply(request: &Request, info: ServerInfo) -> Response
+    ensures { result ≡ follows.stats_reply request.now info }
+{
+    match request {
+        Request::GetStats => Response::Stats(info),
+        _ => Response::ShuttingDown(info),
+    }
+}
+
 /// Where a request for statistics goes on: to its next level's size, or to its reply after the last.
+#[tactic(auto, using(crate::proofs::Statistics::tells_served))]
 fn next_size<H: Hold>(
     alloc: Global,
     hold: &H,
+    request: &Request,
     level: u64,
     stats: ServerStats,
     sizes: Items<Sized>,
 ) -> Result<Phase, NoMemory>
-    ensures phase { IfOk result (λ p. p ≡ phase_next (setup (H.config hold.now)) level (Phase.SizeAsk level stats sizes) (Phase.AtSend (StatsReply (follows.server_info (setup (H.config hold.now)) stats sizes)))) }
-    ensures stands { IfOk result (λ p. Stands (H.config hold.now) p requests.GetStats) }
+    requires { TellsStatistics request.now }
+    ensures phase { IfOk result (λ p. p ≡ phase_next (setup (H.config hold.now)) level (Phase.SizeAsk level stats sizes) (Phase.AtSend (follows.stats_reply request.now (follows.server_info (setup (H.config hold.now)) stats sizes)))) }
+    ensures stands { IfOk result (λ p. Stands (H.config hold.now) p request.now) }
 {
     if level < hold.level_count() {
         return Ok(Phase::SizeAsk(level, stats, sizes));
     }
     let info = server_info(alloc, hold, stats, sizes)?;
-    Ok(Phase::AtSend(Response::Stats(info)))
+    Ok(Phase::AtSend(stats_reply(request, info)))
 }
 
 /// Begins a request for statistics: they are told as they are now.
+#[tactic(auto, using(crate::proofs::Statistics::tells_begins, crate::proofs::Statistics::tells_phase))]
 pub fn act_begin_stats<H: Hold>(
     alloc: Global,
     hold: &mut H,
+    request: &Request,
     stats: &ServerStats,
 ) -> Result<Acted, NoMemory>
-    ensures acts { IfOk result (λ a. ActsFor (H.config hold.old) requests.GetStats Phase.AtBegin (H.moment hold.old) a) }
+    requires { TellsStatistics request.now }
+    ensures acts { IfOk result (λ a. ActsFor (H.config hold.old) request.now Phase.AtBegin (H.moment hold.old) a) }
     ensures says { IfOk result (λ a. (p : PolicyType) (levels : List Counters) → SaysCounted p stats.now levels a.what) }
-    ensures moves { IfOk result (λ a. H.moves hold.old (need_at (setup (H.config hold.old)) requests.GetStats Phase.AtBegin) a.what hold.new) }
+    ensures moves { IfOk result (λ a. H.moves hold.old (need_at (setup (H.config hold.old)) request.now Phase.AtBegin) a.what hold.new) }
     ensures same { IfOk result (λ a. H.config hold.new ≡ H.config hold.old) }
     ensures unsent { IfOk result (λ a. sent_by a.what ≡ []) }
 {
     let told = stats.clone()?;
-    let phase = next_size(alloc, hold, 0, stats.clone()?, Items::new(alloc))?;
+    let phase = next_size(alloc, hold, request, 0, stats.clone()?, Items::new(alloc))?;
     Ok(Acted {
-        what: What::Began(Request::GetStats, Told::Stats(told)),
+        what: What::Began(same_request(request), Told::Stats(told)),
         phase,
     })
 }
@@ -285,15 +312,17 @@ fn counters_at(
 pub fn act_size_ask<H: Hold>(
     alloc: Global,
     hold: &mut H,
+    request: &Request,
     levels: &[LevelStats],
     level: u64,
     stats: ServerStats,
     sizes: Items<Sized>,
 ) -> Result<Acted, NoMemory>
+    requires tells { TellsStatistics request.now }
     requires level { level < length (H.config hold.old).levels }
-    ensures acts { IfOk result (λ a. ActsFor (H.config hold.old) requests.GetStats (Phase.SizeAsk level stats sizes) (H.moment hold.old) a) }
+    ensures acts { IfOk result (λ a. ActsFor (H.config hold.old) request.now (Phase.SizeAsk level stats sizes) (H.moment hold.old) a) }
     ensures says { IfOk result (λ a. (counted : Stats) → SaysCounted (H.config hold.old).policy counted levels.now a.what) }
-    ensures moves { IfOk result (λ a. H.moves hold.old (need_at (setup (H.config hold.old)) requests.GetStats (Phase.SizeAsk level stats sizes)) a.what hold.new) }
+    ensures moves { IfOk result (λ a. H.moves hold.old (need_at (setup (H.config hold.old)) request.now (Phase.SizeAsk level stats sizes)) a.what hold.new) }
     ensures same { IfOk result (λ a. H.config hold.new ≡ H.config hold.old) }
     ensures unsent { IfOk result (λ a. sent_by a.what ≡ []) }
 {
@@ -304,7 +333,7 @@ pub fn act_size_ask<H: Hold>(
     let size = hold.size(alloc, level)?;
     let mut sizes = sizes;
     sizes.push(Sized { size, counters })?;
-    let phase = next_size(alloc, hold, level + 1, stats, sizes)?;
+    let phase = next_size(alloc, hold, request, level + 1, stats, sizes)?;
     let answer = Answer::Size(size, told);
     Ok(Acted {
         what: What::Asked(

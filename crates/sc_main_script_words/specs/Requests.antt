@@ -1,7 +1,7 @@
 -- The requests that a line may ask.
 use Rattle.std.specs.Prelude.{ℕ, List, [], ◌∷◌, ◌++◌, Option, Some, None, if◌then◌else◌, codes, bytes_eq}
 use Rattle.sc_model.specs.declared.message.Request.{Request}
-use Rattle.sc_model.specs.declared.message.Request.TheVariants.{Compile, DistStatus, GetStats, StorageGetRaw, StorageHandshake, StoragePutRaw, ZeroStats}
+use Rattle.sc_model.specs.declared.message.Request.TheVariants.{Compile, DistStatus, GetStats, Shutdown, StorageGetRaw, StorageHandshake, StoragePutRaw, ZeroStats}
 use Rattle.sc_model.specs.declared.message.Variable.{Variable}
 use Rattle.sc_words.specs.Words.{Reader}
 use Rattle.sc_words.specs.Words.{◌>>=◌ as ◌then◌}
@@ -56,18 +56,20 @@ request_kind w =
     else if bytes_eq w (codes "handshake") then Some kind.Handshake
     else if bytes_eq w (codes "dist-status") then Some kind.DistStatus
     else if bytes_eq w (codes "record") then Some kind.Record
+    else if bytes_eq w (codes "shutdown") then Some kind.Shutdown
     else None
 
 unfoldable pub request_body : RequestKind → Reader Request
 request_body kind.Compile = compile_request
 request_body kind.GetRaw = get_raw_request
 request_body kind.PutRaw = put_raw_request
--- zero-stats, get-stats, handshake and dist-status have no further word
+-- zero-stats, get-stats, handshake, dist-status and shutdown have no further word
 request_body kind.ZeroStats = gives ZeroStats
 request_body kind.GetStats = gives GetStats
 request_body kind.Handshake = gives StorageHandshake
 request_body kind.DistStatus = gives DistStatus
 request_body kind.Record = record_request
+request_body kind.Shutdown = gives Shutdown
 
 unfoldable pub request_words : Reader Request
 request_words = do

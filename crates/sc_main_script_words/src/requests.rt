@@ -21,6 +21,7 @@ pub enum RequestKind {
     Handshake,
     DistStatus,
     Record,
+    Shutdown,
 }
 
 fn tokens(alloc: Global, words: &mut LineWords<'_>) -> Result<Items<ByteText>, WordsError>
@@ -107,6 +108,9 @@ fn request_kind(word: &[u8]) -> Result<RequestKind, WordsError>
     if word == b"record".as_slice() {
         return Ok(RequestKind::Record);
     }
+    if word == b"shutdown".as_slice() {
+        return Ok(RequestKind::Shutdown);
+    }
     Err(WordsError::Malformed)
 }
 
@@ -127,6 +131,7 @@ fn request_body(
         RequestKind::Handshake => Ok(Request::StorageHandshake),
         RequestKind::DistStatus => Ok(Request::DistStatus),
         RequestKind::Record => record_request(alloc, words),
+        RequestKind::Shutdown => Ok(Request::Shutdown),
     }
 }
 

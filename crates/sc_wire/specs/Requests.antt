@@ -95,8 +95,8 @@ spell_request message = request.spell message
 unfoldable pub read_request : List ℕ → Option Request
 read_request bytes = read_all request bytes
 
--- the requests that a daemon serves so far: compiles, those for its counters and its store's handshake, and bytes as a
--- store holds them
+-- the requests that a daemon serves so far: compiles, those for its counters and its store's handshake, bytes as a
+-- store holds them, and the one to shut down
 abbrev pub served_of : Option Request → Option Request
 served_of (Some ZeroStats) = Some ZeroStats
 served_of (Some GetStats) = Some GetStats
@@ -106,6 +106,7 @@ served_of (Some (StorageGetRaw key)) = Some (StorageGetRaw key)
 served_of (Some (StoragePutRaw key bytes)) = Some (StoragePutRaw key bytes)
 served_of (Some (RecordStats delta)) = Some (RecordStats delta)
 served_of (Some DistStatus) = Some DistStatus
+served_of (Some Shutdown) = Some Shutdown
 served_of _ = None
 
 abbrev pub IsServed : Request → Type 0
@@ -117,6 +118,7 @@ IsServed (StorageGetRaw key) = Unit {0}
 IsServed (StoragePutRaw key bytes) = Unit {0}
 IsServed (RecordStats delta) = Unit {0}
 IsServed DistStatus = Unit {0}
+IsServed Shutdown = Unit {0}
 IsServed _ = ⊥
 
 -- requests that are all served

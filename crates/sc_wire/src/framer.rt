@@ -68,8 +68,8 @@ fn front_message<M: Wire + Drop>(
     }
 }
 
-/// The request, where it is served: so far a compile, one for counters, the handshake or the distributed client's status, or one
-/// for bytes as a store holds them.
+/// The request, where it is served: so far a compile, one for counters, the handshake or the distributed client's status, one for
+/// bytes as a store holds them, or one to shut down.
 fn only_served(request: Request) -> Option<Request>
     ensures request { result ≡ served_of (Some request) }
     ensures served { IfSome result IsServed }
@@ -83,7 +83,7 @@ fn only_served(request: Request) -> Option<Request>
         Request::StoragePutRaw(_, _) => Some(request),
         Request::RecordStats(_) => Some(request),
         Request::DistStatus => Some(request),
-        Request::Shutdown => None,
+        Request::Shutdown => Some(request),
         Request::StorageGetPath(_) => None,
         Request::StorageGetPreprocessorEntry(_) => None,
         Request::StoragePutPreprocessorEntry(_, _) => None,
