@@ -2,4 +2,12 @@
 #![tactic(auto)]
 
 #[cfg(test)]
+mod compiles;
+#[cfg(test)]
+mod connections;
+#[cfg(test)]
+mod finding;
+#[cfg(test)]
+mod links;
+#[cfg(test)]
 mod tests;
