@@ -1,1 +1,9 @@
+pub mod Acting
+pub mod Ending
+pub mod Going
+pub mod Reading
 pub mod Reporting
+pub mod Settling
+pub mod Starting
+pub mod Tokens
+pub mod Turning

@@ -1,16 +1,31 @@
--- How the program ends, by its words.
-use Rattle.std.specs.Prelude.{◌≡◌, ◌⊎◌, ℕ, List, Option, Some, None, Result, Ok, Err, pos}
-use Rattle.sc_entry.specs.Causes.{Told}
+-- What the program does by its words, and how it ends.
+use Rattle.std.specs.Prelude.{◌≡◌, ◌≤◌, ◌⊎◌, ℕ, ℤ, List, Option, Some, None, Result, Ok, Err, pos}
+use Rattle.sc_client.specs.Asking.{Asked, AsksStatistics, dist_status_of, read_as, shutting_down_of, zeroed_of}
+use Rattle.sc_client.specs.Local.{local_words}
+use Rattle.sc_client.specs.declared.client_error.ClientError.{ClientError}
+use Rattle.sc_entry.specs.Causes.{Rose, Told}
 use Rattle.sc_entry.specs.Streams.{WritesAll}
-use Rattle.sc_main_report.specs.Ending.{error_line}
-use Rattle.sc_main_report.specs.Words.{help_lines, version_line}
-use Rattle.sc_main_report.specs.declared.ended.Ended.{Ended}
-use Rattle.sc_main_report.specs.declared.ended.Ended.TheVariants.{BadScript, NoMemory, ReadFault, Status, Usage, WriteFault}
+use Rattle.sc_main.specs.Platform.{Platform, Stage, connects, read, read_rose, told, tell_rose, wrote, write_rose}
 use Rattle.sc_main.specs.Scripted.{Reports}
+use Rattle.sc_main.specs.ServeCommand.{ServesDir}
+use Rattle.sc_main_client.specs.Asking.{AfterFirst, AsksAndShows, Over}
+use Rattle.sc_main_client.specs.Compiling.{CompileEnds, CompilesBy, CompilesOver, DoesCompile, MakesParts}
+use Rattle.sc_main_client.specs.Connecting.{Connects}
+use Rattle.sc_main_client.specs.Ending.{TextEnds}
+use Rattle.sc_main_client.specs.Printed.{dist_text, last_text, stats_text, stopping_line, zeroed_line}
+use Rattle.sc_main_report.specs.Ending.{error_line}
+use Rattle.sc_main_report.specs.Words.{version_line}
+use Rattle.sc_main_report.specs.declared.ended.Ended.{Ended}
+use Rattle.sc_main_report.specs.declared.ended.Ended.TheVariants.{BadScript, LinkFault, NoMemory, ReadFault, Status, Unexpected, Usage, WriteFault}
 use Rattle.sc_main_script.specs.Scripts.{first_bad, script_of}
 use Rattle.sc_main_script.specs.declared.script.Script.{Script}
-use Rattle.sc_main_script.specs.declared.words.Command.{Command}
-use Rattle.sc_main_script.specs.declared.words.Command.TheVariants.{Drive, Help, Version}
+use Rattle.sc_main_words.specs.Texts.{help_lines}
+use Rattle.sc_main_words.specs.declared.command.Command.{Command}
+use Rattle.sc_main_words.specs.declared.command.Command.TheVariants as commands
+use Rattle.sc_main_words.specs.declared.refusal.WordsRefusal.{WordsRefusal}
+use Rattle.sc_main_words.specs.declared.refusal.WordsRefusal.TheVariants as words
+use Rattle.sc_model.specs.declared.message.Request.TheVariants as requests
+use Rattle.sc_wire_address.specs.declared.socket_addr.SocketAddr.{SocketAddr}
 
 -- The input was read to its end and is a script, and the report of a drive by it was written.
 pub record Drove (read wrote : List ℕ → Type 0) : Type 0 where
@@ -37,31 +52,64 @@ DriveEnds read wrote read_rose write_rose (BadScript line) = IsBad read line
 DriveEnds read wrote read_rose write_rose NoMemory = Unit {0}
 DriveEnds read wrote read_rose write_rose ReadFault = read_rose
 DriveEnds read wrote read_rose write_rose WriteFault = write_rose
+DriveEnds read wrote read_rose write_rose LinkFault = ⊥
+DriveEnds read wrote read_rose write_rose Unexpected = ⊥
 
-abbrev pub TextEnds : (wrote : Type 0) (write_rose : Type 0) → Ended → Type 0
-TextEnds wrote write_rose (Status n) = (n ≡ pos 0) × wrote
-TextEnds wrote write_rose NoMemory = Unit {0}
-TextEnds wrote write_rose WriteFault = write_rose
-TextEnds wrote write_rose _ = ⊥
+-- Nothing was written where nothing was to be: the input is no script or could not be read.
+abbrev pub LeavesOut : {O : Type 0} → Ended → O → O → Type 0
+LeavesOut Usage old new = new ≡ old
+LeavesOut (BadScript line) old new = new ≡ old
+LeavesOut ReadFault old new = new ≡ old
+LeavesOut _ old new = Unit {0}
 
-abbrev pub UsageEnds : (write_rose : Type 0) → Ended → Type 0
-UsageEnds write_rose Usage = Unit {0}
-UsageEnds write_rose NoMemory = Unit {0}
-UsageEnds write_rose WriteFault = write_rose
-UsageEnds write_rose _ = ⊥
+-- the end of words that are no command
+abbrev pub unread_end : WordsRefusal → Ended
+unread_end words.Usage = Usage
+unread_end words.NoMemory = NoMemory
 
--- The words are that command, or none, which is the one refusal.
-abbrev pub Parses : Option Command → Result Command Ended → Type 0
-Parses command (Ok c) = command ≡ Some c
-Parses command (Err Usage) = command ≡ None
-Parses command (Err _) = ⊥
+-- A compile was done, by the server at an address or here, and came to a status or a refusal, which was told.
+pub record Compiled {S O E X C K P T M A L H : Type 0} (p : Platform S O E X C K P T M A L H) (addr : SocketAddr) (exe : List ℕ) (ws : List (List ℕ)) (a b : Stage S O E X) (e : Ended) : Type 0 where
+  pub came : Result ℤ ClientError
+  pub shown : E
+  -- what is outside counted of refusals once the connection was made
+  pub between : ℕ
+  pub later : between ≤ p.faults b.outside
+  pub over : CompilesOver (Connects addr p.asked p.links p.connector_faults p.begun (p.faults a.outside) between)
+      (CompilesBy (MakesParts (p.around a.outside) between (p.faults b.outside))
+      (DoesCompile p.table (p.runs (local_words ws)) p.creator_faults exe ws (record { out = p.written a.out; now_out = p.written b.out; err = p.error_written a.err; now_err = p.error_written shown }) (p.output_faults a.out) (p.output_faults b.out) (p.error_faults a.err) (p.error_faults shown))
+      ((b.out ≡ a.out) × (shown ≡ a.err))) ((b.out ≡ a.out) × (shown ≡ a.err)) came
+  pub ends : CompileEnds (λ text. Told (WritesAll text) (p.error_written shown) (p.error_written b.err)) (Rose (p.error_faults shown) (p.error_faults b.err)) (b.err ≡ shown) came e
 
--- Usage is the end exactly where the words are no command.
-abbrev pub RunEnds : Option Command → (read wrote : List ℕ → Type 0) (read_rose write_rose : Type 0) → Ended → Type 0
-RunEnds None read wrote read_rose write_rose ended = UsageEnds write_rose ended
-RunEnds (Some Drive) read wrote read_rose write_rose ended = DriveEnds read wrote read_rose write_rose ended
-RunEnds (Some Help) read wrote read_rose write_rose ended = TextEnds (wrote help_lines) write_rose ended
-RunEnds (Some Version) read wrote read_rose write_rose ended = TextEnds (wrote version_line) write_rose ended
+-- A server was asked to stop, once that was said, and what it counted was printed.
+pub record Stopped {S O E X C K P T M A L H : Type 0} (p : Platform S O E X C K P T M A L H) (addr : SocketAddr) (a b : Stage S O E X) (e : Ended) : Type 0 where
+  pub first : Ended
+  pub said : O
+  pub says : TextEnds (Told (WritesAll stopping_line) (p.written a.out) (p.written said)) (Rose (p.output_faults a.out) (p.output_faults said)) first
+  pub after : AfterFirst first (Over (connects p a b addr)
+      (AsksAndShows (Asked requests.Shutdown (read_as shutting_down_of)) last_text (λ text. Told (WritesAll text) (p.written said) (p.written b.out)) (Rose (p.output_faults said) (p.output_faults b.out)) (b.out ≡ said)) (b.out ≡ said)) ((b.out ≡ said) × (b.outside ≡ a.outside)) e
+
+module _ {S O E X C K P T M A L H : Type 0} where
+  -- A command was done, and came to this end, of which nothing was told yet.
+  abbrev pub Does : Platform S O E X C K P T M A L H → Command → Stage S O E X → Stage S O E X → Ended → Type 0
+  Does p commands.Drive a b e = DriveEnds (read p a b) (wrote p a b) (read_rose p a b) (write_rose p a b) e × LeavesOut e a.out b.out × (b.err ≡ a.err)
+  Does p commands.Help a b e = TextEnds (wrote p a b help_lines) (write_rose p a b) e × (b.err ≡ a.err)
+  Does p commands.Version a b e = TextEnds (wrote p a b version_line) (write_rose p a b) e × (b.err ≡ a.err)
+  Does p (commands.Serve addr dir bytes tokens) a b e =
+      ServesDir dir bytes tokens p.doors p.maker_faults p.moments p.pauses addr (wrote p a b) (write_rose p a b) (b.out ≡ a.out) (p.faults a.outside) (p.faults b.outside) e × (b.err ≡ a.err)
+  Does p (commands.Compile addr exe ws) a b e =
+      Compiled p addr exe ws a b e
+  Does p (commands.Stats addr advanced json) a b e =
+      Over (connects p a b addr) (AsksAndShows AsksStatistics (stats_text advanced json) (wrote p a b) (write_rose p a b) (b.out ≡ a.out)) (b.out ≡ a.out) e × (b.err ≡ a.err)
+  Does p (commands.Zero addr) a b e =
+      Over (connects p a b addr) (AsksAndShows (Asked requests.ZeroStats (read_as zeroed_of)) (λ _. zeroed_line) (told p a b) (tell_rose p a b) (b.err ≡ a.err)) (b.err ≡ a.err) e × (b.out ≡ a.out)
+  Does p (commands.Stop addr) a b e = Stopped p addr a b e × (b.err ≡ a.err)
+  Does p (commands.DistStatus addr) a b e =
+      Over (connects p a b addr) (AsksAndShows (Asked requests.DistStatus (read_as dist_status_of)) dist_text (wrote p a b) (write_rose p a b) (b.out ≡ a.out)) (b.out ≡ a.out) e × (b.err ≡ a.err)
+
+  -- Where the words are no command, nothing is done.
+  abbrev pub Comes : Platform S O E X C K P T M A L H → Result Command WordsRefusal → Stage S O E X → Stage S O E X → Ended → Type 0
+  Comes p (Ok command) a b e = Does p command a b e
+  Comes p (Err refusal) a b e = (e ≡ unread_end refusal) × (b ≡ a)
 
 -- An end that is told has exactly its line on standard error, which for a command that was done is none. Where memory ran
 -- out or a write was refused, less may stand there.
@@ -70,13 +118,13 @@ TellsLine NoMemory old new = Unit {0}
 TellsLine WriteFault old new = Unit {0}
 TellsLine ended old new = Told (WritesAll (error_line ended)) old new
 
--- Nothing was written where nothing was to be: the words are no command, the input is no script or could not be read.
-abbrev pub LeavesOut : {O : Type 0} → Ended → O → O → Type 0
-LeavesOut Usage old new = new ≡ old
-LeavesOut (BadScript line) old new = new ≡ old
-LeavesOut ReadFault old new = new ≡ old
-LeavesOut _ old new = Unit {0}
-
 -- An end is told as it is, unless memory runs out or its line is refused.
 abbrev pub TellsEnd : Ended → Ended → Type 0 → Option (List ℕ) → Option (List ℕ) → Type 0
 TellsEnd ended result rose old new = ((result ≡ ended) × TellsLine ended old new) ⊎ ((result ≡ NoMemory) ⊎ ((result ≡ WriteFault) × rose))
+
+-- What the words came to, and then the end was told on standard error behind what stood there by then.
+pub record Runs {S O E X C K P T M A L H : Type 0} (p : Platform S O E X C K P T M A L H) (command : Result Command WordsRefusal) (a b : Stage S O E X) (result : Ended) : Type 0 where
+  pub shown : E
+  pub came : Ended
+  pub comes : Comes p command a (record b { err = shown }) came
+  pub ends : TellsEnd came result (Rose (p.error_faults shown) (p.error_faults b.err)) (p.error_written shown) (p.error_written b.err)

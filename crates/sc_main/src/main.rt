@@ -1,44 +1,30 @@
 //! The program. `run` does what its words say, over any streams; `main` gives it the process's own words, streams and exit code.
 #![tactic(auto)]
 
-mod outside;
+mod accepting;
+mod after_accept;
+mod answering;
+mod link_end;
 mod printing;
 mod running;
 mod scripted;
+mod serve_command;
+mod serve_error;
+mod serving;
 #[cfg(test)]
 mod tests;
+mod words;
 
 ghost use Rattle.std.specs.Prelude.{◌≡◌, drop};
 
-use crate::outside::Outside;
-use crate::running::run;
-use sc_entry::{ByteText, NoMemory};
+use crate::running::{run, told};
+use crate::words::read_words;
+use sc_entry::ByteText;
 use sc_host::{ReaderSource, WriterSink};
+use sc_host_outside::HostOutside;
 use sc_main_report::{Ended, exit_code};
-use std::alloc::Global;
-use std::env;
+use std::io::IsTerminal;
 use std::process::ExitCode;
-
-/// The process's own parts.
-#[derive(Drop)]
-struct Process {
-    alloc: Global,
-}
-
-impl Outside for Process {
-    fn alloc(&self) -> Global {
-        self.alloc
-    }
-}
-
-/// The words, the program's name first.
-fn words_in(alloc: Global, args: env::Args) -> Result<Vec<ByteText>, NoMemory> {
-    let mut words = Vec::new(alloc);
-    for word in args {
-        words.push(ByteText::from_vec(word.into_bytes()))?;
-    }
-    Ok(words)
-}
 
 /// The words behind the program's name.
 fn behind_name(words: &[ByteText]) -> &[ByteText]
@@ -52,12 +38,9 @@ fn main(rt: HostRuntime) -> ExitCode {
     let mut input = ReaderSource::new(rt.stdin());
     let mut out = WriterSink::new(rt.stdout());
     let mut err = WriterSink::new(rt.stderr());
-    let mut outside = Process { alloc };
-    let words = match env::args(&rt) {
-        Ok(args) => words_in(alloc, args),
-        Err(_) => Ok(Vec::new(alloc)),
-    };
-    let ended = match words {
+    let (is_out_terminal, is_err_terminal) = (rt.stdout().is_terminal(), rt.stderr().is_terminal());
+    let mut outside = HostOutside::new(rt, is_out_terminal, is_err_terminal);
+    let ended = match read_words(alloc, &rt) {
         Ok(words) => run(
             behind_name(&words),
             &mut input,
@@ -65,7 +48,7 @@ fn main(rt: HostRuntime) -> ExitCode {
             &mut err,
             &mut outside,
         ),
-        Err(_) => Ended::NoMemory,
+        Err(_) => told(alloc, &mut err, Ended::NoMemory),
     };
     ExitCode::from(exit_code(&ended))
 }

@@ -1,17 +1,30 @@
 //! What the program does, by its words.
-ghost use Rattle.std.specs.Prelude.{◌≡◌, ◌≤◌, ◌⊎◌, pos, Some};
+ghost use Rattle.std.specs.Prelude.{◌≡◌, Ok, Result};
+ghost use Rattle.sc_client.specs.Conversations.{beginning};
+ghost use Rattle.sc_client.specs.Local.{KeepsPlan, Ran, RunsOne};
 ghost use Rattle.sc_entry.specs.Causes.{Rose, Told};
 ghost use Rattle.sc_entry.specs.Streams.{ReadsToEnd, WritesAll};
-ghost use Rattle.sc_main_report.specs.Words.{help_lines, version_line};
-ghost use Rattle.sc_main.specs.Runs.{DriveEnds, LeavesOut, Parses, RunEnds, TellsEnd, TellsLine, TextEnds};
-ghost use Rattle.sc_main_script.specs.Commands.{command_of};
-ghost use Rattle.sc_main_script.specs.declared.words.Command.TheVariants as commands;
+ghost use Rattle.sc_main.specs.Platform.{stage};
+ghost use Rattle.sc_main.specs.Runs.{Does, DriveEnds, LeavesOut, Runs, TellsEnd, unread_end};
+ghost use Rattle.sc_main.specs.Serving.{wire};
+ghost use Rattle.sc_main_client.specs.Ending.{TextEnds};
+ghost use Rattle.sc_main_report.specs.Words.{version_line};
+ghost use Rattle.sc_main_report.specs.declared.ended.Ended.TheVariants as ended;
+ghost use Rattle.sc_main_words.specs.Commands.{HasTokens, command_of};
+ghost use Rattle.sc_main_words.specs.Parses.{Parses};
+ghost use Rattle.sc_main_words.specs.Texts.{help_lines};
+ghost use Rattle.sc_main_words.specs.declared.command.Command.{Command as Read};
+ghost use Rattle.sc_main_words.specs.declared.refusal.WordsRefusal.{WordsRefusal as Unread};
 
-use crate::outside::Outside;
 use crate::scripted::drive_script;
+use crate::serve_command::run_serve;
+use sc_command::CommandCreator;
 use sc_entry::{ByteText, ReadError, Sink, Source, WriteError, read_to_end, write_all};
-use sc_main_report::{Ended, put_error, put_help, put_version};
-use sc_main_script::{Command, ScriptError};
+use sc_main_client::{run_compile, run_dist_status, run_stats, run_stop, run_zero};
+use sc_main_outside::Outside;
+use sc_main_report::{Ended, put_error, put_version};
+use sc_main_script::ScriptError;
+use sc_main_words::{Command, WordsRefusal, parse_words, put_help};
 use std::alloc::Global;
 
 /// The most bytes that a script may have.
@@ -64,8 +77,17 @@ fn run_version<O: Sink>(alloc: Global, out: &mut O) -> Ended
     }
 }
 
-/// Writes the line that an end has on standard error; where that is refused, the end is `WriteFault`.
-fn told<E: Sink>(alloc: Global, err: &mut E, ended: Ended) -> Ended
+/// Says that memory ran out, which takes none.
+fn out_of_memory<E: Sink>(err: &mut E) -> Ended
+    ensures { result ≡ ended.NoMemory }
+{
+    let _written = write_all(err, b"out of memory\n");
+    Ended::NoMemory
+}
+
+/// Writes the line that an end has on standard error; where that is refused, the end is `WriteFault`, and where there is no memory
+/// for it, `NoMemory`.
+pub fn told<E: Sink>(alloc: Global, err: &mut E, ended: Ended) -> Ended
     ensures { TellsEnd ended result (Rose (E.fault_count err.old) (E.fault_count err.new)) (E.written err.old) (E.written err.new) }
 {
     let mut line = Vec::new(alloc);
@@ -75,39 +97,71 @@ fn told<E: Sink>(alloc: Global, err: &mut E, ended: Ended) -> Ended
             Err(WriteError::NoMemory) => Ended::NoMemory,
             Err(WriteError::WriteFault) => Ended::WriteFault,
         },
-        Err(_) => Ended::NoMemory,
+        Err(_) => out_of_memory(err),
     }
 }
 
-/// The command that the words are.
-///
-/// # Errors
-///
-/// `Usage` exactly where they are none.
-pub fn parse_words(words: &[ByteText]) -> Result<Command, Ended>
-    ensures { Parses (command_of words.now) result }
+/// Does a command, and tells nothing of its end.
+fn done<S: Source, O: Sink, E: Sink, X: Outside>(
+    command: Command,
+    input: &mut S,
+    out: &mut O,
+    err: &mut E,
+    outside: &mut X,
+) -> Ended
+where
+    <X::Creator as CommandCreator>::Cmd: Drop,
+    requires { HasTokens command }
+    ensures { Does (record {
+      left = S.left;
+      input_faults = S.fault_count;
+      written = O.written;
+      output_faults = O.fault_count;
+      error_written = E.written;
+      error_faults = E.fault_count;
+      around = X.around;
+      faults = X.fault_count;
+      asked = X.Connector.asked;
+      links = X.Connector.links;
+      connector_faults = X.Connector.fault_count;
+      begun = λ (link : X.Connector.Link). beginning (X.Connector.Link.ahead link) (X.Connector.Link.written link) (X.Connector.Link.fault_count link);
+      table = X.Probe.table;
+      runs = λ ws found cwd collected (t : X.Creator) (t2 : X.Creator) gave. RunsOne (KeepsPlan X.Creator.Cmd.plan) (Ran X.Creator.Cmd.gives X.Creator.Cmd.plan X.Creator.Cmd.arguments X.Creator.Cmd.setting X.Creator.Cmd.C.content found ws cwd collected) (X.Creator.queue t) gave (X.Creator.queue t2);
+      creator_faults = X.Creator.fault_count;
+      maker_faults = X.AcceptorMaker.fault_count;
+      doors = record { address = X.AcceptorMaker.Acceptor.address; ready = X.AcceptorMaker.Acceptor.ready; given = X.AcceptorMaker.Acceptor.given; faults = X.AcceptorMaker.Acceptor.fault_count; wires = λ (link : X.AcceptorMaker.Acceptor.Link). wire (X.AcceptorMaker.Acceptor.Link.ahead link) (X.AcceptorMaker.Acceptor.Link.written link) (X.AcceptorMaker.Acceptor.Link.fault_count link); number = X.AcceptorMaker.Acceptor.Link.number_of };
+      moments = X.Clock.moments;
+      pauses = X.Clock.pauses;
+    })
+        command (stage input.old out.old err.old outside.old) (stage input.new out.new err.new outside.new) result }
 {
-    match sc_main_script::parse_words(words) {
-        Some(command) => Ok(command),
-        None => Err(Ended::Usage),
-    }
-}
-
-/// Does a command, and writes nothing to standard error.
-fn done<S: Source, O: Sink>(alloc: Global, command: Command, input: &mut S, out: &mut O) -> Ended
-    ensures untouched { LeavesOut result out.old out.new }
-    ensures ends { RunEnds (Some command) (λ bytes. Told (ReadsToEnd 67108864 bytes) (S.left input.old) (S.left input.new)) (λ text. Told (WritesAll text) (O.written out.old) (O.written out.new)) (Rose (S.fault_count input.old) (S.fault_count input.new)) (Rose (O.fault_count out.old) (O.fault_count out.new)) result }
-{
+    let alloc = outside.alloc();
     match command {
         Command::Drive => run_drive(alloc, input, out),
         Command::Help => run_help(alloc, out),
         Command::Version => run_version(alloc, out),
+        Command::Serve {
+            addr,
+            dir,
+            bytes,
+            tokens,
+        } => run_serve(outside, &addr, &dir, bytes, tokens, out),
+        Command::Compile { addr, exe, words } => {
+            run_compile(outside, &addr, &exe, words.as_slice(), out, err)
+        }
+        Command::Stats {
+            addr,
+            advanced,
+            json,
+        } => run_stats(outside, &addr, advanced, json, out),
+        Command::Zero { addr } => run_zero(outside, &addr, err),
+        Command::Stop { addr } => run_stop(outside, &addr, out),
+        Command::DistStatus { addr } => run_dist_status(outside, &addr, out),
     }
 }
 
-/// Does a command: `drive` reads a script of at most 67,108,864 bytes, drives a daemon by it and writes the report; `--help`
-/// and `--version` write a text. An end other than `Status` writes one line to `err`, and leaves `out` as it was but where
-/// memory ran out or a write was refused. Each end has its cause.
+/// Does a command, and tells on standard error what end it came to, unless that is `Status`: one line. `drive` reads a script of at
+/// most 67,108,864 bytes, drives a daemon by it and writes the report; `serve` serves clients; the other commands ask a server.
 pub fn run_command<S: Source, O: Sink, E: Sink, X: Outside>(
     command: Command,
     input: &mut S,
@@ -115,17 +169,48 @@ pub fn run_command<S: Source, O: Sink, E: Sink, X: Outside>(
     err: &mut E,
     outside: &mut X,
 ) -> Ended
-    ensures told { TellsLine result (E.written err.old) (E.written err.new) }
-    ensures untouched { LeavesOut result out.old out.new }
-    ensures ends { RunEnds (Some command) (λ bytes. Told (ReadsToEnd 67108864 bytes) (S.left input.old) (S.left input.new)) (λ text. Told (WritesAll text) (O.written out.old) (O.written out.new)) (Rose (S.fault_count input.old) (S.fault_count input.new)) (Rose (O.fault_count out.old) (O.fault_count out.new) ⊎ Rose (E.fault_count err.old) (E.fault_count err.new)) result }
+where
+    <X::Creator as CommandCreator>::Cmd: Drop,
+    requires { HasTokens command }
+    ensures { Runs (record {
+      left = S.left;
+      input_faults = S.fault_count;
+      written = O.written;
+      output_faults = O.fault_count;
+      error_written = E.written;
+      error_faults = E.fault_count;
+      around = X.around;
+      faults = X.fault_count;
+      asked = X.Connector.asked;
+      links = X.Connector.links;
+      connector_faults = X.Connector.fault_count;
+      begun = λ (link : X.Connector.Link). beginning (X.Connector.Link.ahead link) (X.Connector.Link.written link) (X.Connector.Link.fault_count link);
+      table = X.Probe.table;
+      runs = λ ws found cwd collected (t : X.Creator) (t2 : X.Creator) gave. RunsOne (KeepsPlan X.Creator.Cmd.plan) (Ran X.Creator.Cmd.gives X.Creator.Cmd.plan X.Creator.Cmd.arguments X.Creator.Cmd.setting X.Creator.Cmd.C.content found ws cwd collected) (X.Creator.queue t) gave (X.Creator.queue t2);
+      creator_faults = X.Creator.fault_count;
+      maker_faults = X.AcceptorMaker.fault_count;
+      doors = record { address = X.AcceptorMaker.Acceptor.address; ready = X.AcceptorMaker.Acceptor.ready; given = X.AcceptorMaker.Acceptor.given; faults = X.AcceptorMaker.Acceptor.fault_count; wires = λ (link : X.AcceptorMaker.Acceptor.Link). wire (X.AcceptorMaker.Acceptor.Link.ahead link) (X.AcceptorMaker.Acceptor.Link.written link) (X.AcceptorMaker.Acceptor.Link.fault_count link); number = X.AcceptorMaker.Acceptor.Link.number_of };
+      moments = X.Clock.moments;
+      pauses = X.Clock.pauses;
+    })
+        (Ok command) (stage input.old out.old err.old outside.old) (stage input.new out.new err.new outside.new) result }
 {
-    let alloc = outside.alloc();
-    let ended = done(alloc, command, input, out);
-    told(alloc, err, ended)
+    let ended = done(command, input, out, err, outside);
+    told(outside.alloc(), err, ended)
 }
 
-/// Does what the words say. Where they are no command the end is `Usage`. Each end has its cause, an end other than `Status`
-/// writes one line to `err`, and leaves `out` as it was but where memory ran out or a write was refused.
+/// The end of words that are no command.
+fn unread_end(refusal: WordsRefusal) -> Ended
+    ensures { result ≡ unread_end refusal }
+{
+    match refusal {
+        WordsRefusal::Usage => Ended::Usage,
+        WordsRefusal::NoMemory => Ended::NoMemory,
+    }
+}
+
+/// Does what the words say. Where they are no command the end is `Usage`, and nothing is done. Each end has its cause, and an end other
+/// than `Status` writes one line to `err`, behind what the command wrote there.
 pub fn run<S: Source, O: Sink, E: Sink, X: Outside>(
     words: &[ByteText],
     input: &mut S,
@@ -133,15 +218,34 @@ pub fn run<S: Source, O: Sink, E: Sink, X: Outside>(
     err: &mut E,
     outside: &mut X,
 ) -> Ended
-    ensures told { TellsLine result (E.written err.old) (E.written err.new) }
-    ensures untouched { LeavesOut result out.old out.new }
-    ensures ends { RunEnds (command_of words.now) (λ bytes. Told (ReadsToEnd 67108864 bytes) (S.left input.old) (S.left input.new)) (λ text. Told (WritesAll text) (O.written out.old) (O.written out.new)) (Rose (S.fault_count input.old) (S.fault_count input.new)) (Rose (O.fault_count out.old) (O.fault_count out.new) ⊎ Rose (E.fault_count err.old) (E.fault_count err.new)) result }
+where
+    <X::Creator as CommandCreator>::Cmd: Drop,
+    ensures { (command : Result Read Unread) × Parses (command_of words.now) command × Runs (record {
+      left = S.left;
+      input_faults = S.fault_count;
+      written = O.written;
+      output_faults = O.fault_count;
+      error_written = E.written;
+      error_faults = E.fault_count;
+      around = X.around;
+      faults = X.fault_count;
+      asked = X.Connector.asked;
+      links = X.Connector.links;
+      connector_faults = X.Connector.fault_count;
+      begun = λ (link : X.Connector.Link). beginning (X.Connector.Link.ahead link) (X.Connector.Link.written link) (X.Connector.Link.fault_count link);
+      table = X.Probe.table;
+      runs = λ ws found cwd collected (t : X.Creator) (t2 : X.Creator) gave. RunsOne (KeepsPlan X.Creator.Cmd.plan) (Ran X.Creator.Cmd.gives X.Creator.Cmd.plan X.Creator.Cmd.arguments X.Creator.Cmd.setting X.Creator.Cmd.C.content found ws cwd collected) (X.Creator.queue t) gave (X.Creator.queue t2);
+      creator_faults = X.Creator.fault_count;
+      maker_faults = X.AcceptorMaker.fault_count;
+      doors = record { address = X.AcceptorMaker.Acceptor.address; ready = X.AcceptorMaker.Acceptor.ready; given = X.AcceptorMaker.Acceptor.given; faults = X.AcceptorMaker.Acceptor.fault_count; wires = λ (link : X.AcceptorMaker.Acceptor.Link). wire (X.AcceptorMaker.Acceptor.Link.ahead link) (X.AcceptorMaker.Acceptor.Link.written link) (X.AcceptorMaker.Acceptor.Link.fault_count link); number = X.AcceptorMaker.Acceptor.Link.number_of };
+      moments = X.Clock.moments;
+      pauses = X.Clock.pauses;
+    })
+        command (stage input.old out.old err.old outside.old) (stage input.new out.new err.new outside.new) result }
 {
-    match parse_words(words) {
+    let alloc = outside.alloc();
+    match parse_words(alloc, words) {
         Ok(command) => run_command(command, input, out, err, outside),
-        Err(ended) => {
-            let alloc = outside.alloc();
-            told(alloc, err, ended)
-        }
+        Err(refusal) => told(alloc, err, unread_end(refusal)),
     }
 }

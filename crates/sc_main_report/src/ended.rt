@@ -2,9 +2,9 @@
 ghost use Rattle.std.specs.Prelude.{◌≡◌, ◌++◌, OnOk};
 ghost use Rattle.sc_main_report.specs.Ending.{error_line, exit_code_of};
 
-use crate::words::put_usage;
 use sc_entry::NoMemory;
 use sc_main_script_words::put_number;
+use sc_main_words::put_usage;
 use sc_words::put;
 use std::alloc::Global;
 
@@ -23,6 +23,10 @@ pub enum Ended {
     ReadFault,
     /// The output, or standard error, refused a write.
     WriteFault,
+    /// A link, or what makes or accepts links, a disk, or a command refused, or a server said nothing.
+    LinkFault,
+    /// A server answered something else.
+    Unexpected,
 }
 
 /// The exit status of the process: of a status its low eight bits, and a number of its own for each other end.
@@ -36,6 +40,8 @@ pub fn exit_code(ended: &Ended) -> u8
         Ended::NoMemory => 122,
         Ended::ReadFault => 123,
         Ended::WriteFault => 124,
+        Ended::LinkFault => 125,
+        Ended::Unexpected => 126,
     }
 }
 
@@ -55,5 +61,7 @@ pub fn put_error(alloc: Global, out: &mut Vec<u8>, ended: &Ended) -> Result<(), 
         Ended::NoMemory => put(out, b"out of memory\n"),
         Ended::ReadFault => put(out, b"read fault\n"),
         Ended::WriteFault => Ok(()),
+        Ended::LinkFault => put(out, b"link fault\n"),
+        Ended::Unexpected => put(out, b"Unexpected server response!\n"),
     }
 }

@@ -1,5 +1,4 @@
-//! What the program prints: the report of a drive, the line that tells how a run ended, and the words on the
-//! program itself.
+//! What the program prints: the report of a drive, the line that tells how a run ended, and the program's version.
 #![tactic(auto)]
 
 mod ended;
@@ -13,4 +12,4 @@ mod words;
 pub use ended::{Ended, exit_code, put_error};
 pub use laws::printed_replies_are_sent;
 pub use printing::{Report, put_report};
-pub use words::{put_help, put_version};
+pub use words::put_version;

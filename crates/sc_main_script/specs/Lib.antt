@@ -5,5 +5,4 @@ pub mod Inputs
 pub mod Frames
 pub mod Levels
 pub mod Scripts
-pub mod Commands
 pub mod Goods

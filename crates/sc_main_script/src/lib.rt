@@ -18,7 +18,6 @@ mod policies;
 mod reading;
 mod run_rule;
 mod script;
-mod words;
 
 pub use good_laws::read_scripts_are_good;
 pub use job_rule::JobRule;
@@ -28,4 +27,3 @@ pub use place_rule::PlaceRule;
 pub use reading::read_script;
 pub use run_rule::RunRule;
 pub use script::{Script, ScriptError};
-pub use words::{Command, parse_words};

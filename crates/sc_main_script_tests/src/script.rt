@@ -1,5 +1,5 @@
 use sc_entry::{ByteText, CacheMode, GetPathResult, Items, Text};
-use sc_main_script::{Command, ScriptError, parse_words, read_script};
+use sc_main_script::{ScriptError, read_script};
 use sc_main_script_words::{put_counters, put_line, put_named, put_number, put_reply, put_token};
 use sc_model::{ColorMode, CompileFinished, CompileResponse, Response, Step, StorageHandshakeInfo};
 use sc_stats::ServerStats;
@@ -260,29 +260,6 @@ fn lines_of_statistics_requests(rt: HostRuntime) -> Result<(), Fail> {
     for line in lines {
         assert_eq!(rt; of_line(rt.alloc(), line)?, 4);
     }
-    Ok(())
-}
-
-#[test]
-fn words_of_the_program(rt: HostRuntime) -> Result<(), Fail> {
-    let drive = [ByteText::from_slice(rt.alloc(), b"drive")?];
-    let help = [ByteText::from_slice(rt.alloc(), b"--help")?];
-    let both = [
-        ByteText::from_slice(rt.alloc(), b"drive")?,
-        ByteText::from_slice(rt.alloc(), b"--help")?,
-    ];
-    let drives = match parse_words(&drive) {
-        Some(Command::Drive) => true,
-        _ => false,
-    };
-    assert!(rt; drives);
-    let helps = match parse_words(&help) {
-        Some(Command::Help) => true,
-        _ => false,
-    };
-    assert!(rt; helps);
-    assert!(rt; parse_words(&both).is_none());
-    assert!(rt; parse_words(&[]).is_none());
     Ok(())
 }
 

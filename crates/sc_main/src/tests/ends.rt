@@ -1,7 +1,7 @@
 //! The ends of the program: its exit code, what it printed, and the line on standard error.
-use crate::outside::Outside;
 use crate::running::run;
 use sc_entry::{ByteText, Calls, Items, MemSink, MemSource};
+use sc_main_outside::MemOutside;
 use sc_main_report::exit_code;
 use std::alloc::Global;
 use std::test::Fail;
@@ -43,7 +43,10 @@ compilations 1
 end
 ";
 
-const ROWS: [Row; 6] = [
+const USAGE: &[u8] =
+    b"usage: sccache drive | serve ADDR DIR BYTES TOKENS | compile ADDR EXE WORD.. | stats ADDR [--advanced] [--json] | zero ADDR | stop ADDR | dist-status ADDR\n";
+
+const ROWS: [Row; 13] = [
     Row {
         words: &[b"drive"],
         input: SCRIPT,
@@ -58,7 +61,7 @@ const ROWS: [Row; 6] = [
         refused: [None, None, None],
         code: 120,
         printed: b"",
-        told: b"usage: sccache drive\n",
+        told: USAGE,
     },
     Row {
         words: &[b"drive"],
@@ -92,18 +95,63 @@ const ROWS: [Row; 6] = [
         printed: b"",
         told: b"",
     },
+    Row {
+        words: &[b"serve", b"4226", b"/d", b"100", b"1"],
+        input: b"",
+        refused: [None, None, None],
+        code: 125,
+        printed: b"",
+        told: b"link fault\n",
+    },
+    Row {
+        words: &[b"compile", b"s", b"cc", b"-c", b"a.c"],
+        input: b"",
+        refused: [None, None, None],
+        code: 125,
+        printed: b"",
+        told: b"link fault\n",
+    },
+    Row {
+        words: &[b"stats", b"s", b"--json"],
+        input: b"",
+        refused: [None, None, None],
+        code: 125,
+        printed: b"",
+        told: b"link fault\n",
+    },
+    Row {
+        words: &[b"zero", b"s"],
+        input: b"",
+        refused: [None, None, None],
+        code: 125,
+        printed: b"",
+        told: b"link fault\n",
+    },
+    Row {
+        words: &[b"stop", b"s"],
+        input: b"",
+        refused: [None, None, None],
+        code: 125,
+        printed: b"Stopping sccache server...\n",
+        told: b"link fault\n",
+    },
+    Row {
+        words: &[b"dist-status", b"s"],
+        input: b"",
+        refused: [None, None, None],
+        code: 125,
+        printed: b"",
+        told: b"link fault\n",
+    },
+    Row {
+        words: &[b"stop", b"s"],
+        input: b"",
+        refused: [None, Some(1), None],
+        code: 124,
+        printed: b"",
+        told: b"",
+    },
 ];
-
-#[derive(Drop)]
-struct Memory {
-    alloc: Global,
-}
-
-impl Outside for Memory {
-    fn alloc(&self) -> Global {
-        self.alloc
-    }
-}
 
 #[derive(Drop)]
 struct Streams {
@@ -142,9 +190,19 @@ fn streams_of(alloc: Global, row: &Row) -> Result<Streams, Fail> {
     })
 }
 
+/// An outside without parts.
+fn no_parts(alloc: Global) -> MemOutside {
+    MemOutside::new(
+        alloc,
+        ByteText::new(alloc),
+        Items::new(alloc),
+        Calls::new(alloc),
+    )
+}
+
 /// The exit code of a run over lent streams.
 fn code_of(alloc: Global, words: &[ByteText], streams: &mut Streams) -> u8 {
-    let mut outside = Memory { alloc };
+    let mut outside = no_parts(alloc);
     let ended = run(
         words,
         &mut streams.input,
