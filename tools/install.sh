@@ -80,6 +80,10 @@ install_all() {
         "$top/tools/ragzomei.service" >"$noted.service" || exit 1
     put 644 "$noted.service" lib/systemd/user/ragzomei.service
     rm -f "$noted.service"
+    put 644 "$top/tools/man/ragzomei.1" share/man/man1/ragzomei.1
+    put 644 "$top/tools/man/ragzomei-cc.1" share/man/man1/ragzomei-cc.1
+    put 644 "$top/tools/completion/ragzomei.bash" share/bash-completion/completions/ragzomei
+    put 644 "$top/tools/completion/_ragzomei" share/zsh/site-functions/_ragzomei
     { mkdir -p "$root/share/ragzomei" && cp "$noted" "$root/$list"; } || fail "$root/$list can't be written"
 }
 
