@@ -1,0 +1,6 @@
+pub mod Lines
+pub mod Texts
+pub mod Printed
+pub mod Lending
+pub mod Reports
+pub mod Sums
