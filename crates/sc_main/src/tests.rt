@@ -1,3 +1,6 @@
 //! What no script of the folder cases/ can show.
 mod ends;
+mod linked;
 mod policies;
+mod serving;
+mod shown;

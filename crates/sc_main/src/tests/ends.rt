@@ -191,7 +191,7 @@ fn streams_of(alloc: Global, row: &Row) -> Result<Streams, Fail> {
 }
 
 /// An outside without parts.
-fn no_parts(alloc: Global) -> MemOutside {
+pub(super) fn no_parts(alloc: Global) -> MemOutside {
     MemOutside::new(
         alloc,
         ByteText::new(alloc),

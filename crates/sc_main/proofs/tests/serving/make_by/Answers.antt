@@ -1,0 +1,4 @@
+use Rattle.sc_main.proofs.tests.serving.make_by.Goals as goal
+
+pub make-requires : goal.make-requires
+make-requires c = record { good = c.read_scripts_are_good.ensures _ _ c.in_ok-script.ensures }
