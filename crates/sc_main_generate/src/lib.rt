@@ -5,4 +5,5 @@ mod draw;
 mod lines;
 mod script;
 
+pub use draw::{drawn, next};
 pub use script::generate;

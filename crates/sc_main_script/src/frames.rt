@@ -7,7 +7,11 @@ use sc_model::Request;
 use sc_wire::encode_frame;
 use std::alloc::Global;
 
-/// The frame of a request. A payload that a frame's length can't say takes more memory than any script gives.
+/// The frame of a request.
+///
+/// # Errors
+///
+/// `NoMemory` where there is none for it. A payload that a frame's length can't say takes more memory than any script gives.
 #[tactic(auto, unfolding(crate::specs::Frames::frame_of))]
 pub fn frame(alloc: Global, request: &Request) -> Result<ByteText, NoMemory>
     ensures { IfOk result (λ bytes. bytes ≡ frame_of request.now) }

@@ -19,7 +19,9 @@ mod reading;
 mod run_rule;
 mod script;
 
+pub use frames::frame;
 pub use good_laws::read_scripts_are_good;
+pub use inputs::Inputs;
 pub use job_rule::JobRule;
 pub use level_rule::LevelRule;
 pub use level_size::LevelSize;
