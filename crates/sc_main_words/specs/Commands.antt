@@ -7,7 +7,7 @@ use Rattle.sc_main_script_words.specs.Fields.{number_in, number_of}
 use Rattle.sc_main_words.specs.Addresses.{address_of}
 use Rattle.sc_main_words.specs.Names.{command_name}
 use Rattle.sc_main_words.specs.declared.command.Command.{Command}
-use Rattle.sc_main_words.specs.declared.command.Command.TheVariants.{Drive, Serve, Compile, Stats, Zero, Stop, DistStatus, Help, Version}
+use Rattle.sc_main_words.specs.declared.command.Command.TheVariants.{Drive, Generate, Serve, Compile, Stats, Zero, Stop, DistStatus, Help, Version}
 use Rattle.sc_main_words.specs.declared.command_name.CommandName.{CommandName}
 use Rattle.sc_main_words.specs.declared.command_name.CommandName.TheVariants as name
 
@@ -18,6 +18,12 @@ all_words ws = Some (ws, [])
 -- whether the next word is this one, which is taken then
 abbrev pub may_have : List ℕ → Reader Bool
 may_have w ws = Some (flag w ws)
+
+-- generate N
+unfoldable pub generate_command : Reader Command
+generate_command = do
+  number ← field (number_in 1 2000)
+  gives (Generate number)
 
 -- serve ADDR DIR BYTES TOKENS, where DIR may be any bytes
 unfoldable pub serve_command : Reader Command
@@ -65,6 +71,7 @@ dist_status_command = do
 -- what stands behind a command's name
 unfoldable pub command_words : CommandName → Reader Command
 command_words name.Drive = gives Drive
+command_words name.Generate = generate_command
 command_words name.Serve = serve_command
 command_words name.Compile = compile_command
 command_words name.Stats = stats_command
@@ -84,7 +91,8 @@ whole (Some (command, w ∷ ws)) = None
 unfoldable pub command_of : List (List ℕ) → Option Command
 command_of ws = word ws then (λ p. command_name p.0 then (λ n. whole (command_words n p.1)))
 
--- a server that is told of tokens has 1 to 65,535
-abbrev pub HasTokens : Command → Type 0
-HasTokens (Serve addr dir bytes tokens) = (1 ≤ tokens) × (tokens ≤ 65535)
-HasTokens _ = Unit {0}
+-- the number of a script is 1 to 2,000, and a server that is told of tokens has 1 to 65,535
+abbrev pub IsWithinLimits : Command → Type 0
+IsWithinLimits (Generate number) = (1 ≤ number) × (number ≤ 2000)
+IsWithinLimits (Serve addr dir bytes tokens) = (1 ≤ tokens) × (tokens ≤ 65535)
+IsWithinLimits _ = Unit {0}

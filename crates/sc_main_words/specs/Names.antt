@@ -1,11 +1,12 @@
 -- The word that a command begins with.
 use Rattle.std.specs.Prelude.{ℕ, List, Option, Some, None, if◌then◌else◌, codes, bytes_eq}
 use Rattle.sc_main_words.specs.declared.command_name.CommandName.{CommandName}
-use Rattle.sc_main_words.specs.declared.command_name.CommandName.TheVariants.{Drive, Serve, Compile, Stats, Zero, Stop, DistStatus, Help, Version}
+use Rattle.sc_main_words.specs.declared.command_name.CommandName.TheVariants.{Drive, Generate, Serve, Compile, Stats, Zero, Stop, DistStatus, Help, Version}
 
 unfoldable pub command_name : List ℕ → Option CommandName
 command_name w =
     if bytes_eq w (codes "drive") then Some Drive
+    else if bytes_eq w (codes "generate") then Some Generate
     else if bytes_eq w (codes "serve") then Some Serve
     else if bytes_eq w (codes "compile") then Some Compile
     else if bytes_eq w (codes "stats") then Some Stats

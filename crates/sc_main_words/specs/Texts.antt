@@ -3,10 +3,13 @@ use Rattle.std.specs.Prelude.{ℕ, List, ◌++◌, codes}
 
 abbrev pub usage_line : List ℕ
 usage_line =
-    codes "usage: sccache drive | serve ADDR DIR BYTES TOKENS | compile ADDR EXE WORD.. | stats ADDR [--advanced] [--json] | zero ADDR | stop ADDR | dist-status ADDR\n"
+    codes "usage: sccache drive | generate N | serve ADDR DIR BYTES TOKENS | compile ADDR EXE WORD.. | stats ADDR [--advanced] [--json] | zero ADDR | stop ADDR | dist-status ADDR\n"
 
 abbrev pub drive_line : List ℕ
 drive_line = codes "drive: reads a script from standard input, drives a daemon by it, and prints the report\n"
+
+abbrev pub generate_line : List ℕ
+generate_line = codes "generate: drives a daemon by a script that is made of the number N, 1 to 2000, and prints the report from its first level on\n"
 
 abbrev pub serve_line : List ℕ
 serve_line =
@@ -35,7 +38,7 @@ version_help_line = codes "--version: prints the program's version\n"
 
 -- those that are no client's
 abbrev pub server_lines : List ℕ
-server_lines = drive_line ++ serve_line
+server_lines = drive_line ++ generate_line ++ serve_line
 
 -- a client's that count, and the one that compiles
 abbrev pub client_lines : List ℕ

@@ -8,6 +8,8 @@ use sc_wire_address::SocketAddr;
 pub enum Command {
     /// Reads a script, drives a daemon by it, and reports.
     Drive,
+    /// Drives a daemon by the script of a number, 1 to 2,000, and reports from its first level on.
+    Generate(u64),
     /// Serves clients by one store on disk.
     Serve {
         /// Where clients connect.

@@ -8,6 +8,7 @@ use sc_words::WordsError;
 #[derive(Clone, Copy)]
 pub enum CommandName {
     Drive,
+    Generate,
     Serve,
     Compile,
     Stats,
@@ -29,6 +30,9 @@ pub fn command_name(word: &[u8]) -> Result<CommandName, WordsError>
 {
     if word == b"drive".as_slice() {
         return Ok(CommandName::Drive);
+    }
+    if word == b"generate".as_slice() {
+        return Ok(CommandName::Generate);
     }
     if word == b"serve".as_slice() {
         return Ok(CommandName::Serve);

@@ -15,7 +15,7 @@ pub fn put_usage(out: &mut Vec<u8>) -> Result<(), NoMemory>
 {
     put(
         out,
-        b"usage: sccache drive | serve ADDR DIR BYTES TOKENS | compile ADDR EXE WORD.. | stats ADDR [--advanced] [--json] | zero ADDR | stop ADDR | dist-status ADDR\n",
+        b"usage: sccache drive | generate N | serve ADDR DIR BYTES TOKENS | compile ADDR EXE WORD.. | stats ADDR [--advanced] [--json] | zero ADDR | stop ADDR | dist-status ADDR\n",
     )
 }
 
@@ -25,6 +25,10 @@ fn put_server(out: &mut Vec<u8>) -> Result<(), NoMemory>
     put(
         out,
         b"drive: reads a script from standard input, drives a daemon by it, and prints the report\n",
+    )?;
+    put(
+        out,
+        b"generate: drives a daemon by a script that is made of the number N, 1 to 2000, and prints the report from its first level on\n",
     )?;
     put(
         out,

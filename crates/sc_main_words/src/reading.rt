@@ -1,7 +1,7 @@
 //! The command that words are.
 ghost use Rattle.std.specs.Prelude.{◌≡◌, IfOk};
 ghost use Rattle.sc_words.specs.Words.{Means, Reads};
-ghost use Rattle.sc_main_words.specs.Commands.{HasTokens, all_words, command_of, command_words, compile_command, dist_status_command, serve_command, stats_command, stop_command, zero_command};
+ghost use Rattle.sc_main_words.specs.Commands.{IsWithinLimits, all_words, command_of, command_words, compile_command, dist_status_command, generate_command, serve_command, stats_command, stop_command, zero_command};
 ghost use Rattle.sc_main_words.specs.Parses.{Parses};
 
 use crate::address::address;
@@ -24,10 +24,19 @@ fn all_words(alloc: Global, words: &mut Words<'_>) -> Result<Items<ByteText>, Wo
     Ok(items)
 }
 
+#[tactic(auto, unfolding(crate::specs::Commands::generate_command))]
+fn generate(words: &mut Words<'_>) -> Result<Command, WordsError>
+    ensures read { Reads (generate_command words.old) result words.new }
+    ensures limits { IfOk result IsWithinLimits }
+{
+    let number = number_within(1, 2000, words.word()?.as_slice())?;
+    Ok(Command::Generate(number))
+}
+
 #[tactic(auto, unfolding(crate::specs::Commands::serve_command))]
 fn serve(alloc: Global, words: &mut Words<'_>) -> Result<Command, WordsError>
     ensures read { Reads (serve_command words.old) result words.new }
-    ensures tokens { IfOk result HasTokens }
+    ensures limits { IfOk result IsWithinLimits }
 {
     let addr = address(alloc, words.word()?.as_slice())?;
     let dir = words.word()?.try_clone()?;
@@ -44,7 +53,7 @@ fn serve(alloc: Global, words: &mut Words<'_>) -> Result<Command, WordsError>
 #[tactic(auto, unfolding(crate::specs::Commands::compile_command))]
 fn compile(alloc: Global, words: &mut Words<'_>) -> Result<Command, WordsError>
     ensures read { Reads (compile_command words.old) result words.new }
-    ensures tokens { IfOk result HasTokens }
+    ensures limits { IfOk result IsWithinLimits }
 {
     let addr = address(alloc, words.word()?.as_slice())?;
     let exe = words.word()?.try_clone()?;
@@ -55,7 +64,7 @@ fn compile(alloc: Global, words: &mut Words<'_>) -> Result<Command, WordsError>
 #[tactic(auto, unfolding(crate::specs::Commands::stats_command))]
 fn stats(alloc: Global, words: &mut Words<'_>) -> Result<Command, WordsError>
     ensures read { Reads (stats_command words.old) result words.new }
-    ensures tokens { IfOk result HasTokens }
+    ensures limits { IfOk result IsWithinLimits }
 {
     let addr = address(alloc, words.word()?.as_slice())?;
     let advanced = words.take(b"--advanced");
@@ -70,7 +79,7 @@ fn stats(alloc: Global, words: &mut Words<'_>) -> Result<Command, WordsError>
 #[tactic(auto, unfolding(crate::specs::Commands::zero_command))]
 fn zero(alloc: Global, words: &mut Words<'_>) -> Result<Command, WordsError>
     ensures read { Reads (zero_command words.old) result words.new }
-    ensures tokens { IfOk result HasTokens }
+    ensures limits { IfOk result IsWithinLimits }
 {
     let addr = address(alloc, words.word()?.as_slice())?;
     Ok(Command::Zero { addr })
@@ -79,7 +88,7 @@ fn zero(alloc: Global, words: &mut Words<'_>) -> Result<Command, WordsError>
 #[tactic(auto, unfolding(crate::specs::Commands::stop_command))]
 fn stop(alloc: Global, words: &mut Words<'_>) -> Result<Command, WordsError>
     ensures read { Reads (stop_command words.old) result words.new }
-    ensures tokens { IfOk result HasTokens }
+    ensures limits { IfOk result IsWithinLimits }
 {
     let addr = address(alloc, words.word()?.as_slice())?;
     Ok(Command::Stop { addr })
@@ -88,7 +97,7 @@ fn stop(alloc: Global, words: &mut Words<'_>) -> Result<Command, WordsError>
 #[tactic(auto, unfolding(crate::specs::Commands::dist_status_command))]
 fn dist_status(alloc: Global, words: &mut Words<'_>) -> Result<Command, WordsError>
     ensures read { Reads (dist_status_command words.old) result words.new }
-    ensures tokens { IfOk result HasTokens }
+    ensures limits { IfOk result IsWithinLimits }
 {
     let addr = address(alloc, words.word()?.as_slice())?;
     Ok(Command::DistStatus { addr })
@@ -102,10 +111,11 @@ fn command_words(
     words: &mut Words<'_>,
 ) -> Result<Command, WordsError>
     ensures read { Reads (command_words name words.old) result words.new }
-    ensures tokens { IfOk result HasTokens }
+    ensures limits { IfOk result IsWithinLimits }
 {
     match name {
         CommandName::Drive => Ok(Command::Drive),
+        CommandName::Generate => generate(words),
         CommandName::Serve => serve(alloc, words),
         CommandName::Compile => compile(alloc, words),
         CommandName::Stats => stats(alloc, words),
@@ -121,7 +131,7 @@ fn command_words(
 #[tactic(auto, unfolding(crate::specs::Commands::command_of))]
 fn command(alloc: Global, words: &mut Words<'_>) -> Result<Command, WordsError>
     ensures read { Means (command_of words.old) result }
-    ensures tokens { IfOk result HasTokens }
+    ensures limits { IfOk result IsWithinLimits }
 {
     let name = command_name(words.word()?.as_slice())?;
     let command = command_words(alloc, name, words)?;
@@ -132,14 +142,14 @@ fn command(alloc: Global, words: &mut Words<'_>) -> Result<Command, WordsError>
 }
 
 /// The command that the words behind the program's name are. Words that aren't UTF-8 are good as a folder, a compiler and a
-/// compiler's words, and nowhere else. A server's tokens are 1 to 65,535.
+/// compiler's words, and nowhere else. A script's number is 1 to 2,000, and a server's tokens are 1 to 65,535.
 ///
 /// # Errors
 ///
 /// `Usage` exactly where the words are no command, and `NoMemory` where memory ran out.
 pub fn parse_words(alloc: Global, words: &[ByteText]) -> Result<Command, WordsRefusal>
     ensures read { Parses (command_of words.now) result }
-    ensures tokens { IfOk result HasTokens }
+    ensures limits { IfOk result IsWithinLimits }
 {
     let mut words = Words::new(words);
     match command(alloc, &mut words) {

@@ -2,11 +2,12 @@ use sc_main_words::{put_help, put_usage};
 use std::test::Fail;
 
 const USAGE: &[u8] =
-    b"usage: sccache drive | serve ADDR DIR BYTES TOKENS | compile ADDR EXE WORD.. | stats ADDR [--advanced] [--json] | zero ADDR | stop ADDR | dist-status ADDR\n";
+    b"usage: sccache drive | generate N | serve ADDR DIR BYTES TOKENS | compile ADDR EXE WORD.. | stats ADDR [--advanced] [--json] | zero ADDR | stop ADDR | dist-status ADDR\n";
 
 /// The lines of the help behind the usage.
-const HELP: [&[u8]; 9] = [
+const HELP: [&[u8]; 10] = [
     b"drive: reads a script from standard input, drives a daemon by it, and prints the report\n",
+    b"generate: drives a daemon by a script that is made of the number N, 1 to 2000, and prints the report from its first level on\n",
     b"serve: serves clients at ADDR, a port or the path of a Unix socket, one link after the other for now; keeps results in DIR, BYTES bytes at most, and runs TOKENS compilers at once at most\n",
     b"compile: has the server at ADDR compile by EXE with the words WORD.., and runs EXE itself where the server does not\n",
     b"stats: prints the statistics of the server at ADDR, with --advanced by compiler too, with --json as JSON\n",

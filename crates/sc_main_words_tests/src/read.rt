@@ -59,6 +59,10 @@ fn put_flag(out: &mut Vec<u8>, told: bool, flag: &[u8]) -> Result<(), NoMemory> 
 fn put_command(alloc: Global, out: &mut Vec<u8>, command: &Command) -> Result<(), NoMemory> {
     match command {
         Command::Drive => put_flag(out, true, b"drive"),
+        Command::Generate(number) => {
+            out.extend_from_slice(b"generate")?;
+            put_number(alloc, out, *number)
+        }
         Command::Help => put_flag(out, true, b"help"),
         Command::Version => put_flag(out, true, b"version"),
         Command::Serve {
@@ -153,8 +157,29 @@ fn commands_that_stand_alone(rt: HostRuntime) -> Result<(), Fail> {
         (&[b"Drive"], b"usage"),
         (&[b"drive "], b"usage"),
         (&[b"driv"], b"usage"),
-        (&[b"generate", b"1"], b"usage"),
+        (&[b"generat", b"1"], b"usage"),
         (&[b"\xff"], b"usage"),
+    ];
+    assert_eq!(rt; first_other(rt.alloc(), &rows)?, None);
+    Ok(())
+}
+
+#[test]
+fn numbers_of_scripts(rt: HostRuntime) -> Result<(), Fail> {
+    let rows: [Row<'_>; 13] = [
+        (&[b"generate", b"1"], b"generate 1"),
+        (&[b"generate", b"50"], b"generate 50"),
+        (&[b"generate", b"2000"], b"generate 2000"),
+        (&[b"generate"], b"usage"),
+        (&[b"generate", b"0"], b"usage"),
+        (&[b"generate", b"2001"], b"usage"),
+        (&[b"generate", b"99999999999999999999999"], b"usage"),
+        (&[b"generate", b"007"], b"usage"),
+        (&[b"generate", b"1", b"2"], b"usage"),
+        (&[b"generate", b"x"], b"usage"),
+        (&[b"generate", b"-1"], b"usage"),
+        (&[b"generate", b""], b"usage"),
+        (&[b"generate", b"\xff"], b"usage"),
     ];
     assert_eq!(rt; first_other(rt.alloc(), &rows)?, None);
     Ok(())
