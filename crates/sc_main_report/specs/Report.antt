@@ -85,11 +85,15 @@ abbrev pub total_lines : ℕ → ℕ → ℕ → List ℕ
 total_lines background tokens runs =
     named_line (codes "background") background ++ named_line (codes "tokens") tokens ++ named_line (codes "runs") runs
 
--- the report of a drive
-unfoldable pub report_of : List End → List Event → List LevelSize → List LevelStats → ℕ → ℕ → ServerStats → List ℕ
-report_of ends events levels counters background tokens stats =
-    concat (sections 0 ends events)
-    ++ level_lines 0 levels counters
+-- the report of a drive from its first level on
+unfoldable pub totals_of : List Event → List LevelSize → List LevelStats → ℕ → ℕ → ServerStats → List ℕ
+totals_of events levels counters background tokens stats =
+    level_lines 0 levels counters
     ++ total_lines background tokens (runs_in events)
     ++ counter_lines stats
     ++ codes "end\n"
+
+-- the report of a drive
+unfoldable pub report_of : List End → List Event → List LevelSize → List LevelStats → ℕ → ℕ → ServerStats → List ℕ
+report_of ends events levels counters background tokens stats =
+    concat (sections 0 ends events) ++ totals_of events levels counters background tokens stats

@@ -11,5 +11,5 @@ mod words;
 
 pub use ended::{Ended, exit_code, put_error};
 pub use laws::printed_replies_are_sent;
-pub use printing::{Report, put_report};
+pub use printing::{Report, put_report, put_totals};
 pub use words::put_version;

@@ -1,6 +1,6 @@
 //! The report of a drive.
 ghost use Rattle.std.specs.Prelude.{◌≡◌, ◌++◌, OnOk};
-ghost use Rattle.sc_main_report.specs.Report.{is_run, report_of, runs_in, total_lines};
+ghost use Rattle.sc_main_report.specs.Report.{is_run, report_of, runs_in, total_lines, totals_of};
 
 use crate::levels::put_levels;
 use crate::sections::put_sections;
@@ -49,7 +49,7 @@ fn count_runs(events: &[Event]) -> u64
     runs
 }
 
-fn put_totals(
+fn put_total_lines(
     alloc: Global,
     out: &mut Vec<u8>,
     background: u64,
@@ -63,8 +63,22 @@ fn put_totals(
     put_named(alloc, out, b"runs", runs)
 }
 
-/// Appends the report of a drive: what each connection came to and the replies that were sent on it, what the levels
-/// hold and count, what is left to write in the background, the free tokens, the runs, and the counters that aren't 0.
+/// Appends the report of a drive from its first level on: what the levels hold and count, what is left to write in the background,
+/// the free tokens, the runs, and the counters that aren't 0.
+#[tactic(auto, unfolding(crate::specs::Report::totals_of))]
+pub fn put_totals(alloc: Global, out: &mut Vec<u8>, report: &Report) -> Result<(), NoMemory>
+    ensures { let r = report.now in
+        OnOk result (out.new.items ≡ out.old.items
+        ++ totals_of r.events.now r.levels.now r.counters.now r.background r.tokens r.stats.now) }
+{
+    put_levels(alloc, out, report.levels, report.counters)?;
+    let runs = count_runs(report.events);
+    put_total_lines(alloc, out, report.background, report.tokens, runs)?;
+    put_counters(alloc, out, report.stats)?;
+    put(out, b"end\n")
+}
+
+/// Appends the report of a drive: what each connection came to and the replies that were sent on it, and what `put_totals` appends.
 #[tactic(auto, unfolding(crate::specs::Report::report_of))]
 pub fn put_report(alloc: Global, out: &mut Vec<u8>, report: &Report) -> Result<(), NoMemory>
     ensures { let r = report.now in
@@ -72,9 +86,5 @@ pub fn put_report(alloc: Global, out: &mut Vec<u8>, report: &Report) -> Result<(
         ++ report_of r.ends.now r.events.now r.levels.now r.counters.now r.background r.tokens r.stats.now) }
 {
     put_sections(alloc, out, report.ends, report.events)?;
-    put_levels(alloc, out, report.levels, report.counters)?;
-    let runs = count_runs(report.events);
-    put_totals(alloc, out, report.background, report.tokens, runs)?;
-    put_counters(alloc, out, report.stats)?;
-    put(out, b"end\n")
+    put_totals(alloc, out, report)
 }
