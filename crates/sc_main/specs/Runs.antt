@@ -6,13 +6,14 @@ use Rattle.sc_client.specs.declared.client_error.ClientError.{ClientError}
 use Rattle.sc_entry.specs.Causes.{Rose, Told}
 use Rattle.sc_entry.specs.Streams.{WritesAll}
 use Rattle.sc_main.specs.Platform.{Platform, Stage, connects, read, read_rose, told, tell_rose, wrote, write_rose}
-use Rattle.sc_main.specs.Scripted.{Reports}
+use Rattle.sc_main.specs.Scripted.{Reports, ReportsTotals}
 use Rattle.sc_main.specs.ServeCommand.{ServesDir}
 use Rattle.sc_main_client.specs.Asking.{AfterFirst, AsksAndShows, Over}
 use Rattle.sc_main_client.specs.Compiling.{CompileEnds, CompilesBy, CompilesOver, DoesCompile, MakesParts}
 use Rattle.sc_main_client.specs.Connecting.{Connects}
 use Rattle.sc_main_client.specs.Ending.{TextEnds}
 use Rattle.sc_main_client.specs.Printed.{dist_text, last_text, stats_text, stopping_line, zeroed_line}
+use Rattle.sc_main_drawn.specs.Drawn.{drawn_script}
 use Rattle.sc_main_report.specs.Ending.{error_line}
 use Rattle.sc_main_report.specs.Words.{version_line}
 use Rattle.sc_main_report.specs.declared.ended.Ended.{Ended}
@@ -55,6 +56,12 @@ DriveEnds read wrote read_rose write_rose WriteFault = write_rose
 DriveEnds read wrote read_rose write_rose LinkFault = ⊥
 DriveEnds read wrote read_rose write_rose Unexpected = ⊥
 
+-- The report, from its first level on, of a drive by the script of a number was written.
+pub record DroveDrawn (number : ℕ) (wrote : List ℕ → Type 0) : Type 0 where
+  pub text : List ℕ
+  pub reports : ReportsTotals (drawn_script number) text
+  pub written : wrote text
+
 -- Nothing was written where nothing was to be: the input is no script or could not be read.
 abbrev pub LeavesOut : {O : Type 0} → Ended → O → O → Type 0
 LeavesOut Usage old new = new ≡ old
@@ -92,6 +99,7 @@ module _ {S O E X C K P T M A L H : Type 0} where
   -- A command was done, and came to this end, of which nothing was told yet.
   abbrev pub Does : Platform S O E X C K P T M A L H → Command → Stage S O E X → Stage S O E X → Ended → Type 0
   Does p commands.Drive a b e = DriveEnds (read p a b) (wrote p a b) (read_rose p a b) (write_rose p a b) e × LeavesOut e a.out b.out × (b.err ≡ a.err)
+  Does p (commands.Generate number) a b e = TextEnds (DroveDrawn number (wrote p a b)) (write_rose p a b) e × (b.input ≡ a.input) × (b.err ≡ a.err)
   Does p commands.Help a b e = TextEnds (wrote p a b help_lines) (write_rose p a b) e × (b.err ≡ a.err)
   Does p commands.Version a b e = TextEnds (wrote p a b version_line) (write_rose p a b) e × (b.err ≡ a.err)
   Does p (commands.Serve addr dir bytes tokens) a b e =

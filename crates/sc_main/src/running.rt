@@ -1,22 +1,22 @@
 //! What the program does, by its words.
-ghost use Rattle.std.specs.Prelude.{◌≡◌, Ok, Result};
+ghost use Rattle.std.specs.Prelude.{◌≡◌, ◌≤◌, Ok, Result};
 ghost use Rattle.sc_client.specs.Conversations.{beginning};
 ghost use Rattle.sc_client.specs.Local.{KeepsPlan, Ran, RunsOne};
 ghost use Rattle.sc_entry.specs.Causes.{Rose, Told};
 ghost use Rattle.sc_entry.specs.Streams.{ReadsToEnd, WritesAll};
 ghost use Rattle.sc_main.specs.Platform.{stage};
-ghost use Rattle.sc_main.specs.Runs.{Does, DriveEnds, LeavesOut, Runs, TellsEnd, unread_end};
+ghost use Rattle.sc_main.specs.Runs.{Does, DriveEnds, DroveDrawn, LeavesOut, Runs, TellsEnd, unread_end};
 ghost use Rattle.sc_main.specs.Serving.{wire};
 ghost use Rattle.sc_main_client.specs.Ending.{TextEnds};
 ghost use Rattle.sc_main_report.specs.Words.{version_line};
 ghost use Rattle.sc_main_report.specs.declared.ended.Ended.TheVariants as ended;
-ghost use Rattle.sc_main_words.specs.Commands.{HasTokens, command_of};
+ghost use Rattle.sc_main_words.specs.Commands.{IsWithinLimits, command_of};
 ghost use Rattle.sc_main_words.specs.Parses.{Parses};
 ghost use Rattle.sc_main_words.specs.Texts.{help_lines};
 ghost use Rattle.sc_main_words.specs.declared.command.Command.{Command as Read};
 ghost use Rattle.sc_main_words.specs.declared.refusal.WordsRefusal.{WordsRefusal as Unread};
 
-use crate::scripted::drive_script;
+use crate::scripted::{drive_number, drive_script};
 use crate::serve_command::run_serve;
 use sc_command::CommandCreator;
 use sc_entry::{ByteText, ReadError, Sink, Source, WriteError, read_to_end, write_all};
@@ -54,6 +54,17 @@ fn run_drive<S: Source, O: Sink>(alloc: Global, input: &mut S, out: &mut O) -> E
         },
         Err(ReadError::NoMemory) => Ended::NoMemory,
         Err(ReadError::ReadFault) => Ended::ReadFault,
+    }
+}
+
+/// Drives a daemon by the script of a number up to 2,000, and writes the report from its first level on.
+fn run_generate<O: Sink>(alloc: Global, number: u64, out: &mut O) -> Ended
+    requires { number ≤ 2000 }
+    ensures { TextEnds (DroveDrawn number (λ text. Told (WritesAll text) (O.written out.old) (O.written out.new))) (Rose (O.fault_count out.old) (O.fault_count out.new)) result }
+{
+    match drive_number(alloc, number) {
+        Ok(text) => write_text(out, &text),
+        Err(_) => Ended::NoMemory,
     }
 }
 
@@ -111,7 +122,7 @@ fn done<S: Source, O: Sink, E: Sink, X: Outside>(
 ) -> Ended
 where
     <X::Creator as CommandCreator>::Cmd: Drop,
-    requires { HasTokens command }
+    requires { IsWithinLimits command }
     ensures { Does (record {
       left = S.left;
       input_faults = S.fault_count;
@@ -138,6 +149,7 @@ where
     let alloc = outside.alloc();
     match command {
         Command::Drive => run_drive(alloc, input, out),
+        Command::Generate(number) => run_generate(alloc, number, out),
         Command::Help => run_help(alloc, out),
         Command::Version => run_version(alloc, out),
         Command::Serve {
@@ -161,7 +173,8 @@ where
 }
 
 /// Does a command, and tells on standard error what end it came to, unless that is `Status`: one line. `drive` reads a script of at
-/// most 67,108,864 bytes, drives a daemon by it and writes the report; `serve` serves clients; the other commands ask a server.
+/// most 67,108,864 bytes, drives a daemon by it and writes the report; `generate` drives one by the script of a number, and writes the
+/// report from its first level on; `serve` serves clients; the other commands ask a server.
 pub fn run_command<S: Source, O: Sink, E: Sink, X: Outside>(
     command: Command,
     input: &mut S,
@@ -171,7 +184,7 @@ pub fn run_command<S: Source, O: Sink, E: Sink, X: Outside>(
 ) -> Ended
 where
     <X::Creator as CommandCreator>::Cmd: Drop,
-    requires { HasTokens command }
+    requires { IsWithinLimits command }
     ensures { Runs (record {
       left = S.left;
       input_faults = S.fault_count;

@@ -1,5 +1,6 @@
 //! What no script of the folder cases/ can show.
 mod ends;
+mod generating;
 mod linked;
 mod policies;
 mod serving;

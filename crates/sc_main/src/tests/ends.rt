@@ -7,14 +7,14 @@ use std::alloc::Global;
 use std::test::Fail;
 
 /// A run, and what it comes to.
-struct Row {
-    words: &'static [&'static [u8]],
-    input: &'static [u8],
+pub struct Row {
+    pub words: &'static [&'static [u8]],
+    pub input: &'static [u8],
     /// The calls that the input, the output and standard error refuse, counted from 1.
-    refused: [Option<u64>; 3],
-    code: u8,
-    printed: &'static [u8],
-    told: &'static [u8],
+    pub refused: [Option<u64>; 3],
+    pub code: u8,
+    pub printed: &'static [u8],
+    pub told: &'static [u8],
 }
 
 /// One compile that misses and is stored.
@@ -43,10 +43,23 @@ compilations 1
 end
 ";
 
-const USAGE: &[u8] =
-    b"usage: sccache drive | serve ADDR DIR BYTES TOKENS | compile ADDR EXE WORD.. | stats ADDR [--advanced] [--json] | zero ADDR | stop ADDR | dist-status ADDR\n";
+const TOTALS: &[u8] = b"level 0 43 1 hits 0 misses 1 writes 1 failures 0 from 0 to 0
+level 1 43 1 hits 0 misses 1 writes 1 failures 0 from 0 to 0
+background 0
+tokens 2
+runs 1
+compile_requests 1
+requests_executed 1
+cache_misses 1
+cache_writes 1
+compilations 1
+end
+";
 
-const ROWS: [Row; 13] = [
+const USAGE: &[u8] =
+    b"usage: sccache drive | generate N | serve ADDR DIR BYTES TOKENS | compile ADDR EXE WORD.. | stats ADDR [--advanced] [--json] | zero ADDR | stop ADDR | dist-status ADDR\n";
+
+const ROWS: [Row; 16] = [
     Row {
         words: &[b"drive"],
         input: SCRIPT,
@@ -94,6 +107,30 @@ const ROWS: [Row; 13] = [
         code: 124,
         printed: b"",
         told: b"",
+    },
+    Row {
+        words: &[b"generate", b"1"],
+        input: SCRIPT,
+        refused: [Some(1), None, None],
+        code: 0,
+        printed: TOTALS,
+        told: b"",
+    },
+    Row {
+        words: &[b"generate", b"1"],
+        input: SCRIPT,
+        refused: [None, Some(1), None],
+        code: 124,
+        printed: b"",
+        told: b"",
+    },
+    Row {
+        words: &[b"generate", b"2001"],
+        input: SCRIPT,
+        refused: [None, None, None],
+        code: 120,
+        printed: b"",
+        told: USAGE,
     },
     Row {
         words: &[b"serve", b"4226", b"/d", b"100", b"1"],
@@ -154,13 +191,13 @@ const ROWS: [Row; 13] = [
 ];
 
 #[derive(Drop)]
-struct Streams {
-    input: MemSource,
-    out: MemSink,
-    err: MemSink,
+pub struct Streams {
+    pub input: MemSource,
+    pub out: MemSink,
+    pub err: MemSink,
 }
 
-fn words_of(alloc: Global, row: &Row) -> Result<Vec<ByteText>, Fail> {
+pub fn words_of(alloc: Global, row: &Row) -> Result<Vec<ByteText>, Fail> {
     let mut words = Vec::new(alloc);
     for word in row.words {
         words.push(ByteText::from_slice(alloc, word)?)?;
@@ -177,7 +214,7 @@ fn calls(alloc: Global, refused: Option<u64>) -> Result<Calls, Fail> {
     Ok(Calls::failing_at(alloc, numbers)?)
 }
 
-fn streams_of(alloc: Global, row: &Row) -> Result<Streams, Fail> {
+pub fn streams_of(alloc: Global, row: &Row) -> Result<Streams, Fail> {
     let input = ByteText::from_slice(alloc, row.input)?;
     let [reads, writes, lines] = row.refused;
     let reads = calls(alloc, reads)?;
@@ -201,7 +238,7 @@ pub(super) fn no_parts(alloc: Global) -> MemOutside {
 }
 
 /// The exit code of a run over lent streams.
-fn code_of(alloc: Global, words: &[ByteText], streams: &mut Streams) -> u8 {
+pub fn code_of(alloc: Global, words: &[ByteText], streams: &mut Streams) -> u8 {
     let mut outside = no_parts(alloc);
     let ended = run(
         words,

@@ -73,7 +73,7 @@ impl<'a, K: Link> Link for ShownLink<'a, K> {
     }
 }
 
-/// An acceptor of such links.
+/// An acceptor of such links. It doesn't tell which are ready, so it never says that it is closed.
 #[derive(Drop)]
 pub(crate) struct ShownAcceptor<'a, A: Acceptor> {
     acceptor: A,

@@ -38,4 +38,4 @@ returns c =
       new = c.in_ok-daemon.ensures ∙ ap new_daemon (sym owned);
     } in
     if_ok c.reported-text.result c.reported-text.ensures
-    (λ text drove. reports c.args.script text.items d c.reported-text.new.daemon drove.driven c.as_slice.result.now c.as_slice-2.result.now begins (c.as_slice.ensures ∙ made.inputs) (c.as_slice-2.ensures ∙ made.steps) drove.headline drove.report)
+    (λ text drove. reports c.args.extent c.args.script text.items d c.reported-text.new.daemon drove.driven c.as_slice.result.now c.as_slice-2.result.now begins (c.as_slice.ensures ∙ made.inputs) (c.as_slice-2.ensures ∙ made.steps) drove.headline drove.report)
