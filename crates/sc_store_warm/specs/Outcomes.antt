@@ -1,0 +1,86 @@
+-- What warming leaves in both stores.
+use Rattle.std.specs.Prelude.{◌≡◌, ◌⊎◌, ◌+◌, ◌<◌, ◌≤◌, ℕ, true, List, [], ◌∷◌, length, Some, None}
+use Rattle.sc_disk_pair.specs.declared.part.Part.{Part}
+use Rattle.sc_disk_pair.specs.declared.part.Part.TheVariants.{Main, Pre}
+use Rattle.sc_entry.specs.Causes.{Rose}
+use Rattle.sc_model.specs.World.{Keeps_all, Level, find_file, main_path, part_size}
+use Rattle.sc_model.specs.declared.level.LevelKind.{LevelKind}
+use Rattle.sc_model.specs.declared.level.LevelKind.TheVariants.{Disk, Remote}
+use Rattle.sc_store.specs.Held.{HeldLevel}
+use Rattle.sc_store_alone.specs.Lookups.{AreSpelled}
+use Rattle.sc_store_alone.specs.Storages.{Alone, Layered, State, Wrapped}
+use Rattle.sc_store_disk.specs.Moving.{part_files}
+use Rattle.sc_store_warm.specs.Causes.{IfTells, held_under}
+use Rattle.sc_store_warm.specs.declared.warmed.Warmed.{Warmed}
+use Rattle.sc_store_warm.specs.declared.warmed.Warmed.TheVariants.{Copied}
+
+-- the entry was copied
+abbrev pub IsCopy : Warmed → Type 0
+IsCopy (Copied size) = Unit {0}
+IsCopy warmed = ⊥
+
+-- a key was listed
+abbrev pub IsListed : List ℕ → List (List ℕ) → Type 0
+IsListed key [] = ⊥
+IsListed key (first ∷ keys) = (first ≡ key) ⊎ IsListed key keys
+
+-- a key was copied, at one of its places
+abbrev pub IsCopied : List ℕ → List (List ℕ) → List Warmed → Type 0
+IsCopied key (first ∷ keys) (warmed ∷ rest) = ((first ≡ key) × IsCopy warmed) ⊎ IsCopied key keys rest
+IsCopied key keys rest = ⊥
+
+-- all bytes that were copied
+abbrev pub copied_bytes : List Warmed → ℕ
+copied_bytes [] = 0
+copied_bytes (Copied size ∷ rest) = size + copied_bytes rest
+copied_bytes (warmed ∷ rest) = copied_bytes rest
+
+-- each entry that was copied fits beside what is reserved
+abbrev pub FitEach : ℕ → ℕ → List Warmed → Type 0
+FitEach capacity reserved [] = Unit {0}
+FitEach capacity reserved (Copied size ∷ rest) = (size + reserved ≤ capacity) × FitEach capacity reserved rest
+FitEach capacity reserved (warmed ∷ rest) = FitEach capacity reserved rest
+
+-- What lookups leave of a store that stands alone: it is what it was and holds what it held, but for what a remote store finds
+-- lost, whose count of losses rises then.
+pub record LooksOnly (old new : HeldLevel) : Type 0 where
+  pub facts : new.facts ≡ old.facts
+  pub told : new.told ≡ old.told
+  pub losses : old.level.losses ≤ new.level.losses
+  pub keeps : old.told ≡ true → Keeps_all old.facts.kind old.level new.level
+
+-- the same behind a wrapper that is only read; a lookup over levels may put what it hits at the levels before
+abbrev pub SourceStays : State → State → Type 0
+SourceStays (Alone old) (Alone new) = LooksOnly old new
+SourceStays (Layered old) (Layered new) = Unit {0}
+SourceStays (Wrapped old) (Wrapped new) = SourceStays old new
+SourceStays old new = ⊥
+
+-- An eviction took a file for the entry of a listed key: at that moment the file was as it had been, and all files took, with
+-- what is reserved and that entry, more than the capacity.
+pub record WasEvicted (keys : List (List ℕ)) (from : State) (part : Part) (path : List ℕ) (old : HeldLevel) : Type 0 where
+  pub key : List ℕ
+  pub listed : IsListed key keys
+  pub bytes : List ℕ
+  pub spelled : AreSpelled bytes
+  pub wanted : IfTells from (λ source. held_under source key ≡ Some bytes)
+  pub moment : Level
+  pub there : find_file (part_files part moment) path ≡ find_file (part_files part old.level) path
+  pub over : old.facts.capacity < part_size moment + (old.room.reserved + length bytes)
+
+-- Why a file is gone: at a disk store it was evicted; a remote store found it lost, and keeps no preprocessor entries.
+abbrev pub WhyGone : LevelKind → List (List ℕ) → State → Part → List ℕ → HeldLevel → HeldLevel → Type 0
+WhyGone Disk keys from part path old new = WasEvicted keys from part path old
+WhyGone Remote keys from Main path old new = Rose old.level.losses new.level.losses
+WhyGone Remote keys from Pre path old new = ⊥
+
+-- What stands at a path is as it was, or it is gone.
+abbrev pub StaysOrGone : List (List ℕ) → State → Part → List ℕ → HeldLevel → HeldLevel → Type 0
+StaysOrGone keys from part path old new =
+    (find_file (part_files part new.level) path ≡ find_file (part_files part old.level) path)
+    ⊎ ((find_file (part_files part new.level) path ≡ None) × WhyGone old.facts.kind keys from part path old new)
+
+-- A path at which no entry was put: that of no key that was copied. No entry is put among those of the preprocessor.
+abbrev pub IsOther : Part → LevelKind → List ℕ → List (List ℕ) → List Warmed → Type 0
+IsOther Main kind path keys warmed = (key : List ℕ) → IsCopied key keys warmed → main_path kind key ≡ path → ⊥
+IsOther Pre kind path keys warmed = Unit {0}
