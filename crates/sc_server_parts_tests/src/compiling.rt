@@ -36,6 +36,27 @@ const FINISHED: &[u8] =
 /// What is behind that: nothing on standard error, and the colors that are asked for.
 const FINISHED_END: &[u8] = b"\x00\x00\x00\x00\x00\x00\x00\x00\x02\x00\x00\x00";
 
+/// What is sent of a compile whose child leaves no object: it failed with -2.
+const FAILED: &[u8] =
+    b"\x00\x00\x00\x08\x00\x00\x00\x00\x00\x00\x00\x00\x00\x00\x00\xd3\x05\x00\x00\x00\x01\xfe\xff\xff\xff\x00\x00\x00\x00\x00\x00\x00\x00\x00\xb5\x00\x00\x00\x00\x00\x00\x00sccache: encountered fatal error
+sccache: error: failed to zip up compiler outputs
+sccache: caused by: failed to zip up compiler outputs
+sccache: caused by: failed to open file obj
+\x02\x00\x00\x00";
+
+/// A compile: its key and the path of its object, what is sent of it, and how often the workshop failed by then.
+type Row = (&'static [u8], &'static [u8], &'static [&'static [u8]], u64);
+
+/// The first has a child; a second is a hit, and prints what the first did; a third brings the object to another path, where a
+/// child that leaves none is taken to have left it; the last has none.
+const ROWS: [Row; 5] = [
+    (b"abc1", b"a.o", &[FINISHED, b"one", FINISHED_END], 0),
+    (b"abc1", b"a.o", &[FINISHED, b"one", FINISHED_END], 0),
+    (b"abc1", b"b.o", &[FINISHED, b"one", FINISHED_END], 0),
+    (b"abc2", b"b.o", &[FINISHED, b"two", FINISHED_END], 0),
+    (b"abc3", b"c.o", &[FAILED], 1),
+];
+
 fn bytes(alloc: Global, text: &[u8]) -> Result<ByteText, NoMemory> {
     ByteText::from_slice(alloc, text)
 }
@@ -165,86 +186,57 @@ fn compile<P: Parts>(
     Err(Fail::from("it isn't served to its end"))
 }
 
-/// Whether it ends well and prints this.
-fn compiles<P: Parts>(
-    alloc: Global,
-    session: &mut Session<P>,
-    key: &[u8],
-    path: &[u8],
-    text: &[u8],
-) -> Result<bool, Fail> {
-    let sent = compile(alloc, session, key, path)?;
-    let wanted = [FINISHED, text, FINISHED_END].concat(alloc)?;
-    Ok(sent.as_slice() == wanted.as_slice())
-}
-
 /// How often the workshop failed.
 fn faults<P: Parts>(session: &Session<P>) -> u64 {
     session.daemon().owned().shop().faults()
 }
 
-/// Whether two compiles of the same bytes end as the first child did, so that only the first ran one.
-fn hits<P: Parts>(alloc: Global, session: &mut Session<P>) -> Result<bool, Fail> {
-    let first = compiles(alloc, session, b"abc1", b"a.o", b"one")?;
-    let second = compiles(alloc, session, b"abc1", b"a.o", b"one")?;
-    Ok(first && second && faults(session) == 0)
+/// Whether a compile comes to what its row says.
+fn comes_to<P: Parts>(alloc: Global, session: &mut Session<P>, row: Row) -> Result<bool, Fail> {
+    let (key, path, pieces, failed) = row;
+    let sent = compile(alloc, session, key, path)?;
+    let wanted = pieces.concat(alloc)?;
+    Ok(sent.as_slice() == wanted.as_slice() && faults(session) == failed)
 }
 
-/// Whether a hit under that key brings its object to another path: a child that leaves none is taken to have left it there.
-fn brings_back<P: Parts>(alloc: Global, session: &mut Session<P>) -> Result<bool, Fail> {
-    let placed = compiles(alloc, session, b"abc1", b"b.o", b"one")?;
-    let found = compiles(alloc, session, b"abc2", b"b.o", b"two")?;
-    Ok(placed && found && faults(session) == 0)
+/// How many compiles come to what their rows say, up to the first that doesn't.
+fn count<P: Parts>(alloc: Global, session: &mut Session<P>) -> Result<usize, Fail> {
+    for (number, row) in ROWS.iter().enumerate() {
+        if !comes_to(alloc, session, *row)? {
+            return Ok(number);
+        }
+    }
+    Ok(ROWS.len())
 }
 
-/// What standard error gets of a child that left no object.
-const LACKS: &[u8] = b"sccache: encountered fatal error
-sccache: error: failed to zip up compiler outputs
-sccache: caused by: failed to zip up compiler outputs
-sccache: caused by: failed to open file obj
-\x02\x00\x00\x00";
-
-/// Whether a compile whose child leaves no object fails, which is counted.
-fn misses_its_object<P: Parts>(alloc: Global, session: &mut Session<P>) -> Result<bool, Fail> {
-    let sent = compile(alloc, session, b"abc3", b"c.o")?;
-    Ok(sent.as_slice().ends_with(LACKS) && faults(session) == 1)
-}
-
-fn shows<P: Parts>(alloc: Global, session: &mut Session<P>) -> Result<[bool; 3], Fail> {
-    let hits = hits(alloc, session)?;
-    let brings = brings_back(alloc, session)?;
-    let misses = misses_its_object(alloc, session)?;
-    Ok([hits, brings, misses])
-}
-
-/// What a session of an idle daemon shows.
-fn shown_by<P: Parts>(alloc: Global, daemon: Daemon<P>) -> Result<[bool; 3], Fail>
+/// The same over an idle daemon.
+fn counted_by<P: Parts>(alloc: Global, daemon: Daemon<P>) -> Result<usize, Fail>
     requires { IsIdleDaemon daemon }
 {
     let mut session = Session::new(alloc, daemon);
-    let shown = shows(alloc, &mut session);
+    let counted = count(alloc, &mut session);
     discard_session(session);
-    shown
+    counted
 }
 
-/// What a daemon over these shows, if it is idle.
-fn shown_of<P: Parts>(alloc: Global, owned: Owned<P>) -> Result<[bool; 3], Fail> {
+/// The same over a daemon that is made of these, if it is idle.
+fn counted_of<P: Parts>(alloc: Global, owned: Owned<P>) -> Result<usize, Fail> {
     let daemon = Daemon::new(alloc, owned)?;
     if daemon.is_idle() {
-        return shown_by(alloc, daemon);
+        return counted_by(alloc, daemon);
     }
     discard_daemon(daemon);
     Err(Fail::from("it isn't idle"))
 }
 
 /// The same over levels and what compiles.
-fn shown_over<K, F, D, P>(
+fn counted_over<K, F, D, P>(
     alloc: Global,
     levels: Layered<NoRemote, D, Unvouched>,
     creator: K,
     files: F,
     finder: P,
-) -> Result<[bool; 3], Fail>
+) -> Result<usize, Fail>
 where
     K: CommandCreator + Drop,
     K::Cmd: Drop,
@@ -255,15 +247,14 @@ where
     requires unreserved { (level : ℕ) → (room_in levels.rooms level).reserved ≡ 0 }
 {
     let owned = daemon_over(levels, creator, files, finder, 2);
-    shown_of::<CommandParts<K, F, D, P>>(alloc, owned)
+    counted_of::<CommandParts<K, F, D, P>>(alloc, owned)
 }
 
-/// A second compile is a hit, and brings its object back; a run without its object is no success.
 #[test]
 fn compiles_and_hits(rt: HostRuntime) -> Result<(), Fail> {
     let (tools, files, creator) = compilers(rt.alloc())?;
     let levels = levels(rt.alloc())?;
-    let shown = shown_over(rt.alloc(), levels, creator, files, tools)?;
-    assert!(rt; shown == [true; 3], "{shown:?}");
+    let counted = counted_over(rt.alloc(), levels, creator, files, tools)?;
+    assert_eq!(rt; counted, ROWS.len());
     Ok(())
 }
