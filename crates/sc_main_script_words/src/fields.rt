@@ -1,5 +1,6 @@
 //! What a word says.
-ghost use Rattle.std.specs.Prelude.{◌≡◌, ◌<◌, ◌≤◌, List, ℕ, IfOk, IfSome, length};
+ghost use Rattle.std.specs.Prelude.{◌≡◌, ◌<◌, ◌≤◌, List, ℕ, [], true, IfOk, IfSome, length};
+ghost use Rattle.std.specs.List.{list_all};
 ghost use Rattle.std.specs.Option.{option_map};
 ghost use Rattle.std.specs.Str.{is_utf8};
 ghost use Rattle.sc_entry.specs.Keys.{is_key_byte, are_key_bytes, is_store_key};
@@ -73,6 +74,23 @@ pub fn stands_for_itself(byte: u8) -> bool
     33 <= byte && byte <= 126 && byte != b'\\'
 }
 
+fn all_stand(bytes: &[u8]) -> bool
+    ensures { result ≡ list_all stands bytes.now }
+{
+    bytes.iter().all(|byte| stands_for_itself(*byte))
+}
+
+/// The bytes of a token without an escape, which are its own.
+fn copied(alloc: Global, word: &[u8]) -> Result<ByteText, WordsError>
+    requires { list_all stands word.now ≡ true }
+    ensures { Means (bytes_onto [] word.now) result }
+{
+    match ByteText::from_slice(alloc, word) {
+        Ok(bytes) => Ok(bytes),
+        Err(_) => Err(WordsError::NoMemory),
+    }
+}
+
 fn hex_digit(byte: u8) -> Option<u8>
     ensures value { result ≡ hex_digit byte }
     ensures small { IfSome result (λ d. d < 16) }
@@ -109,21 +127,10 @@ fn escape(first: u8, text: &[u8]) -> Option<(u8, &[u8])>
     }
 }
 
-/// The bytes of a token, in which a byte stands for itself or is an escape. A lone dash is no bytes.
-///
-/// # Errors
-///
-/// `Malformed` where the word is no token.
-#[tactic(auto, unfolding(crate::specs::Fields::bytes_of_token))]
-pub fn token(alloc: Global, word: &[u8]) -> Result<ByteText, WordsError>
-    ensures { Means (bytes_of_token word.now) result }
+/// The bytes of a token in which some byte may be an escape.
+fn unescaped(alloc: Global, word: &[u8]) -> Result<ByteText, WordsError>
+    ensures { Means (bytes_onto [] word.now) result }
 {
-    if word.is_empty() {
-        return Err(WordsError::Malformed);
-    }
-    if word == b"-".as_slice() {
-        return Ok(ByteText::new(alloc));
-    }
     let mut bytes = ByteText::new(alloc);
     let mut left = word;
     while let [first, rest @ ..] = left {
@@ -141,6 +148,28 @@ pub fn token(alloc: Global, word: &[u8]) -> Result<ByteText, WordsError>
         }
     }
     Ok(bytes)
+}
+
+/// The bytes of a token, in which a byte stands for itself or is an escape. A lone dash is no bytes.
+///
+/// # Errors
+///
+/// `Malformed` where the word is no token.
+#[tactic(auto, unfolding(crate::specs::Fields::bytes_of_token))]
+pub fn token(alloc: Global, word: &[u8]) -> Result<ByteText, WordsError>
+    ensures { Means (bytes_of_token word.now) result }
+{
+    if word.is_empty() {
+        return Err(WordsError::Malformed);
+    }
+    if word == b"-".as_slice() {
+        return Ok(ByteText::new(alloc));
+    }
+    // Most tokens have no escape, and are copied at once.
+    if all_stand(word) {
+        return copied(alloc, word);
+    }
+    unescaped(alloc, word)
 }
 
 /// Bytes that are UTF-8, as a text.

@@ -1,6 +1,6 @@
 use Rattle.std.proofs.Common.{◌≡◌, [], length}
 use Rattle.sc_main_script_words.specs.Fields.{bytes_onto}
-use Rattle.sc_main_script_words.proofs.fields.token.Given as goal
+use Rattle.sc_main_script_words.proofs.fields.unescaped.Given as goal
 
 abbrev pub invariant-loop-left : goal.invariant-loop-left
 invariant-loop-left l = bytes_onto l.bytes l.left ≡ bytes_onto [] l.fn.word
