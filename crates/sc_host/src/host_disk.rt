@@ -5,6 +5,7 @@ ghost use Rattle.sc_disk.specs.Disks.{untold_disk};
 ghost use Rattle.sc_disk.specs.declared.disk.DiskError.TheVariants as disk_errors;
 
 use crate::host_paths::host_path;
+use crate::whole_file::read_whole;
 use sc_disk::{Disk, DiskError, Listed};
 use sc_entry::{ByteText, Items, Text};
 use std::alloc::Global;
@@ -151,7 +152,7 @@ fn adopt_file<R: AllocGlobal + fs::Files>(
     outside: &ByteText,
     path: &Text,
 ) -> io::Result<()> {
-    let bytes = fs::read(rt, host_path(outside)?)?;
+    let (bytes, _) = read_whole(rt, host_path(outside)?)?;
     append_file(rt, root, path, bytes.as_slice())
 }
 
@@ -166,7 +167,8 @@ fn read_file<R: AllocGlobal + fs::Files>(
     path: &Text,
 ) -> io::Result<ByteText> {
     let path = path_of(rt, root, path.as_str())?;
-    Ok(ByteText::from_vec(fs::read(rt, path.as_str())?))
+    let (bytes, _) = read_whole(rt, path.as_str())?;
+    Ok(bytes)
 }
 
 fn rename_file<R: AllocGlobal + fs::Files>(

@@ -4,6 +4,7 @@ ghost use Rattle.sc_entry.specs.Failing.{one_more};
 ghost use Rattle.sc_entry.specs.declared.file_error.FileError.TheVariants as file_errors;
 
 use crate::host_paths::host_path;
+use crate::whole_file::read_whole;
 use sc_entry::{ByteText, FileContent, FileError, Files};
 use std::fs::Permissions;
 use std::os::unix::fs::{MetadataExt, PermissionsExt};
@@ -41,12 +42,10 @@ fn read_file<R: AllocGlobal + fs::Files + Clone + Drop>(
     rt: &R,
     path: &ByteText,
 ) -> io::Result<FileContent> {
-    let path = host_path(path)?;
-    let bytes = fs::read(rt, path)?;
-    let mode = fs::metadata(rt, path)?.mode() & MODE_BITS;
+    let (bytes, metadata) = read_whole(rt, host_path(path)?)?;
     Ok(FileContent {
-        bytes: ByteText::from_vec(bytes),
-        mode: Some(mode),
+        bytes,
+        mode: Some(metadata.mode() & MODE_BITS),
     })
 }
 

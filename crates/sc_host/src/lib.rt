@@ -12,6 +12,7 @@ mod process_creator;
 mod process_fault;
 mod real_streams;
 mod system_command;
+mod whole_file;
 
 pub use async_command::AsyncCommand;
 pub use child::Child;
