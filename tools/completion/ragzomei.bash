@@ -1,14 +1,14 @@
 # Completes the commands and flags of ragzomei in bash.
 _ragzomei() {
     local word=${COMP_WORDS[COMP_CWORD]}
-    local commands='drive generate serve compile stats zero stop dist-status --help --version'
+    local commands='drive generate serve compile stats zero stop dist-status warm dry --help --version'
     COMPREPLY=()
     if [ "$COMP_CWORD" -eq 1 ]; then
         mapfile -t COMPREPLY < <(compgen -W "$commands" -- "$word")
         return
     fi
     case ${COMP_WORDS[1]} in
-    drive | generate | --help | --version) return ;;
+    drive | generate | warm | dry | --help | --version) return ;;
     stats)
         if [ "$COMP_CWORD" -gt 2 ]; then
             mapfile -t COMPREPLY < <(compgen -W '--advanced --json' -- "$word")

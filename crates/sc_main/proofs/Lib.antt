@@ -4,6 +4,7 @@ pub mod Going
 pub mod Reading
 pub mod Reporting
 pub mod Settling
+pub mod Standing
 pub mod Starting
 pub mod Tokens
 pub mod Turning

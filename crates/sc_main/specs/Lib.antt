@@ -1,8 +1,10 @@
 pub mod Accepting
 pub mod Deeds
+pub mod Inputs
 pub mod Platform
 pub mod Progress
 pub mod Runs
 pub mod Scripted
 pub mod ServeCommand
 pub mod Serving
+pub mod Warming

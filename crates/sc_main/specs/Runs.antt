@@ -5,6 +5,7 @@ use Rattle.sc_client.specs.Local.{local_words}
 use Rattle.sc_client.specs.declared.client_error.ClientError.{ClientError}
 use Rattle.sc_entry.specs.Causes.{Rose, Told}
 use Rattle.sc_entry.specs.Streams.{WritesAll}
+use Rattle.sc_main.specs.Inputs.{AreNoUses, InputEnds, IsDryReport, IsWarmReport, SaysNoWarming}
 use Rattle.sc_main.specs.Platform.{Platform, Stage, connects, read, read_rose, told, tell_rose, wrote, write_rose}
 use Rattle.sc_main.specs.Scripted.{Reports, ReportsTotals}
 use Rattle.sc_main.specs.ServeCommand.{ServesDir}
@@ -100,6 +101,10 @@ module _ {S O E X C K P T M A L H : Type 0} where
   abbrev pub Does : Platform S O E X C K P T M A L H → Command → Stage S O E X → Stage S O E X → Ended → Type 0
   Does p commands.Drive a b e = DriveEnds (read p a b) (wrote p a b) (read_rose p a b) (write_rose p a b) e × LeavesOut e a.out b.out × (b.err ≡ a.err)
   Does p (commands.Generate number) a b e = TextEnds (DroveDrawn number (wrote p a b)) (write_rose p a b) e × (b.input ≡ a.input) × (b.err ≡ a.err)
+  Does p commands.Warm a b e =
+      InputEnds IsWarmReport SaysNoWarming (read p a b) (wrote p a b) (read_rose p a b) (write_rose p a b) e × LeavesOut e a.out b.out × (b.err ≡ a.err)
+  Does p (commands.Dry capacities) a b e =
+      InputEnds (IsDryReport capacities) AreNoUses (read p a b) (wrote p a b) (read_rose p a b) (write_rose p a b) e × LeavesOut e a.out b.out × (b.err ≡ a.err)
   Does p commands.Help a b e = TextEnds (wrote p a b help_lines) (write_rose p a b) e × (b.err ≡ a.err)
   Does p commands.Version a b e = TextEnds (wrote p a b version_line) (write_rose p a b) e × (b.err ≡ a.err)
   Does p (commands.Serve addr dir bytes tokens) a b e =

@@ -4,6 +4,7 @@
 mod accepting;
 mod after_accept;
 mod answering;
+mod input_reports;
 mod link_end;
 mod printing;
 mod running;
@@ -13,6 +14,8 @@ mod serve_error;
 mod serving;
 #[cfg(test)]
 mod tests;
+mod warm_lines;
+mod warming;
 mod words;
 
 ghost use Rattle.std.specs.Prelude.{◌≡◌, drop};

@@ -16,6 +16,7 @@ ghost use Rattle.sc_main_words.specs.Texts.{help_lines};
 ghost use Rattle.sc_main_words.specs.declared.command.Command.{Command as Read};
 ghost use Rattle.sc_main_words.specs.declared.refusal.WordsRefusal.{WordsRefusal as Unread};
 
+use crate::input_reports::{MOST, run_dry, run_warm, write_text};
 use crate::scripted::{drive_number, drive_script};
 use crate::serve_command::run_serve;
 use sc_command::CommandCreator;
@@ -26,20 +27,6 @@ use sc_main_report::{Ended, put_error, put_version};
 use sc_main_script::ScriptError;
 use sc_main_words::{Command, WordsRefusal, parse_words, put_help};
 use std::alloc::Global;
-
-/// The most bytes that a script may have.
-const MOST: usize = 67_108_864;
-
-/// Writes a text, which is all that is left to do.
-fn write_text<O: Sink>(out: &mut O, text: &[u8]) -> Ended
-    ensures { TextEnds (Told (WritesAll text.now) (O.written out.old) (O.written out.new)) (Rose (O.fault_count out.old) (O.fault_count out.new)) result }
-{
-    match write_all(out, text) {
-        Ok(()) => Ended::Status(0),
-        Err(WriteError::NoMemory) => Ended::NoMemory,
-        Err(WriteError::WriteFault) => Ended::WriteFault,
-    }
-}
 
 /// Reads a script, drives a daemon by it, and writes the report.
 fn run_drive<S: Source, O: Sink>(alloc: Global, input: &mut S, out: &mut O) -> Ended
@@ -150,6 +137,8 @@ where
     match command {
         Command::Drive => run_drive(alloc, input, out),
         Command::Generate(number) => run_generate(alloc, number, out),
+        Command::Warm => run_warm(alloc, input, out),
+        Command::Dry(capacities) => run_dry(alloc, input, capacities.as_slice(), out),
         Command::Help => run_help(alloc, out),
         Command::Version => run_version(alloc, out),
         Command::Serve {
@@ -174,7 +163,8 @@ where
 
 /// Does a command, and tells on standard error what end it came to, unless that is `Status`: one line. `drive` reads a script of at
 /// most 67,108,864 bytes, drives a daemon by it and writes the report; `generate` drives one by the script of a number, and writes the
-/// report from its first level on; `serve` serves clients; the other commands ask a server.
+/// report from its first level on; `warm` and `dry` report on what the input says; `serve` serves clients; the other commands ask a
+/// server.
 pub fn run_command<S: Source, O: Sink, E: Sink, X: Outside>(
     command: Command,
     input: &mut S,

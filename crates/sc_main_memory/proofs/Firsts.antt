@@ -26,7 +26,7 @@ unfolding same_outside
 nothing_outside = ap (λ (es : List (List ℕ × List ℕ)). pointwise same_pair es es) (no_list (map.entries (outside_of [])) (sym (map.len-entries (outside_of [])) ∙ map.len-empty (slice_cmp nat_cmp) (List ℕ)))
 
 -- each tells what it holds
-kind_tells : (kind : LevelKind) (level : ℕ) (rule : LevelRule) → (held_as kind level rule).told ≡ true
+pub kind_tells : (kind : LevelKind) (level : ℕ) (rule : LevelRule) → (held_as kind level rule).told ≡ true
 kind_tells Disk level rule = rw nothing_outside refl
 kind_tells Remote level rule = refl
 

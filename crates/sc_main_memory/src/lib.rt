@@ -5,6 +5,6 @@ mod making;
 mod memory;
 mod sizes;
 
-pub use making::{Made, make};
+pub use making::{Made, level, make};
 pub use memory::Memory;
-pub use sizes::level_sizes;
+pub use sizes::{level_size, level_sizes};

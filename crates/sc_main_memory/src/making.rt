@@ -134,8 +134,9 @@ fn disk_level(
     Ok(Level::Disk(store))
 }
 
-/// The level of this number.
-fn level(
+/// The level of this number, as a drive makes it of what a script says. It isn't opened, and its device refuses the calls of the
+/// numbers that the rule names.
+pub fn level(
     alloc: Global,
     level: usize,
     rule: LevelRule,

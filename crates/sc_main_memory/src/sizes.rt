@@ -38,7 +38,9 @@ fn remote_size(store: &RemoteStorage<MemRemote, Unvouched>) -> LevelSize
     }
 }
 
-fn size_of(level: &Level<MemRemote, MemDisk, Unvouched>) -> Result<LevelSize, NoMemory>
+/// How many bytes a level holds and has reserved, and at how many paths it holds some. A disk level need not be opened: it is told
+/// what an opening would keep.
+pub fn level_size(level: &Level<MemRemote, MemDisk, Unvouched>) -> Result<LevelSize, NoMemory>
     ensures { (held_level level.now).told ≡ true → IfOk result (λ size. size ≡ size_of (held_level level.now).room.reserved (held_level level.now).level) }
 {
     match level {
@@ -57,13 +59,12 @@ fn sizes_of(
 {
     let mut sizes = Vec::new(alloc);
     for level in 0..levels.len() {
-        sizes.push(size_of(levels.get(level))?)?;
+        sizes.push(level_size(levels.get(level))?)?;
     }
     Ok(sizes)
 }
 
-/// How many bytes each level holds and has reserved, and at how many paths it holds some. A disk level need not be opened: it
-/// is told what an opening would keep.
+/// The size of each level in their order, as `level_size` tells it.
 pub fn level_sizes(alloc: Global, owned: &Owned<Memory>) -> Result<Vec<LevelSize>, NoMemory>
     ensures { owned.now.told ≡ true → IfOk result (λ sizes. sizes.items ≡ sizes_of (reserved_in owned.now) owned.now.world.levels) }
 {

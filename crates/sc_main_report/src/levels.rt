@@ -82,7 +82,7 @@ fn counters_of(counters: &[LevelStats], level: usize) -> Option<&LevelStats>
     counters.get(level)
 }
 
-/// Appends a line for each level, with what it counts where that is given.
+/// Appends a line for each level, counted from 0, with what it counts where that is given.
 pub fn put_levels(
     alloc: Global,
     out: &mut Vec<u8>,

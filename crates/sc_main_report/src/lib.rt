@@ -11,5 +11,6 @@ mod words;
 
 pub use ended::{Ended, exit_code, put_error};
 pub use laws::printed_replies_are_sent;
+pub use levels::put_levels;
 pub use printing::{Report, put_report, put_totals};
 pub use words::put_version;

@@ -160,7 +160,7 @@ good_lines all n d (part ∷ parts) s g e = by_test (length parts == 0) _ _ _
     (λ last is. by_test (all && length part == 0) _ _ _ (λ empty. good_end n d s g) (λ same. absurd (cc)) is)
     (λ is. by_go n (with_text d part) _ s (λ f told. good_lines all (n + 1) f parts s (good_text d f part g told)) is) e
 
-good_nothing : GoodDraft nothing
+pub good_nothing : GoodDraft nothing
 good_nothing = record { tokens = refl; limit = refl; levels = refl; few = lit≤ tt; answers = refl; places = refl; jobs = refl }
 
 by_good : (r : Result Script ℕ) (s : Script) → good r ≡ Some s → r ≡ Ok s

@@ -26,7 +26,7 @@ const MOST_LEVELS: usize = 16;
 /// The most steps that a script may have, each repeat counted.
 const MOST_STEPS: u64 = 10_000_000;
 
-/// What the lines so far say.
+/// What the lines of a script so far say.
 #[derive(Drop)]
 pub struct Draft {
     /// Whether the first line has come.
@@ -35,20 +35,29 @@ pub struct Draft {
     pub started: bool,
     /// Whether the number of connections has come.
     pub connected: bool,
+    /// How many tokens there are, where a line said it.
     pub tokens: Option<u64>,
+    /// How many bytes a frame's payload may have, where a line said it.
     pub limit: Option<u64>,
+    /// How the levels are written, where a line said it.
     pub policy: Option<PolicyName>,
     /// The levels' own policies.
     pub words: Items<LevelPolicy>,
+    /// The levels in their order.
     pub levels: LevelRules,
     /// Each level's keys that are held.
     pub held: Counts,
     pub tools: Items<Tool>,
     pub runs: Items<RunRule>,
+    /// Why key steps give no key.
     pub keys: Items<KeyLine>,
+    /// Why placings fail.
     pub places: Items<PlaceRule>,
+    /// What distributed jobs come to.
     pub jobs: Items<JobRule>,
+    /// What comes on each connection.
     pub inputs: Inputs,
+    /// Each step by itself.
     pub steps: Items<Step>,
 }
 
@@ -367,6 +376,10 @@ impl Draft {
     }
 
     /// Adds a line, where it may stand here.
+    ///
+    /// # Errors
+    ///
+    /// `Malformed` where it may not.
     #[tactic(auto, unfolding(crate::specs::Scripts::with_line))]
     pub fn add(&mut self, alloc: Global, line: Line) -> Result<(), WordsError>
         ensures { Leaves (with_line self.old line) result self.new }
@@ -401,6 +414,10 @@ impl Draft {
     }
 
     /// The script that the lines so far are, where `number` counts the line behind the last.
+    ///
+    /// # Errors
+    ///
+    /// `Bad` with that number where they are no whole script.
     pub fn finish(self, alloc: Global, number: u64) -> Result<Script, ScriptError>
         ensures { Answers (finished number self) result }
     {

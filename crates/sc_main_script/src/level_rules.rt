@@ -32,6 +32,7 @@ impl LevelRules {
         }
     }
 
+    /// How many levels there are.
     pub fn len(&self) -> usize
         ensures { result ≡ length self.now }
     {

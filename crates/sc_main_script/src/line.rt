@@ -20,6 +20,7 @@ pub struct LevelLine {
 /// What a level holds at the start.
 #[derive(Drop)]
 pub struct HoldLine {
+    /// The level's number, counted from 0.
     pub level: u64,
     pub key: Text,
     pub bytes: ByteText,

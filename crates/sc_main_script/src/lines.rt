@@ -429,7 +429,11 @@ fn body(alloc: Global, keyword: Keyword, words: &mut LineWords<'_>) -> Result<Li
     }
 }
 
-/// What a line says.
+/// What a line says, by all its words.
+///
+/// # Errors
+///
+/// `Malformed` where they are no line of a script.
 #[tactic(auto, unfolding(crate::specs::Lines::line_of_words))]
 pub fn line_at(alloc: Global, words: &mut LineWords<'_>) -> Result<Line, WordsError>
     ensures { Means (line_of_words words.old) result }

@@ -146,7 +146,7 @@ fn ample_put_error(rt: HostRuntime) -> Result<(), Fail> {
         (
             Ended::Usage,
             120,
-            b"usage: sccache drive | generate N | serve ADDR DIR BYTES TOKENS | compile ADDR EXE WORD.. | stats ADDR [--advanced] [--json] | zero ADDR | stop ADDR | dist-status ADDR\n",
+            b"usage: sccache drive | generate N | serve ADDR DIR BYTES TOKENS | compile ADDR EXE WORD.. | stats ADDR [--advanced] [--json] | zero ADDR | stop ADDR | dist-status ADDR | warm | dry CAP..\n",
         ),
         (Ended::BadScript(2), 121, b"bad script at line 2\n"),
         (Ended::NoMemory, 122, b"out of memory\n"),

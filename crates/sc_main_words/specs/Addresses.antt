@@ -3,7 +3,6 @@ use Rattle.std.specs.Prelude.{ℕ, List, [], ◌∷◌, Option, option_map, Bool
 use Rattle.std.specs.Str.{is_utf8}
 use Rattle.std.specs.declared.net.ipv4_addr.TheConstants.Ipv4Addr.{LOCALHOST}
 use Rattle.sc_wire_address.specs.Addresses.{parsed}
-use Rattle.sc_wire_address.specs.declared.socket_addr.NetAddr.{NetAddr}
 use Rattle.sc_wire_address.specs.declared.socket_addr.SocketAddr.{SocketAddr}
 use Rattle.sc_wire_address.specs.declared.socket_addr.SocketAddr.TheVariants.{Net}
 use Rattle.sc_words.specs.Words.{◌>>=◌, only_if}

@@ -1,5 +1,5 @@
 -- Which words are a command.
-use Rattle.std.specs.Prelude.{◌≤◌, ℕ, List, [], ◌∷◌, Bool, Option, Some, None, codes}
+use Rattle.std.specs.Prelude.{◌≤◌, ℕ, List, [], ◌∷◌, ◌++◌, Bool, Option, Some, None, codes}
 use Rattle.sc_words.specs.Words.{Reader, flag, word}
 use Rattle.sc_words.specs.Words.{◌>>=◌ as ◌then◌}
 use Rattle.sc_words.specs.Readers.{◌>>=◌, gives, field}
@@ -7,13 +7,18 @@ use Rattle.sc_main_script_words.specs.Fields.{number_in, number_of}
 use Rattle.sc_main_words.specs.Addresses.{address_of}
 use Rattle.sc_main_words.specs.Names.{command_name}
 use Rattle.sc_main_words.specs.declared.command.Command.{Command}
-use Rattle.sc_main_words.specs.declared.command.Command.TheVariants.{Drive, Generate, Serve, Compile, Stats, Zero, Stop, DistStatus, Help, Version}
+use Rattle.sc_main_words.specs.declared.command.Command.TheVariants.{Drive, Generate, Serve, Compile, Stats, Zero, Stop, DistStatus, Warm, Dry, Help, Version}
 use Rattle.sc_main_words.specs.declared.command_name.CommandName.{CommandName}
 use Rattle.sc_main_words.specs.declared.command_name.CommandName.TheVariants as name
 
 -- all words that are left, as they are
 abbrev pub all_words : Reader (List (List ℕ))
 all_words ws = Some (ws, [])
+
+-- numbers so far, and then those that all words that are left are
+abbrev pub numbers_onto : List ℕ → Reader (List ℕ)
+numbers_onto ns [] = Some (ns, [])
+numbers_onto ns (w ∷ ws) = number_of w then (λ n. numbers_onto (ns ++ n ∷ []) ws)
 
 -- whether the next word is this one, which is taken then
 abbrev pub may_have : List ℕ → Reader Bool
@@ -68,6 +73,12 @@ dist_status_command = do
   addr ← field address_of
   gives (DistStatus addr)
 
+-- dry CAP.., where no CAP need be there
+unfoldable pub dry_command : Reader Command
+dry_command = do
+  capacities ← numbers_onto []
+  gives (Dry capacities)
+
 -- what stands behind a command's name
 unfoldable pub command_words : CommandName → Reader Command
 command_words name.Drive = gives Drive
@@ -78,6 +89,8 @@ command_words name.Stats = stats_command
 command_words name.Zero = zero_command
 command_words name.Stop = stop_command
 command_words name.DistStatus = dist_status_command
+command_words name.Warm = gives Warm
+command_words name.Dry = dry_command
 command_words name.Help = gives Help
 command_words name.Version = gives Version
 

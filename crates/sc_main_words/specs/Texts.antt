@@ -3,7 +3,7 @@ use Rattle.std.specs.Prelude.{ℕ, List, ◌++◌, codes}
 
 abbrev pub usage_line : List ℕ
 usage_line =
-    codes "usage: sccache drive | generate N | serve ADDR DIR BYTES TOKENS | compile ADDR EXE WORD.. | stats ADDR [--advanced] [--json] | zero ADDR | stop ADDR | dist-status ADDR\n"
+    codes "usage: sccache drive | generate N | serve ADDR DIR BYTES TOKENS | compile ADDR EXE WORD.. | stats ADDR [--advanced] [--json] | zero ADDR | stop ADDR | dist-status ADDR | warm | dry CAP..\n"
 
 abbrev pub drive_line : List ℕ
 drive_line = codes "drive: reads a script from standard input, drives a daemon by it, and prints the report\n"
@@ -30,6 +30,12 @@ stop_line = codes "stop: stops the server at ADDR, and prints its statistics\n"
 abbrev pub dist_status_line : List ℕ
 dist_status_line = codes "dist-status: prints how the distributed compilation of the server at ADDR stands, as JSON\n"
 
+abbrev pub warm_line : List ℕ
+warm_line = codes "warm: reads a script of two levels and of keys from standard input, copies the keys' entries from the first level to the second, and prints what became of each\n"
+
+abbrev pub dry_line : List ℕ
+dry_line = codes "dry: reads the uses of a cache from standard input, lines get KEY and put KEY SIZE, and prints for each capacity CAP, in bytes, what they find there\n"
+
 abbrev pub help_line : List ℕ
 help_line = codes "--help: prints this text\n"
 
@@ -47,9 +53,13 @@ client_lines = compile_line ++ stats_line ++ zero_line
 abbrev pub server_end_lines : List ℕ
 server_end_lines = stop_line ++ dist_status_line
 
+-- those that read stores and uses, and ask no server
+abbrev pub planning_lines : List ℕ
+planning_lines = warm_line ++ dry_line
+
 abbrev pub own_lines : List ℕ
 own_lines = help_line ++ version_help_line
 
 -- the usage, and a line for each command of what it does
 abbrev pub help_lines : List ℕ
-help_lines = usage_line ++ server_lines ++ client_lines ++ server_end_lines ++ own_lines
+help_lines = usage_line ++ server_lines ++ client_lines ++ server_end_lines ++ planning_lines ++ own_lines

@@ -54,6 +54,10 @@ pub enum Command {
         /// Where the server listens.
         addr: SocketAddr,
     },
+    /// Reads two stores and a list of keys, copies the keys' entries from one store into the other, and reports.
+    Warm,
+    /// Reads uses of a cache, and reports what they find at each of these capacities in bytes: a line each, in this order.
+    Dry(Items<u64>),
     /// Prints the usage and what each command does.
     Help,
     /// Prints the program's version.

@@ -15,6 +15,8 @@ pub enum CommandName {
     Zero,
     Stop,
     DistStatus,
+    Warm,
+    Dry,
     Help,
     Version,
 }
@@ -51,6 +53,12 @@ pub fn command_name(word: &[u8]) -> Result<CommandName, WordsError>
     }
     if word == b"dist-status".as_slice() {
         return Ok(CommandName::DistStatus);
+    }
+    if word == b"warm".as_slice() {
+        return Ok(CommandName::Warm);
+    }
+    if word == b"dry".as_slice() {
+        return Ok(CommandName::Dry);
     }
     if word == b"--help".as_slice() {
         return Ok(CommandName::Help);

@@ -1,6 +1,6 @@
 //! What the program prints of its commands.
 ghost use Rattle.std.specs.Prelude.{◌≡◌, ◌++◌, OnOk};
-ghost use Rattle.sc_main_words.specs.Texts.{client_lines, help_lines, own_lines, server_end_lines, server_lines, usage_line};
+ghost use Rattle.sc_main_words.specs.Texts.{client_lines, help_lines, own_lines, planning_lines, server_end_lines, server_lines, usage_line};
 
 use sc_entry::NoMemory;
 use sc_words::put;
@@ -15,7 +15,7 @@ pub fn put_usage(out: &mut Vec<u8>) -> Result<(), NoMemory>
 {
     put(
         out,
-        b"usage: sccache drive | generate N | serve ADDR DIR BYTES TOKENS | compile ADDR EXE WORD.. | stats ADDR [--advanced] [--json] | zero ADDR | stop ADDR | dist-status ADDR\n",
+        b"usage: sccache drive | generate N | serve ADDR DIR BYTES TOKENS | compile ADDR EXE WORD.. | stats ADDR [--advanced] [--json] | zero ADDR | stop ADDR | dist-status ADDR | warm | dry CAP..\n",
     )
 }
 
@@ -66,6 +66,19 @@ fn put_server_end(out: &mut Vec<u8>) -> Result<(), NoMemory>
     )
 }
 
+fn put_planning(out: &mut Vec<u8>) -> Result<(), NoMemory>
+    ensures { OnOk result (out.new.items ≡ out.old.items ++ planning_lines) }
+{
+    put(
+        out,
+        b"warm: reads a script of two levels and of keys from standard input, copies the keys' entries from the first level to the second, and prints what became of each\n",
+    )?;
+    put(
+        out,
+        b"dry: reads the uses of a cache from standard input, lines get KEY and put KEY SIZE, and prints for each capacity CAP, in bytes, what they find there\n",
+    )
+}
+
 fn put_own(out: &mut Vec<u8>) -> Result<(), NoMemory>
     ensures { OnOk result (out.new.items ≡ out.old.items ++ own_lines) }
 {
@@ -85,5 +98,6 @@ pub fn put_help(out: &mut Vec<u8>) -> Result<(), NoMemory>
     put_server(out)?;
     put_client(out)?;
     put_server_end(out)?;
+    put_planning(out)?;
     put_own(out)
 }

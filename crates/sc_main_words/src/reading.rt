@@ -1,7 +1,7 @@
 //! The command that words are.
-ghost use Rattle.std.specs.Prelude.{◌≡◌, IfOk};
+ghost use Rattle.std.specs.Prelude.{◌≡◌, [], IfOk};
 ghost use Rattle.sc_words.specs.Words.{Means, Reads};
-ghost use Rattle.sc_main_words.specs.Commands.{IsWithinLimits, all_words, command_of, command_words, compile_command, dist_status_command, generate_command, serve_command, stats_command, stop_command, zero_command};
+ghost use Rattle.sc_main_words.specs.Commands.{IsWithinLimits, all_words, command_of, command_words, compile_command, dist_status_command, dry_command, generate_command, numbers_onto, serve_command, stats_command, stop_command, zero_command};
 ghost use Rattle.sc_main_words.specs.Parses.{Parses};
 
 use crate::address::address;
@@ -20,6 +20,17 @@ fn all_words(alloc: Global, words: &mut Words<'_>) -> Result<Items<ByteText>, Wo
     let mut items = Items::new(alloc);
     while let Some(word) = words.next() {
         items.push(word.try_clone()?)?;
+    }
+    Ok(items)
+}
+
+/// The numbers that all words that are left are.
+fn numbers(alloc: Global, words: &mut Words<'_>) -> Result<Items<u64>, WordsError>
+    ensures { Reads (numbers_onto [] words.old) result words.new }
+{
+    let mut items = Items::new(alloc);
+    while let Some(word) = words.next() {
+        items.push(number(word.as_slice())?)?;
     }
     Ok(items)
 }
@@ -103,6 +114,15 @@ fn dist_status(alloc: Global, words: &mut Words<'_>) -> Result<Command, WordsErr
     Ok(Command::DistStatus { addr })
 }
 
+#[tactic(auto, unfolding(crate::specs::Commands::dry_command))]
+fn dry(alloc: Global, words: &mut Words<'_>) -> Result<Command, WordsError>
+    ensures read { Reads (dry_command words.old) result words.new }
+    ensures limits { IfOk result IsWithinLimits }
+{
+    let capacities = numbers(alloc, words)?;
+    Ok(Command::Dry(capacities))
+}
+
 /// The command of a name, with the words that it needs.
 #[tactic(auto, unfolding(crate::specs::Commands::command_words))]
 fn command_words(
@@ -122,6 +142,8 @@ fn command_words(
         CommandName::Zero => zero(alloc, words),
         CommandName::Stop => stop(alloc, words),
         CommandName::DistStatus => dist_status(alloc, words),
+        CommandName::Warm => Ok(Command::Warm),
+        CommandName::Dry => dry(alloc, words),
         CommandName::Help => Ok(Command::Help),
         CommandName::Version => Ok(Command::Version),
     }

@@ -63,6 +63,14 @@ fn put_command(alloc: Global, out: &mut Vec<u8>, command: &Command) -> Result<()
             out.extend_from_slice(b"generate")?;
             put_number(alloc, out, *number)
         }
+        Command::Warm => put_flag(out, true, b"warm"),
+        Command::Dry(capacities) => {
+            out.extend_from_slice(b"dry")?;
+            for capacity in capacities.as_slice() {
+                put_number(alloc, out, *capacity)?;
+            }
+            Ok(())
+        }
         Command::Help => put_flag(out, true, b"help"),
         Command::Version => put_flag(out, true, b"version"),
         Command::Serve {
@@ -180,6 +188,31 @@ fn numbers_of_scripts(rt: HostRuntime) -> Result<(), Fail> {
         (&[b"generate", b"-1"], b"usage"),
         (&[b"generate", b""], b"usage"),
         (&[b"generate", b"\xff"], b"usage"),
+    ];
+    assert_eq!(rt; first_other(rt.alloc(), &rows)?, None);
+    Ok(())
+}
+
+#[test]
+fn words_of_warming_and_of_capacities(rt: HostRuntime) -> Result<(), Fail> {
+    let rows: [Row<'_>; 14] = [
+        (&[b"warm"], b"warm"),
+        (&[b"warm", b"1"], b"usage"),
+        (&[b"warm", b""], b"usage"),
+        (&[b"dry"], b"dry"),
+        (&[b"dry", b"0"], b"dry 0"),
+        (&[b"dry", b"10", b"12", b"4", b"12"], b"dry 10 12 4 12"),
+        (
+            &[b"dry", b"18446744073709551615"],
+            b"dry 18446744073709551615",
+        ),
+        (&[b"dry", b"18446744073709551616"], b"usage"),
+        (&[b"dry", b"x"], b"usage"),
+        (&[b"dry", b"01"], b"usage"),
+        (&[b"dry", b"-1"], b"usage"),
+        (&[b"dry", b"1", b""], b"usage"),
+        (&[b"dry", b"1", b"2", b"\xff"], b"usage"),
+        (&[b"dry", b"--help"], b"usage"),
     ];
     assert_eq!(rt; first_other(rt.alloc(), &rows)?, None);
     Ok(())

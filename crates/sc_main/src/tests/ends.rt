@@ -57,7 +57,7 @@ end
 ";
 
 const USAGE: &[u8] =
-    b"usage: sccache drive | generate N | serve ADDR DIR BYTES TOKENS | compile ADDR EXE WORD.. | stats ADDR [--advanced] [--json] | zero ADDR | stop ADDR | dist-status ADDR\n";
+    b"usage: sccache drive | generate N | serve ADDR DIR BYTES TOKENS | compile ADDR EXE WORD.. | stats ADDR [--advanced] [--json] | zero ADDR | stop ADDR | dist-status ADDR | warm | dry CAP..\n";
 
 const ROWS: [Row; 16] = [
     Row {
