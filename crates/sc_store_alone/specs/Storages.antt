@@ -1,5 +1,5 @@
 -- Any store of entries, and what its calls do.
-use Rattle.std.specs.Prelude.{◌≡◌, ◌++◌, ℕ, Bool, true, false, List, Option, Some, None, codes, decimal}
+use Rattle.std.specs.Prelude.{◌≡◌, ◌+◌, ◌≤◌, ◌++◌, ℕ, Bool, true, false, List, Option, Some, None, codes, decimal}
 use Rattle.sc_store_disk.specs.DiskStores.{entry_at, entry_path}
 use Rattle.sc_entry.specs.Keys.{is_store_key}
 use Rattle.sc_entry.specs.declared.cache.Cache.{Cache}
@@ -232,9 +232,11 @@ pub record PutsRemote (key bytes : List ℕ) (how : Written) (old new : HeldLeve
   pub early : (c : Cause) → early_cause Single old.facts key ≡ Some c → (how ≡ WriteRefused c) × (new ≡ old)
   pub marks : MarksWrote key false how old.marks new.marks
 
--- One at a disk store.
+-- One at a disk store, which is within its capacity then.
 abbrev pub PutsFile : List ℕ → List ℕ → Written → HeldLevel → HeldLevel → Type 0
-PutsFile key bytes how old new = PutsDisk Single key bytes how (disk_of old) (disk_of new) × PutMarks (entry_path key) false how old.marks new.marks (disk_of new)
+PutsFile key bytes how old new =
+    PutsDisk Single key bytes how (disk_of old) (disk_of new) × PutMarks (entry_path key) false how old.marks new.marks (disk_of new)
+    × (world.part_size new.level + new.room.reserved ≤ new.facts.capacity)
 
 -- A put at a store that stands alone.
 abbrev pub PutsAlone : LevelKind → List ℕ → List ℕ → Written → HeldLevel → HeldLevel → Type 0

@@ -87,13 +87,21 @@ fn put_disk<D: Disk + Drop, V: Vouch>(
     store.keeps();
     let entry = match store.reserve(&Policy::Single, key, bytes.len() as u64, now)? {
         Reservation::Open(entry) => entry,
-        Reservation::Refused(cause) => return Ok(Written::Refused(cause)),
+        Reservation::Refused(cause) => {
+            store.keeps();
+            return Ok(Written::Refused(cause));
+        }
     };
     let filled = match fill(store, entry, bytes)? {
         Filling::Filled(entry) => entry,
-        Filling::Refused(cause) => return Ok(Written::Refused(cause)),
+        Filling::Refused(cause) => {
+            store.keeps();
+            return Ok(Written::Refused(cause));
+        }
     };
-    commit(store, filled, now)
+    let how = commit(store, filled, now);
+    store.keeps();
+    how
 }
 
 /// Puts an entry of the preprocessor under a key.

@@ -1,5 +1,5 @@
 -- What all keys leave in the target.
-use Rattle.std.proofs.Common.{◌≡◌, ◌⊎◌, inl, inr, ℕ, ◌+◌, ◌<◌, ◌≤◌, true, false, List, [], ◌∷◌, length, drop, Some, refl, sym, ap, ◌∙◌, subst, arith}
+use Rattle.std.proofs.Common.{◌≡◌, ◌⊎◌, inl, inr, ℕ, ◌+◌, ◌<◌, ◌≤◌, true, false, List, [], ◌∷◌, ◌++◌, length, drop, Some, refl, sym, ap, ◌∙◌, subst, arith, append_assoc}
 use Rattle.sc_disk_pair.specs.declared.part.Part.{Part}
 use Rattle.sc_disk_pair.specs.declared.part.Part.TheVariants.{Main, Pre}
 use Rattle.sc_entry.specs.Keys.{IsStoreKey, make_key_path, normalize_key}
@@ -13,7 +13,7 @@ use Rattle.sc_store_alone.specs.Storages.{Alone, State}
 use Rattle.sc_store_disk.specs.Marks.{is_marked}
 use Rattle.sc_store_disk.specs.Moving.{part_files}
 use Rattle.sc_store_warm.proofs.Sources.{key_stays, rose_before, rose_then, stays_self, stays_then, was_held}
-use Rattle.sc_store_warm.proofs.Targets.{IsAside, Moved, TargetStep, moved, step_fits, step_grows, step_still, target_of}
+use Rattle.sc_store_warm.proofs.Targets.{IsAside, Moved, TargetStep, moved, step_fits, step_grows, step_still, step_within, target_of}
 use Rattle.sc_store_warm.specs.Causes.{IfTells, held_under}
 use Rattle.sc_store_warm.specs.Outcomes.{FitEach, IsCopied, IsCopy, IsListed, IsOther, SourceStays, StaysOrGone, WhyGone, copied_bytes}
 use Rattle.sc_store_warm.specs.Warming.{Each, WarmsKey}
@@ -133,34 +133,56 @@ copied_stays keys rest f g t u h told key bytes copied e = copied_right keys res
 
 -- ---- all else
 
+-- what a key makes of the bytes of a store, and all behind it
+grows_first : (w : Warmed) (rest : List Warmed) (a b c : ℕ) → ((size : ℕ) → w ≡ Copied size → b ≤ a + size) → ((IsCopy w → ⊥) → b ≤ a) → c ≤ b + copied_bytes rest → c ≤ a + copied_bytes (w ∷ rest)
+grows_first (Copied size) rest a b c copy other more = let first : b ≤ a + size = copy size refl in omega (arith, first, more)
+grows_first (FromRefused refusal) rest a b c copy other more = let first : b ≤ a = other (λ x. x) in omega (arith, first, more)
+grows_first Absent rest a b c copy other more = let first : b ≤ a = other (λ x. x) in omega (arith, first, more)
+grows_first Torn rest a b c copy other more = let first : b ≤ a = other (λ x. x) in omega (arith, first, more)
+grows_first (ToRefused refusal) rest a b c copy other more = let first : b ≤ a = other (λ x. x) in omega (arith, first, more)
+
 -- why a file is gone, where the first key is the reason
-gone_first : (kind : LevelKind) (k : List ℕ) (keys : List (List ℕ)) (f : State) (part : Part) (p : List ℕ) (t m u : HeldLevel) → m.level.losses ≤ u.level.losses → WhyGone kind (k ∷ []) f part p t m → WhyGone kind (k ∷ keys) f part p t u
-gone_first Disk k keys f part p t m u less x = record { key = x.key; listed = first x.listed; bytes = x.bytes; spelled = x.spelled; wanted = x.wanted; moment = x.moment; there = x.there; over = x.over }
-  where
-    first : IsListed x.key (k ∷ []) → IsListed x.key (k ∷ keys)
-    first (inl e) = inl e
-    first (inr none) = absurd none
-gone_first Remote k keys f Main p t m u less rose = rose_then t.level.losses m.level.losses u.level.losses rose less
-gone_first Remote k keys f Pre p t m u less none = none
+gone_first : (kind : LevelKind) (k : List ℕ) (keys : List (List ℕ)) (w : Warmed) (rest : List Warmed) (f : State) (part : Part) (t m u : HeldLevel) → m.level.losses ≤ u.level.losses → WhyGone kind (k ∷ []) (w ∷ []) f part t m → WhyGone kind (k ∷ keys) (w ∷ rest) f part t u
+gone_first Disk k keys w rest f part t m u less x = record {
+  key = x.key;
+  listed = first x.listed;
+  bytes = x.bytes;
+  spelled = x.spelled;
+  wanted = x.wanted;
+  before = x.before;
+  behind = x.behind ++ rest;
+  split = ap (λ (ws : List Warmed). ws ++ rest) x.split ∙ append_assoc x.before x.behind rest;
+  over = x.over;
+} where
+  first : IsListed x.key (k ∷ []) → IsListed x.key (k ∷ keys)
+  first (inl e) = inl e
+  first (inr none) = absurd none
+gone_first Remote k keys w rest f Main t m u less rose = rose_then t.level.losses m.level.losses u.level.losses rose less
+gone_first Remote k keys w rest f Pre t m u less none = none
 
 over_as : (capacity : LevelFacts → ℕ) (f g : LevelFacts) → f ≡ g → (r q : ℕ) → r ≡ q → (size more : ℕ) → capacity f < size + (r + more) → capacity g < size + (q + more)
 over_as capacity f g e r q d size more h = subst (λ (n : ℕ). capacity g < size + (n + more)) d (subst (λ (x : LevelFacts). capacity x < size + (r + more)) e h)
 
+over_more : (capacity size all more : ℕ) → size ≤ all → capacity < size + more → capacity < all + more
+over_more capacity size all more less over = omega (arith, less, over)
+
 -- where a later one is
-gone_later : (kind : LevelKind) (k : List ℕ) (keys : List (List ℕ)) (f s : State) (part : Part) (p : List ℕ) (t m u : HeldLevel) → SourceStays f s → m.facts ≡ t.facts → m.room.reserved ≡ t.room.reserved → t.level.losses ≤ m.level.losses
-    → find_file (part_files part m.level) p ≡ find_file (part_files part t.level) p → WhyGone kind keys s part p m u → WhyGone kind (k ∷ keys) f part p t u
-gone_later Disk k keys f s part p t m u stays facts reserved less same x = record {
+gone_later : (kind : LevelKind) (k : List ℕ) (keys : List (List ℕ)) (w : Warmed) (rest : List Warmed) (f s : State) (part : Part) (t m u : HeldLevel) → SourceStays f s → m.facts ≡ t.facts → m.room.reserved ≡ t.room.reserved → t.level.losses ≤ m.level.losses
+    → (kind ≡ Disk → (ws : List Warmed) → part_size m.level + copied_bytes ws ≤ part_size t.level + copied_bytes (w ∷ ws)) → WhyGone kind keys rest s part m u → WhyGone kind (k ∷ keys) (w ∷ rest) f part t u
+gone_later Disk k keys w rest f s part t m u stays facts reserved less grows x = record {
   key = x.key;
   listed = inr x.listed;
   bytes = x.bytes;
   spelled = x.spelled;
   wanted = was_held f s x.key x.bytes stays x.wanted;
-  moment = x.moment;
-  there = x.there ∙ same;
-  over = over_as (λ (y : LevelFacts). y.capacity) m.facts t.facts facts m.room.reserved t.room.reserved reserved (part_size x.moment) (length x.bytes) x.over;
+  before = w ∷ x.before;
+  behind = x.behind;
+  split = ap (λ (ws : List Warmed). w ∷ ws) x.split;
+  over = over_more t.facts.capacity (part_size m.level + copied_bytes x.before) (part_size t.level + copied_bytes (w ∷ x.before)) (t.room.reserved + length x.bytes) (grows refl x.before)
+      (over_as (λ (y : LevelFacts). y.capacity) m.facts t.facts facts m.room.reserved t.room.reserved reserved (part_size m.level + copied_bytes x.before) (length x.bytes) x.over);
 }
-gone_later Remote k keys f s Main p t m u stays facts reserved less same rose = rose_before t.level.losses m.level.losses u.level.losses less rose
-gone_later Remote k keys f s Pre p t m u stays facts reserved less same none = none
+gone_later Remote k keys w rest f s Main t m u stays facts reserved less grows rose = rose_before t.level.losses m.level.losses u.level.losses less rose
+gone_later Remote k keys w rest f s Pre t m u stays facts reserved less grows none = none
 
 aside_of : (part : Part) (kind : LevelKind) (k : List ℕ) (keys : List (List ℕ)) (w : Warmed) (rest : List Warmed) (p : List ℕ) → IsOther part kind p (k ∷ keys) (w ∷ rest) → IsAside part kind k w p
 aside_of Main kind k keys w rest p h = λ copy e. h k (inl (refl, copy)) e
@@ -170,16 +192,17 @@ other_of : (part : Part) (kind : LevelKind) (k : List ℕ) (keys : List (List �
 other_of Main kind k keys w rest p h = λ key copied e. h key (inr copied) e
 other_of Pre kind k keys w rest p h = tt
 
-both_stay : (k : List ℕ) (keys : List (List ℕ)) (f s : State) (part : Part) (p : List ℕ) (t m u : HeldLevel) → SourceStays f s → m.facts ≡ t.facts → m.room.reserved ≡ t.room.reserved → t.level.losses ≤ m.level.losses → m.level.losses ≤ u.level.losses
-    → StaysOrGone (k ∷ []) f part p t m → StaysOrGone keys s part p m u → StaysOrGone (k ∷ keys) f part p t u
-both_stay k keys f s part p t m u stays facts reserved less more (inl same) (inl later) = inl (later ∙ same)
-both_stay k keys f s part p t m u stays facts reserved less more (inl same) (inr (none, gone)) =
-    inr (none, gone_later t.facts.kind k keys f s part p t m u stays facts reserved less same (subst (λ (y : LevelFacts). WhyGone y.kind keys s part p m u) facts gone))
-both_stay k keys f s part p t m u stays facts reserved less more (inr (none, gone)) (inl later) = inr (later ∙ none, gone_first t.facts.kind k keys f part p t m u more gone)
-both_stay k keys f s part p t m u stays facts reserved less more (inr (none, gone)) (inr (later, again)) = inr (later, gone_first t.facts.kind k keys f part p t m u more gone)
+both_stay : (k : List ℕ) (keys : List (List ℕ)) (w : Warmed) (rest : List Warmed) (f s : State) (part : Part) (p : List ℕ) (t m u : HeldLevel) → SourceStays f s → m.facts ≡ t.facts → m.room.reserved ≡ t.room.reserved → t.level.losses ≤ m.level.losses → m.level.losses ≤ u.level.losses
+    → (t.facts.kind ≡ Disk → (ws : List Warmed) → part_size m.level + copied_bytes ws ≤ part_size t.level + copied_bytes (w ∷ ws))
+    → StaysOrGone (k ∷ []) (w ∷ []) f part p t m → StaysOrGone keys rest s part p m u → StaysOrGone (k ∷ keys) (w ∷ rest) f part p t u
+both_stay k keys w rest f s part p t m u stays facts reserved less more grows (inl same) (inl later) = inl (later ∙ same)
+both_stay k keys w rest f s part p t m u stays facts reserved less more grows (inl same) (inr (none, gone)) =
+    inr (none, gone_later t.facts.kind k keys w rest f s part t m u stays facts reserved less grows (subst (λ (y : LevelFacts). WhyGone y.kind keys rest s part m u) facts gone))
+both_stay k keys w rest f s part p t m u stays facts reserved less more grows (inr (none, gone)) (inl later) = inr (later ∙ none, gone_first t.facts.kind k keys w rest f part t m u more gone)
+both_stay k keys w rest f s part p t m u stays facts reserved less more grows (inr (none, gone)) (inr (later, again)) = inr (later, gone_first t.facts.kind k keys w rest f part t m u more gone)
 
 pub others_stay : (keys : List (List ℕ)) (rest : List Warmed) (f g : State) (t u : HeldLevel) → Each WarmsKey keys rest f g (Alone t) (Alone u) → t.told ≡ true
-    → (part : Part) (path : List ℕ) → IsOther part t.facts.kind path keys rest → StaysOrGone keys f part path t u
+    → (part : Part) (path : List ℕ) → IsOther part t.facts.kind path keys rest → StaysOrGone keys rest f part path t u
 others_stay [] [] f g t u h told part p other = inl (ap (λ (x : HeldLevel). find_file (part_files part x.level) p) (alone_same t u h.1))
 others_stay [] (w ∷ rest) f g t u h told part p other = absurd h
 others_stay (k ∷ keys) [] f g t u h told part p other = absurd h
@@ -188,7 +211,8 @@ others_stay (k ∷ keys) (w ∷ rest) f g t u h told part p other =
     let m = moved_by k keys w rest f g t u x in
     let later = all_same keys rest x.source g x.target u x.more in
     let behind : IsOther part x.target.facts.kind p keys rest = subst (λ (y : LevelFacts). IsOther part y.kind p keys rest) (sym m.facts) (other_of part t.facts.kind k keys w rest p other) in
-    both_stay k keys f x.source part p t x.target u (key_stays k w f x.source (Alone t) (Alone x.target) x.first) m.facts m.reserved m.losses later.losses
+    both_stay k keys w rest f x.source part p t x.target u (key_stays k w f x.source (Alone t) (Alone x.target) x.first) m.facts m.reserved m.losses later.losses
+    (λ disk ws. grows_first w ws (part_size t.level) (part_size x.target.level) (part_size x.target.level + copied_bytes ws) (λ size is. step_grows k w f x.source t x.target size x.step is told disk) (λ apart. step_still k w f x.source t x.target x.step apart told disk) (omega arith))
     (m.others told part p (aside_of part t.facts.kind k keys w rest p other)) (others_stay keys rest x.source g x.target u x.more (m.told ∙ told) part p behind)
 
 -- ---- marks
@@ -233,13 +257,6 @@ copies_fit (k ∷ keys) (w ∷ rest) f g t u h disk =
     fit_first t.facts.capacity t.room.reserved w rest (λ size is. step_fits k w f x.source t x.target size x.step is disk)
     (subst (λ (n : ℕ). FitEach t.facts.capacity n rest) m.reserved (subst (λ (y : LevelFacts). FitEach y.capacity x.target.room.reserved rest) m.facts later))
 
-grows_first : (w : Warmed) (rest : List Warmed) (a b c : ℕ) → ((size : ℕ) → w ≡ Copied size → b ≤ a + size) → ((IsCopy w → ⊥) → b ≤ a) → c ≤ b + copied_bytes rest → c ≤ a + copied_bytes (w ∷ rest)
-grows_first (Copied size) rest a b c copy other more = let first : b ≤ a + size = copy size refl in omega (arith, first, more)
-grows_first (FromRefused refusal) rest a b c copy other more = let first : b ≤ a = other (λ x. x) in omega (arith, first, more)
-grows_first Absent rest a b c copy other more = let first : b ≤ a = other (λ x. x) in omega (arith, first, more)
-grows_first Torn rest a b c copy other more = let first : b ≤ a = other (λ x. x) in omega (arith, first, more)
-grows_first (ToRefused refusal) rest a b c copy other more = let first : b ≤ a = other (λ x. x) in omega (arith, first, more)
-
 pub grows : (keys : List (List ℕ)) (rest : List Warmed) (f g : State) (t u : HeldLevel) → Each WarmsKey keys rest f g (Alone t) (Alone u) → t.told ≡ true → t.facts.kind ≡ Disk → part_size u.level ≤ part_size t.level + copied_bytes rest
 grows [] [] f g t u h told disk = subst (λ (x : HeldLevel). part_size x.level ≤ part_size t.level + 0) (sym (alone_same t u h.1)) (omega arith)
 grows [] (w ∷ rest) f g t u h told disk = absurd h
@@ -249,3 +266,12 @@ grows (k ∷ keys) (w ∷ rest) f g t u h told disk =
     let m = moved_by k keys w rest f g t u x in
     grows_first w rest (part_size t.level) (part_size x.target.level) (part_size u.level) (λ size is. step_grows k w f x.source t x.target size x.step is told disk) (λ apart. step_still k w f x.source t x.target x.step apart told disk)
     (grows keys rest x.source g x.target u x.more (m.told ∙ told) (ap (λ (y : LevelFacts). y.kind) m.facts ∙ disk))
+
+pub stays_within : (keys : List (List ℕ)) (rest : List Warmed) (f g : State) (t u : HeldLevel) → Each WarmsKey keys rest f g (Alone t) (Alone u) → t.facts.kind ≡ Disk → part_size t.level + t.room.reserved ≤ t.facts.capacity → part_size u.level + u.room.reserved ≤ u.facts.capacity
+stays_within [] [] f g t u h disk within = subst (λ (x : HeldLevel). part_size x.level + x.room.reserved ≤ x.facts.capacity) (sym (alone_same t u h.1)) within
+stays_within [] (w ∷ rest) f g t u h disk within = absurd h
+stays_within (k ∷ keys) [] f g t u h disk within = absurd h
+stays_within (k ∷ keys) (w ∷ rest) f g t u h disk within =
+    let x = split k keys w rest f g t u h in
+    let m = moved_by k keys w rest f g t u x in
+    stays_within keys rest x.source g x.target u x.more (ap (λ (y : LevelFacts). y.kind) m.facts ∙ disk) (step_within k w f x.source t x.target x.step disk within)

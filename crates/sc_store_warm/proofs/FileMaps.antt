@@ -51,24 +51,22 @@ dropped_part true q v Pre p = inl refl
 dropped_part false q v Main p = inl refl
 dropped_part false q v Pre p = dropped v.pre q p
 
--- An eviction took a file: it stood there until a moment at which all files and the wanted bytes took more than the capacity.
-pub record Taken (capacity wanted : ℕ) (part : Part) (path : List ℕ) (v : Level) : Type 0 where
-  pub moment : Level
-  pub there : find_file (part_files part moment) path ≡ find_file (part_files part v) path
-  pub over : capacity < part_size moment + wanted
+-- all files and the wanted bytes take more than the capacity
+abbrev pub TooMuch : ℕ → ℕ → Level → Type 0
+TooMuch capacity wanted v = capacity < part_size v + wanted
 
-taken_first : (capacity wanted : ℕ) (part : Part) (p : List ℕ) (v d w : Level) → capacity < part_size v + wanted
+taken_first : (capacity wanted : ℕ) (part : Part) (p : List ℕ) (v d w : Level) → TooMuch capacity wanted v
     → (find_file (part_files part d) p ≡ find_file (part_files part v) p) ⊎ (find_file (part_files part d) p ≡ None)
-    → (find_file (part_files part w) p ≡ find_file (part_files part d) p) ⊎ ((find_file (part_files part w) p ≡ None) × Taken capacity wanted part p d)
-    → (find_file (part_files part w) p ≡ find_file (part_files part v) p) ⊎ ((find_file (part_files part w) p ≡ None) × Taken capacity wanted part p v)
+    → (find_file (part_files part w) p ≡ find_file (part_files part d) p) ⊎ ((find_file (part_files part w) p ≡ None) × TooMuch capacity wanted d)
+    → (find_file (part_files part w) p ≡ find_file (part_files part v) p) ⊎ ((find_file (part_files part w) p ≡ None) × TooMuch capacity wanted v)
 taken_first capacity wanted part p v d w over (inl same) (inl later) = inl (later ∙ same)
-taken_first capacity wanted part p v d w over (inl same) (inr (none, taken)) = inr (none, record { moment = taken.moment; there = taken.there ∙ same; over = taken.over })
-taken_first capacity wanted part p v d w over (inr gone) (inl later) = inr (later ∙ gone, record { moment = v; there = refl; over = over })
-taken_first capacity wanted part p v d w over (inr gone) (inr (none, taken)) = inr (none, record { moment = v; there = refl; over = over })
+taken_first capacity wanted part p v d w over (inl same) (inr (none, more)) = inr (none, over)
+taken_first capacity wanted part p v d w over (inr gone) (inl later) = inr (later ∙ gone, over)
+taken_first capacity wanted part p v d w over (inr gone) (inr (none, more)) = inr (none, over)
 
--- what stood at a path stands there after evictions, or one of them took it
+-- what stood at a path stands there after evictions, or one of them took it, and then all took too much
 pub evicted : (capacity wanted : ℕ) (ps : List (Bool × List ℕ)) (v w : Level) (part : Part) (p : List ℕ) → Evicts capacity wanted ps v w
-    → (find_file (part_files part w) p ≡ find_file (part_files part v) p) ⊎ ((find_file (part_files part w) p ≡ None) × Taken capacity wanted part p v)
+    → (find_file (part_files part w) p ≡ find_file (part_files part v) p) ⊎ ((find_file (part_files part w) p ≡ None) × TooMuch capacity wanted v)
 evicted capacity wanted [] v w Main p h = inl (ap (λ (m : Files). find_file m p) h.0)
 evicted capacity wanted [] v w Pre p h = inl (ap (λ (m : Files). find_file m p) h.1)
 evicted capacity wanted (q ∷ ps) v w part p h =

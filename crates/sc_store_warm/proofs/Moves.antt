@@ -13,7 +13,7 @@ use Rattle.sc_model.specs.declared.level.LevelKind.{LevelKind}
 use Rattle.sc_model.specs.declared.level.LevelKind.TheVariants.{Disk, Remote}
 use Rattle.sc_store_alone.specs.Puts.{PutsEntry}
 use Rattle.sc_store_disk.specs.Moving.{part_files}
-use Rattle.sc_store_warm.proofs.FileMaps.{Taken, evicted, evicted_size, found_or_none, not_both, put_other, put_seen, put_self, size-more}
+use Rattle.sc_store_warm.proofs.FileMaps.{TooMuch, evicted, evicted_size, found_or_none, not_both, put_other, put_seen, put_self, size-more}
 
 -- a put that was done leaves its bytes at its path, a refused one nothing
 abbrev pub LeavesAs : Written → List ℕ → List ℕ → Level → Level → Type 0
@@ -54,14 +54,14 @@ IsApart Main Done at path = at ≡ path → ⊥
 IsApart part how at path = Unit {0}
 
 -- why a file is gone after a put
-abbrev pub GoneBy : LevelKind → ℕ → ℕ → Part → List ℕ → Level → Level → Type 0
-GoneBy Disk capacity wanted part path v w = Taken capacity wanted part path v
-GoneBy Remote capacity wanted Main path v w = Rose v.losses w.losses
-GoneBy Remote capacity wanted Pre path v w = ⊥
+abbrev pub GoneBy : LevelKind → ℕ → ℕ → Part → Level → Level → Type 0
+GoneBy Disk capacity wanted part v w = TooMuch capacity wanted v
+GoneBy Remote capacity wanted Main v w = Rose v.losses w.losses
+GoneBy Remote capacity wanted Pre v w = ⊥
 
 abbrev pub StaysOrGoneBy : LevelKind → ℕ → ℕ → Part → List ℕ → Level → Level → Type 0
 StaysOrGoneBy kind capacity wanted part path v w =
-    (find_file (part_files part w) path ≡ find_file (part_files part v) path) ⊎ ((find_file (part_files part w) path ≡ None) × GoneBy kind capacity wanted part path v w)
+    (find_file (part_files part w) path ≡ find_file (part_files part v) path) ⊎ ((find_file (part_files part w) path ≡ None) × GoneBy kind capacity wanted part v w)
 
 -- What a put does to a level that tells what it holds.
 pub record Shifts (kind : LevelKind) (capacity wanted : ℕ) (key bytes : List ℕ) (how : Written) (v w : Level) : Type 0 where
@@ -103,13 +103,13 @@ refused_size (Refused c) path bytes v w h apart = same_parts v w h.0 h.1
 
 evicted_seen : (capacity wanted : ℕ) (gone : List (Bool × List ℕ)) (v w : Level) (p c : List ℕ) → Evicts capacity wanted gone v w → find_file w.main p ≡ Some c → find_file v.main p ≡ Some c
 evicted_seen capacity wanted gone v w p c h e =
-    ⊎_elim (λ (y : find_file w.main p ≡ find_file v.main p). sym y ∙ e) (λ (y : (find_file w.main p ≡ None) × Taken capacity wanted Main p v). absurd (not_both (find_file w.main p) c e y.0))
+    ⊎_elim (λ (y : find_file w.main p ≡ find_file v.main p). sym y ∙ e) (λ (y : (find_file w.main p ≡ None) × TooMuch capacity wanted v). absurd (not_both (find_file w.main p) c e y.0))
     (evicted capacity wanted gone v w Main p h)
 
 disk_others : (capacity wanted : ℕ) (path bytes : List ℕ) (how : Written) (v w : Level) (part : Part) (p : List ℕ) → DiskLeft capacity wanted path bytes how v w → IsApart part how path p → StaysOrGoneBy Disk capacity wanted part p v w
 disk_others capacity wanted path bytes how v w part p x apart =
     let last : find_file (part_files part w) p ≡ find_file (part_files part x.mid) p = leaves_other part how path bytes x.mid w p x.leaves apart in
-    ⊎_elim (λ (y : find_file (part_files part x.mid) p ≡ find_file (part_files part v) p). inl (last ∙ y)) (λ (y : (find_file (part_files part x.mid) p ≡ None) × Taken capacity wanted part p v). inr (last ∙ y.0, y.1))
+    ⊎_elim (λ (y : find_file (part_files part x.mid) p ≡ find_file (part_files part v) p). inl (last ∙ y)) (λ (y : (find_file (part_files part x.mid) p ≡ None) × TooMuch capacity wanted v). inr (last ∙ y.0, y.1))
     (evicted capacity wanted x.gone v x.mid part p x.evicts)
 
 pub disk_shifts : (capacity wanted : ℕ) (key bytes : List ℕ) (how : Written) (v w : Level) → DiskLeft capacity wanted (make_key_path key) bytes how v w → Shifts Disk capacity wanted key bytes how v w

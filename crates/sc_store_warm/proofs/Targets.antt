@@ -205,7 +205,7 @@ pub record Moved (key : List ℕ) (warmed : Warmed) (from : State) (to to2 : Hel
   pub good : IsCopy warmed → IsStoreKey key
   pub seen : to.told ≡ true → (p c : List ℕ) → find_file to2.level.main p ≡ Some c → (IsCopy warmed × (main_path to.facts.kind key ≡ p) × IfTells from (λ s. held_under s key ≡ Some c)) ⊎ (find_file to.level.main p ≡ Some c)
   pub there : to.told ≡ true → IsCopy warmed → (c : List ℕ) → find_file to2.level.main (main_path to.facts.kind key) ≡ Some c → IfTells from (λ s. held_under s key ≡ Some c)
-  pub others : to.told ≡ true → (part : Part) (p : List ℕ) → IsAside part to.facts.kind key warmed p → StaysOrGone (key ∷ []) from part p to to2
+  pub others : to.told ≡ true → (part : Part) (p : List ℕ) → IsAside part to.facts.kind key warmed p → StaysOrGone (key ∷ []) (warmed ∷ []) from part p to to2
   pub fewer : (q : List ℕ) → is_marked to.marks q ≡ false → is_marked to2.marks q ≡ false
   pub unmarked : IsCopy warmed → is_marked to2.marks (mark_path to.facts.kind key) ≡ false
 
@@ -236,15 +236,15 @@ module _ (key : List ℕ) (warmed : Warmed) (f g : State) (t u : HeldLevel) (x :
   apart_of Pre Done p copy aside = tt
   apart_of Pre (WriteRefused c) p copy aside = tt
 
-  why : (kind : LevelKind) (part : Part) (p : List ℕ) → GoneBy kind t.facts.capacity (t.room.reserved + length x.bytes) part p t.level u.level → WhyGone kind (key ∷ []) f part p t u
-  why Disk part p taken = record { key = key; listed = inl refl; bytes = x.bytes; spelled = x.spelled; wanted = at_source; moment = taken.moment; there = taken.there; over = taken.over }
-  why Remote Main p rose = rose
-  why Remote Pre p none = none
+  why : (kind : LevelKind) (part : Part) → GoneBy kind t.facts.capacity (t.room.reserved + length x.bytes) part t.level u.level → WhyGone kind (key ∷ []) (warmed ∷ []) f part t u
+  why Disk part over = record { key = key; listed = inl refl; bytes = x.bytes; spelled = x.spelled; wanted = at_source; before = []; behind = warmed ∷ []; split = refl; over = omega (arith, over) }
+  why Remote Main rose = rose
+  why Remote Pre none = none
 
-  others_of : t.told ≡ true → (part : Part) (p : List ℕ) → IsAside part t.facts.kind key warmed p → StaysOrGone (key ∷ []) f part p t u
+  others_of : t.told ≡ true → (part : Part) (p : List ℕ) → IsAside part t.facts.kind key warmed p → StaysOrGone (key ∷ []) (warmed ∷ []) f part p t u
   others_of told part p aside =
       ⊎_elim (λ (y : find_file (part_files part u.level) p ≡ find_file (part_files part t.level) p). inl y)
-      (λ (y : (find_file (part_files part u.level) p ≡ None) × GoneBy t.facts.kind t.facts.capacity (t.room.reserved + length x.bytes) part p t.level u.level). inr (y.0, why t.facts.kind part p y.1))
+      (λ (y : (find_file (part_files part u.level) p ≡ None) × GoneBy t.facts.kind t.facts.capacity (t.room.reserved + length x.bytes) part t.level u.level). inr (y.0, why t.facts.kind part y.1))
       ((shifts told).others part p (apart_of part x.how p (done_is_copy warmed x.how (length x.bytes) x.end) aside))
 
   held_so : (c : List ℕ) → x.bytes ≡ c → IfTells f (λ s. held_under s key ≡ Some c)
@@ -300,3 +300,12 @@ step_grows key warmed f g t u size (inr x) is told disk =
 pub step_still : (key : List ℕ) (warmed : Warmed) (f g : State) (t u : HeldLevel) → TargetStep key warmed f g t u → (IsCopy warmed → ⊥) → t.told ≡ true → t.facts.kind ≡ Disk → part_size u.level ≤ part_size t.level
 step_still key warmed f g t u (inl (same, none)) apart told disk = subst (λ (h : HeldLevel). part_size h.level ≤ part_size t.level) (sym same) (omega arith)
 step_still key warmed f g t u (inr x) apart told disk = (shifts key warmed f g t u x told).refused disk (λ done. apart (done_is_copy warmed x.how (length x.bytes) x.end done))
+
+-- a disk store is within its capacity behind a key, where it was before
+put_within : (kind : LevelKind) (key bytes : List ℕ) (how : Written) (t u : HeldLevel) → PutsAlone kind key bytes how t u → kind ≡ Disk → part_size u.level + u.room.reserved ≤ u.facts.capacity
+put_within Disk key bytes how t u h disk = h.2
+put_within Remote key bytes how t u h disk = absurd (cc)
+
+pub step_within : (key : List ℕ) (warmed : Warmed) (f g : State) (t u : HeldLevel) → TargetStep key warmed f g t u → t.facts.kind ≡ Disk → part_size t.level + t.room.reserved ≤ t.facts.capacity → part_size u.level + u.room.reserved ≤ u.facts.capacity
+step_within key warmed f g t u (inl (same, apart)) disk within = subst (λ (h : HeldLevel). part_size h.level + h.room.reserved ≤ h.facts.capacity) (sym same) within
+step_within key warmed f g t u (inr x) disk within = put_within t.facts.kind key x.bytes x.how t u x.puts disk

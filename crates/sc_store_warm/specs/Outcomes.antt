@@ -1,9 +1,9 @@
 -- What warming leaves in both stores.
-use Rattle.std.specs.Prelude.{◌≡◌, ◌⊎◌, ◌+◌, ◌<◌, ◌≤◌, ℕ, true, List, [], ◌∷◌, length, Some, None}
+use Rattle.std.specs.Prelude.{◌≡◌, ◌⊎◌, ◌+◌, ◌<◌, ◌≤◌, ◌++◌, ℕ, true, List, [], ◌∷◌, length, Some, None}
 use Rattle.sc_disk_pair.specs.declared.part.Part.{Part}
 use Rattle.sc_disk_pair.specs.declared.part.Part.TheVariants.{Main, Pre}
 use Rattle.sc_entry.specs.Causes.{Rose}
-use Rattle.sc_model.specs.World.{Keeps_all, Level, find_file, main_path, part_size}
+use Rattle.sc_model.specs.World.{Keeps_all, find_file, main_path, part_size}
 use Rattle.sc_model.specs.declared.level.LevelKind.{LevelKind}
 use Rattle.sc_model.specs.declared.level.LevelKind.TheVariants.{Disk, Remote}
 use Rattle.sc_store.specs.Held.{HeldLevel}
@@ -56,29 +56,30 @@ SourceStays (Layered old) (Layered new) = Unit {0}
 SourceStays (Wrapped old) (Wrapped new) = SourceStays old new
 SourceStays old new = ⊥
 
--- An eviction took a file for the entry of a listed key: at that moment the file was as it had been, and all files took, with
--- what is reserved and that entry, more than the capacity.
-pub record WasEvicted (keys : List (List ℕ)) (from : State) (part : Part) (path : List ℕ) (old : HeldLevel) : Type 0 where
+-- An eviction took a file for the entry of a listed key: the files that stood at first and the entries that were copied before took,
+-- with what is reserved and that entry, more than the capacity.
+pub record WasEvicted (keys : List (List ℕ)) (warmed : List Warmed) (from : State) (old : HeldLevel) : Type 0 where
   pub key : List ℕ
   pub listed : IsListed key keys
   pub bytes : List ℕ
   pub spelled : AreSpelled bytes
   pub wanted : IfTells from (λ source. held_under source key ≡ Some bytes)
-  pub moment : Level
-  pub there : find_file (part_files part moment) path ≡ find_file (part_files part old.level) path
-  pub over : old.facts.capacity < part_size moment + (old.room.reserved + length bytes)
+  pub before : List Warmed
+  pub behind : List Warmed
+  pub split : warmed ≡ before ++ behind
+  pub over : old.facts.capacity < part_size old.level + copied_bytes before + (old.room.reserved + length bytes)
 
 -- Why a file is gone: at a disk store it was evicted; a remote store found it lost, and keeps no preprocessor entries.
-abbrev pub WhyGone : LevelKind → List (List ℕ) → State → Part → List ℕ → HeldLevel → HeldLevel → Type 0
-WhyGone Disk keys from part path old new = WasEvicted keys from part path old
-WhyGone Remote keys from Main path old new = Rose old.level.losses new.level.losses
-WhyGone Remote keys from Pre path old new = ⊥
+abbrev pub WhyGone : LevelKind → List (List ℕ) → List Warmed → State → Part → HeldLevel → HeldLevel → Type 0
+WhyGone Disk keys warmed from part old new = WasEvicted keys warmed from old
+WhyGone Remote keys warmed from Main old new = Rose old.level.losses new.level.losses
+WhyGone Remote keys warmed from Pre old new = ⊥
 
 -- What stands at a path is as it was, or it is gone.
-abbrev pub StaysOrGone : List (List ℕ) → State → Part → List ℕ → HeldLevel → HeldLevel → Type 0
-StaysOrGone keys from part path old new =
+abbrev pub StaysOrGone : List (List ℕ) → List Warmed → State → Part → List ℕ → HeldLevel → HeldLevel → Type 0
+StaysOrGone keys warmed from part path old new =
     (find_file (part_files part new.level) path ≡ find_file (part_files part old.level) path)
-    ⊎ ((find_file (part_files part new.level) path ≡ None) × WhyGone old.facts.kind keys from part path old new)
+    ⊎ ((find_file (part_files part new.level) path ≡ None) × WhyGone old.facts.kind keys warmed from part old new)
 
 -- A path at which no entry was put: that of no key that was copied. No entry is put among those of the preprocessor.
 abbrev pub IsOther : Part → LevelKind → List ℕ → List (List ℕ) → List Warmed → Type 0

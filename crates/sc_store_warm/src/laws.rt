@@ -18,11 +18,12 @@ pub fn copied_stays()
         → (key bytes : List ℕ) → IsCopied key keys warmed → held_under to2 key ≡ Some bytes → IfTells from (λ source. held_under source key ≡ Some bytes) }
 {}
 
-/// Whatever else the target held is as it was, or it is gone: a file because an eviction took it, and only while all files took
-/// too much; an entry of a remote store because the store found it lost. No preprocessor entry is put or replaced.
+/// Whatever else the target held is as it was, or it is gone: a file because an eviction took it for the entry of a listed key,
+/// and only where the files that stood at first, the entries that were copied before, what is reserved and that entry took more
+/// than the capacity; an entry of a remote store because the store found it lost. No preprocessor entry is put or replaced.
 pub fn others_stay()
     ensures { (keys : List (List ℕ)) (warmed : List Warmed) (from from2 : State) (to to2 : HeldLevel) → Each WarmsKey keys warmed from from2 (Alone to) (Alone to2) → to.told ≡ true
-        → (part : Part) (path : List ℕ) → IsOther part to.facts.kind path keys warmed → StaysOrGone keys from part path to to2 }
+        → (part : Part) (path : List ℕ) → IsOther part to.facts.kind path keys warmed → StaysOrGone keys warmed from part path to to2 }
 {}
 
 /// The source holds what it held, but for what a remote store lost.
@@ -30,10 +31,12 @@ pub fn source_stays()
     ensures { (keys : List (List ℕ)) (warmed : List Warmed) (from from2 to to2 : State) → Each WarmsKey keys warmed from from2 to to2 → SourceStays from from2 }
 {}
 
-/// What a disk store takes: each entry that was copied fits in its capacity beside what is reserved, neither of which changes,
-/// and its files take no more bytes than before and those that were copied. That its evictions make room enough is told by
-/// the store itself, not by these laws.
+/// A disk store stays within its capacity, after each key, since this holds of each front of the keys. Each entry that was copied
+/// fits in the capacity beside what is reserved, neither of which changes, and the files take no more bytes than before and those
+/// that were copied.
 pub fn within()
+    ensures within { (keys : List (List ℕ)) (warmed : List Warmed) (from from2 : State) (to to2 : HeldLevel) → Each WarmsKey keys warmed from from2 (Alone to) (Alone to2)
+        → to.facts.kind ≡ IsDisk → part_size to.level + to.room.reserved ≤ to.facts.capacity → part_size to2.level + to2.room.reserved ≤ to2.facts.capacity }
     ensures same { (keys : List (List ℕ)) (warmed : List Warmed) (from from2 : State) (to to2 : HeldLevel) → Each WarmsKey keys warmed from from2 (Alone to) (Alone to2)
         → (to2.facts ≡ to.facts) × (to2.room.reserved ≡ to.room.reserved) }
     ensures fits { (keys : List (List ℕ)) (warmed : List Warmed) (from from2 : State) (to to2 : HeldLevel) → Each WarmsKey keys warmed from from2 (Alone to) (Alone to2)

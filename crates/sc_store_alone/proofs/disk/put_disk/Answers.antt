@@ -23,10 +23,10 @@ returns-in-Refused-2-clause-wrote g c =
     let b = c.reserve.new.self.marks in
     let d = c.fill.new.store.marks in
     let marks : MarksFilled c.in-Open.entry.number false (Refused c.in-Refused-2.cause) b d = subst (λ (x : Filling). MarksFilled c.in-Open.entry.number false x b d) c.in-Refused-2.is f.marks in
-    (refused_fill Single key c.len.result c.in-Open.entry bytes c.in-Refused-2.cause old mid new c.len.ensures o f.stays.later fills, not_filled c.in-Open.entry c.in-Refused-2.cause c.in_ok-entry.field-0 a b d c.in-Open.entry.number false c.in-Open.is r.marks marks)
+    (refused_fill Single key c.len.result c.in-Open.entry bytes c.in-Refused-2.cause old mid new c.len.ensures o f.stays.later fills, not_filled c.in-Open.entry c.in-Refused-2.cause c.in_ok-entry.field-0 a b d c.in-Open.entry.number false c.in-Open.is r.marks marks, c.keeps-in-Refused-2.ensures.within)
 
-pub commit-requires : goal.commit-requires
-commit-requires g c =
+pub commit-how-requires : goal.commit-how-requires
+commit-how-requires g c =
     let key = c.args.key.now in
     let bytes = c.args.bytes.now in
     let old = disk_of c.args.store.now in
@@ -45,12 +45,12 @@ returns-clause-keeps g c =
     let old = disk_of c.args.store.now in
     let mid = disk_of c.reserve.new.self in
     let next = disk_of c.fill.new.store in
-    let new = disk_of c.commit.new.store in
+    let new = disk_of c.commit-how.new.store in
     let r = c.in_ok-entry.ensures in
     let o : Opened Single key c.len.result c.in-Open.entry old mid = opened_by Single key c.len.result c.in_ok-entry.field-0 c.in-Open.entry old mid c.in-Open.is r.stays.later r.stays.told r.moved r.entry r.cause in
     let f = c.in_ok-entry-2.ensures in
     let fills : FillsBy c.in-Open.entry bytes (Filled c.in-Filled.entry) mid next = subst (λ (x : Filling). FillsBy c.in-Open.entry bytes x mid next) c.in-Filled.is f.filled in
-    let e = c.commit.ensures in
+    let e = c.commit-how.ensures in
     let same = closed_again Single key c.len.result c.in-Open.entry c.in-Filled.entry bytes old mid next new o fills e.closed in
     record {
       title = e.title ∙ f.title ∙ r.title;
@@ -67,18 +67,19 @@ returns-clause-wrote g c =
     let old = disk_of c.args.store.now in
     let mid = disk_of c.reserve.new.self in
     let next = disk_of c.fill.new.store in
-    let new = disk_of c.commit.new.store in
+    let new = disk_of c.commit-how.new.store in
     let r = c.in_ok-entry.ensures in
     let o : Opened Single key c.len.result c.in-Open.entry old mid = opened_by Single key c.len.result c.in_ok-entry.field-0 c.in-Open.entry old mid c.in-Open.is r.stays.later r.stays.told r.moved r.entry r.cause in
     let f = c.in_ok-entry-2.ensures in
     let fills : FillsBy c.in-Open.entry bytes (Filled c.in-Filled.entry) mid next = subst (λ (x : Filling). FillsBy c.in-Open.entry bytes x mid next) c.in-Filled.is f.filled in
-    let e = c.commit.ensures in
+    let e = c.commit-how.ensures in
     let a = c.args.store.now.marks in
     let b = c.reserve.new.self.marks in
     let m = c.fill.new.store.marks in
-    let d = c.commit.new.store.marks in
+    let d = c.commit-how.new.store.marks in
     let marks : MarksFilled c.in-Open.entry.number false (Filled c.in-Filled.entry) b m = subst (λ (x : Filling). MarksFilled c.in-Open.entry.number false x b m) c.in-Filled.is f.marks in
-    if_all c.commit.result (λ how commits cause settled. (
+    if_all c.commit-how.result (λ how commits cause settled. (
       was_put Single key c.len.result c.in-Open.entry c.in-Filled.entry bytes how old mid next new c.len.ensures o f.stays.later f.stays.told fills e.stays.later e.closed commits cause,
       marks_put Single key c.len.result c.in-Open.entry c.in-Filled.entry bytes old mid next c.in_ok-entry.field-0 false how a b m d new o fills c.in-Open.is r.marks marks settled,
+      c.keeps-2.ensures.within,
     )) e.committed e.cause e.marks
