@@ -2,8 +2,6 @@
 #![tactic(auto)]
 
 #[cfg(test)]
-mod compiles;
-#[cfg(test)]
 mod connections;
 #[cfg(test)]
 mod finding;

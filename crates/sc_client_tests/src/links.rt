@@ -9,10 +9,8 @@ use sc_wire::append_response;
 use std::alloc::Global;
 use std::test::Fail;
 
-/// The frames of a compile that was started, of one that the server doesn't handle, and of counters that were emptied.
+/// The frames of a compile that was started, and of counters that were emptied.
 pub(crate) const STARTED: &[u8] = b"\x00\x00\x00\x08\x00\x00\x00\x00\x00\x00\x00\x00";
-
-pub(crate) const UNHANDLED: &[u8] = b"\x00\x00\x00\x08\x00\x00\x00\x00\x01\x00\x00\x00";
 
 pub(crate) const ZEROED: &[u8] = b"\x00\x00\x00\x04\x01\x00\x00\x00";
 

@@ -1,8 +1,8 @@
-//! A store of files on one disk.
+//! A store of files on one disk. Which files go where it is full a script over the program shows, beside an own rule.
 use crate::disks::{disk_beside, hold, key_of, len_at};
 use sc_disk::{
-    Disk, EntryFile, Error, FileWriter, InsertError, LruDiskCache, LruDiskCacheAddEntry, MemDisk,
-    OpenError, make_key_path, normalize_key,
+    Disk, EntryFile, Error, FileWriter, InsertError, LruDiskCache, MemDisk, OpenError,
+    make_key_path, normalize_key,
 };
 use sc_entry::{ByteText, NoMemory, Text};
 use std::alloc::Global;
@@ -106,82 +106,6 @@ fn three_files(alloc: Global, store: &mut Store) -> Result<(), Error> {
         insert(alloc, store, name, b"0123456789", now)?;
     }
     Ok(())
-}
-
-/// The first of three files goes from the index and from the disk.
-fn keeps_newest(rt: &impl Abort, alloc: Global, store: &mut Store) -> Result<(), Fail> {
-    three_files(alloc, store)?;
-    let indexed = has(alloc, store, "file1")?;
-    let held = len_at(alloc, store.disk(), "file1")?;
-    assert!(rt; !indexed && held.is_none() && store.size() == 20);
-    Ok(())
-}
-
-#[test]
-fn oldest_goes(rt: HostRuntime) -> Result<(), Fail> {
-    let mut store = store_of(rt.alloc(), 25, &[])?;
-    keeps_newest(&rt, rt.alloc(), &mut store)
-}
-
-/// The second of three files is replaced and read, and outlives the third.
-fn replaces(rt: &impl Abort, alloc: Global, store: &mut Store) -> Result<(), Fail> {
-    three_files(alloc, store)?;
-    insert(alloc, store, "file2", b"abcdefghij", 4)?;
-    let size = store.size();
-    let replaced = reads(alloc, store, "file2", b"abcdefghij")?;
-    insert(alloc, store, "file1", b"0123456789", 6)?;
-    let second = has(alloc, store, "file2")?;
-    let third = has(alloc, store, "file3")?;
-    assert!(rt; size == 20 && replaced && second && !third);
-    Ok(())
-}
-
-/// A replaced file is counted once, and a read makes it the newest.
-#[test]
-fn replaced_file(rt: HostRuntime) -> Result<(), Fail> {
-    let mut store = store_of(rt.alloc(), 25, &[])?;
-    replaces(&rt, rt.alloc(), &mut store)
-}
-
-/// Abandons an entry that is open.
-fn let_go(store: &mut Store, entry: LruDiskCacheAddEntry) -> Result<(), Error> {
-    if store.is_open(&entry) {
-        store.abandon(entry)
-    } else {
-        Ok(())
-    }
-}
-
-/// Opens an entry of eight bytes, tries another beside it, and abandons the first.
-fn declares_twice(alloc: Global, store: &mut Store) -> Result<Option<Error>, Error> {
-    let key = key_of(alloc, "a")?;
-    let first = store.prepare_add(&key, 8, 1)?;
-    let refused = refused_to_add(alloc, store, "b", 8);
-    let_go(store, first)?;
-    Ok(refused?)
-}
-
-/// Whether an entry of eight bytes is opened, and takes its room.
-fn takes_room(alloc: Global, store: &mut Store) -> Result<bool, Error> {
-    let key = key_of(alloc, "b")?;
-    let entry = store.prepare_add(&key, 8, 1)?;
-    Ok(store.is_open(&entry) && store.size() == 8)
-}
-
-/// The room of an entry is refused to another until it is abandoned.
-fn reserves(rt: &impl Abort, alloc: Global, store: &mut Store) -> Result<(), Fail> {
-    let refused = declares_twice(alloc, store)?;
-    let size = store.size();
-    let taken = takes_room(alloc, store)?;
-    assert!(rt; refused == Some(Error::Reserved) && size == 0 && taken);
-    Ok(())
-}
-
-/// What an open entry has declared isn't free until it is closed.
-#[test]
-fn reserved_room(rt: HostRuntime) -> Result<(), Fail> {
-    let mut store = store_of(rt.alloc(), 10, &[])?;
-    reserves(&rt, rt.alloc(), &mut store)
 }
 
 /// Stores bytes that nothing was declared for.

@@ -1,7 +1,2 @@
-//! What no script of the folder cases/ can show.
-mod ends;
-mod generating;
-mod linked;
-mod policies;
+//! What no script of the folder cases/, and no script over the program, can show: a server over links in memory.
 mod serving;
-mod shown;

@@ -2,8 +2,6 @@
 #![tactic(auto)]
 
 #[cfg(test)]
-mod levels;
-#[cfg(test)]
 mod report;
 #[cfg(test)]
 mod script;

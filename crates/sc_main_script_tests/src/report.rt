@@ -1,56 +1,19 @@
-use sc_entry::{ByteText, Items};
 use sc_main_report::{Ended, Report, exit_code, put_error, put_report, put_version};
 use sc_main_script::LevelSize;
-use sc_model::{
-    ColorMode, CompileFinished, CompileResponse, Event, Owner, Response, RunAnswer, What,
-};
+use sc_model::{Event, Owner, Response, What};
 use sc_stats::{LevelStats, ServerStats};
 use sc_wire_conn::End;
 use std::alloc::Global;
+use std::process::Abort;
 use std::test::Fail;
 
-/// What two connections and a background write did, and a reply on a connection that there isn't.
-fn events(alloc: Global) -> Result<Vec<Event>, Fail> {
-    let finished = CompileFinished {
-        retcode: Some(0),
-        signal: None,
-        stdout: ByteText::from_slice(alloc, b"hi")?,
-        stderr: ByteText::new(alloc),
-        color_mode: ColorMode::Auto,
-    };
-    let started = Response::Compile(CompileResponse::CompileStarted);
-    let first = ByteText::from_slice(alloc, b"a b")?;
-    let told = [
-        (Owner::Request(0, 0), What::Sent(started)),
-        (
-            Owner::Request(1, 0),
-            What::Sent(Response::StorageGetRaw(Some(first))),
-        ),
-        (
-            Owner::Request(0, 0),
-            What::Ran(RunAnswer::Fault(Items::new(alloc))),
-        ),
-        (Owner::Write(1), What::Sent(Response::ZeroStats)),
-        (Owner::Request(2, 0), What::Sent(Response::RecordStats)),
-        (
-            Owner::Request(0, 0),
-            What::Sent(Response::CompileFinished(finished)),
-        ),
-        (
-            Owner::Request(1, 1),
-            What::Sent(Response::StorageGetRaw(None)),
-        ),
-        (Owner::Nobody, What::Idle),
-    ];
-    let mut made = Vec::new(alloc);
-    for (owner, what) in told {
-        made.push(Event {
-            moment: 7,
-            owner,
-            what,
-        })?;
+/// A reply on a connection, as an event.
+fn replied(number: u64, reply: Response) -> Event {
+    Event {
+        moment: 7,
+        owner: Owner::Request(number, 0),
+        what: What::Sent(reply),
     }
-    Ok(made)
 }
 
 fn counters(alloc: Global) -> LevelStats {
@@ -64,59 +27,68 @@ fn counters(alloc: Global) -> LevelStats {
     stats
 }
 
+const SIZES: [LevelSize; 2] = [
+    LevelSize {
+        bytes: 41,
+        entries: 1,
+    },
+    LevelSize {
+        bytes: 0,
+        entries: 0,
+    },
+];
+
+/// Whether a report is printed so, behind what stood there.
+fn prints(rt: &impl Abort, alloc: Global, report: &Report<'_>, wanted: &[u8]) -> Result<(), Fail> {
+    let mut out = b"before\n".to_vec(alloc)?;
+    put_report(alloc, &mut out, report)?;
+    assert_eq!(rt; out.as_slice(), wanted);
+    Ok(())
+}
+
+/// Of three replies, one is on a connection that there isn't.
 #[test]
 fn ample_put_report(rt: HostRuntime) -> Result<(), Fail> {
-    let events = events(rt.alloc())?;
+    let events = [
+        replied(1, Response::ZeroStats),
+        replied(2, Response::RecordStats),
+        replied(0, Response::StorageGetRaw(None)),
+    ];
+    let counters = [counters(rt.alloc())];
     let mut stats = ServerStats::new(rt.alloc());
     stats.compile_requests = 1;
     stats.cache_writes = 20;
-    let counters = [counters(rt.alloc())];
     let report = Report {
         ends: &[End::Open, End::ReplyTooLong(73)],
-        events: events.as_slice(),
-        levels: &[
-            LevelSize {
-                bytes: 41,
-                entries: 1,
-            },
-            LevelSize {
-                bytes: 0,
-                entries: 0,
-            },
-        ],
+        events: &events,
+        levels: &SIZES,
         counters: &counters,
         background: 3,
         tokens: 65535,
         stats: &stats,
     };
-    let mut out = b"before\n".to_vec(rt.alloc())?;
-    put_report(rt.alloc(), &mut out, &report)?;
     let text = b"before
 conn 0 open
-started
-finished 0 - hi - auto
-conn 1 reply-too-long 73
-raw a\\x20b
 raw none
+conn 1 reply-too-long 73
+zero-stats
 level 0 41 1 hits 1 misses 2 writes 3 failures 4 from 5 to 18446744073709551615
 level 1 0 0
 background 3
 tokens 65535
-runs 1
+runs 0
 compile_requests 1
 cache_writes 20
 end
 ";
-    assert_eq!(rt; out.as_slice(), text.as_slice());
-    Ok(())
+    prints(&rt, rt.alloc(), &report, text)
 }
 
 #[test]
 fn ample_ends(rt: HostRuntime) -> Result<(), Fail> {
-    let ends = [End::Ended, End::EndInFrame, End::BadFrame];
     let stats = ServerStats::new(rt.alloc());
     let report = Report {
-        ends: &ends,
+        ends: &[End::Ended, End::EndInFrame, End::BadFrame],
         events: &[],
         levels: &[],
         counters: &[],
@@ -124,9 +96,8 @@ fn ample_ends(rt: HostRuntime) -> Result<(), Fail> {
         tokens: 0,
         stats: &stats,
     };
-    let mut out = Vec::new(rt.alloc());
-    put_report(rt.alloc(), &mut out, &report)?;
-    let text = b"conn 0 ended
+    let text = b"before
+conn 0 ended
 conn 1 end-in-frame
 conn 2 bad-frame
 background 0
@@ -134,8 +105,7 @@ tokens 0
 runs 0
 end
 ";
-    assert_eq!(rt; out.as_slice(), text.as_slice());
-    Ok(())
+    prints(&rt, rt.alloc(), &report, text)
 }
 
 #[test]
