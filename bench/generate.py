@@ -4,13 +4,12 @@
 Usage: bench/generate.py [N ..]
 
 The script of N is written here once more, line by line, and driven by too: where its report isn't that of `generate N` from the
-first level on, the benchmark fails. A step is one event. The time is that of the whole program, the least of three runs; the memory is
-the most that a run had.
+first level on, the benchmark fails. A step is one event. The time is the processor's and the whole program's, the least of three runs; the
+memory is the most that a run had.
 """
 import os
 import subprocess
 import sys
-import time
 from pathlib import Path
 
 TOP = Path(__file__).resolve().parent.parent
@@ -47,7 +46,6 @@ def script(number):
 
 def run(words, text=b""):
     """What the program printed, the seconds that it took, and its greatest memory in bytes."""
-    begun = time.monotonic()
     with subprocess.Popen([TOP / "sccache", *words], stdin=subprocess.PIPE, stdout=subprocess.PIPE) as program:
         program.stdin.write(text)
         program.stdin.close()
@@ -56,7 +54,7 @@ def run(words, text=b""):
         program.returncode = os.waitstatus_to_exitcode(status)
     if program.returncode != 0:
         sys.exit(f"sccache {' '.join(words)} ended with {program.returncode}")
-    return printed, time.monotonic() - begun, used.ru_maxrss * 1024
+    return printed, used.ru_utime + used.ru_stime, used.ru_maxrss * 1024
 
 
 def from_first_level(report):

@@ -14,6 +14,8 @@ import time
 
 TOP = os.path.dirname(os.path.dirname(os.path.realpath(__file__)))
 WORDS = ["-O2", "-g", "-Wall", "-Iheaders"]
+# What make builds: all files, and the example.
+FOLDERS = (".", "../example")
 NULL = [(os.POSIX_SPAWN_OPEN, n, os.devnull, os.O_RDWR, 0) for n in (0, 1, 2)]
 
 FUNCTION = """
@@ -175,16 +177,17 @@ def time_miss(times, by_name, kind, text, number, order):
         times.add(f"miss {kind}", tool.name, tool.time(*words), alone)
 
 
-def make_time(tool, make):
-    """A build of all files by make -j4 from nothing."""
-    subprocess.run([make, "-s", "clean"], check=True)
-    return run_time([make, "-s", "-j4", f"CC={' '.join([*tool.words, GCC])}"], tool.env)
+def make_time(tool, make, folder):
+    """A build of a folder by make -j4 from nothing."""
+    subprocess.run([make, "-s", "-C", folder, "clean"], check=True)
+    return run_time([make, "-s", "-j4", "-C", folder, f"CC={' '.join([*tool.words, GCC])}"], tool.env)
 
 
 def prepare(room, files):
     """The sources, and a Makefile of them. Answers the names by their kind."""
     for folder in ("bin", "run", "work", "work/headers"):
         os.makedirs(f"{room}/{folder}", mode=0o700)
+    shutil.copytree(f"{TOP}/examples/make", f"{room}/example")
     os.chdir(f"{room}/work")
     write("headers/item.h", HEADER)
     names = [f"file{number}.c" for number in range(files)]
@@ -208,7 +211,8 @@ def time_all(times, by_name, names, rounds):
             tool.time(*WORDS, "-c", name, "-o", "x.o")
         keys[name] = key_of(ours, name)
     for tool in order[1:]:
-        make_time(tool, make)
+        for folder in FOLDERS:
+            make_time(tool, make, folder)
     for number in range(rounds):
         order = order[1:] + order[:1]
         for name in [*names, "tiny.c"]:
@@ -217,9 +221,11 @@ def time_all(times, by_name, names, rounds):
             with open(name, encoding="utf-8") as it:
                 time_miss(times, by_name, kind, it.read(), number * 1000 + len(times.anchors.get(f"miss {kind}", [])), order)
         for tool in order:
-            if tool.name != "gcc":
-                alone = make_time(by_name["gcc"], make)
-                times.add("make ordinary", tool.name, make_time(tool, make), alone)
+            if tool.name == "gcc":
+                continue
+            for folder in FOLDERS:
+                alone = make_time(by_name["gcc"], make, folder)
+                times.add(f"make {folder}", tool.name, make_time(tool, make, folder), alone)
         print(f"bench/users.sh: round {number + 1} of {rounds}", file=sys.stderr)
 
 
@@ -246,7 +252,8 @@ def main(words):
         times.line(f"key {kind}", f"`compile` alone, {kind}, over a direct hit of ccache", columns, "at most 0.6" if kind == "ordinary" else "")
         times.line(f"miss {kind}", f"miss, {kind}, over gcc", columns, "at most 1.12" if kind == "ordinary" else "")
         times.line(f"pass {kind}", f"a call that isn't cached, {kind}, over gcc", columns, "at most 1.02" if kind == "ordinary" else "")
-    times.line("make ordinary", "warm `make -j4`, over gcc", columns, "at most 0.2, ahead of sccache")
+    times.line("make ../example", "warm `make -j4` of the example, links and all, over gcc", columns, "at most 0.2, ahead of sccache")
+    times.line("make .", "warm `make -j4` of all files, over gcc", columns, "")
     return 0
 
 
