@@ -3,7 +3,7 @@
 #
 # Usage: tools/install.sh [--prefix DIR] [--uninstall]     (DIR is /usr/local by default; DESTDIR stands before it)
 #
-# Only the proved program is installed. A file that is there and that no earlier call installed stays, and is told.
+# Only the proved program is installed. Where a file is there that no earlier call installed, it is told, and nothing is installed.
 set -u
 top=$(cd "$(dirname "$0")/.." && pwd) || exit 1
 prefix=/usr/local
@@ -48,19 +48,39 @@ uninstall() {
     return 0
 }
 
-# Makes the place of a file free, and notes it.
+# Whether a file is to be written now. At first its place is only looked at, and noted.
 place() {
-    if [ -e "$root/$1" ] || [ -L "$root/$1" ]; then
-        grep -qxF "$1" "$root/$list" 2>/dev/null || fail "$root/$1 is there, and not of an earlier install"
+    if [ -z "$writes" ]; then
+        if [ -e "$root/$1" ] || [ -L "$root/$1" ]; then
+            grep -qxF "$1" "$root/$list" 2>/dev/null || fail "$root/$1 is there, and not of an earlier install"
+        fi
+        echo "$1" >>"$noted"
+        return 1
     fi
     mkdir -p "$(dirname "$root/$1")" || fail "there is no folder for $root/$1"
-    echo "$1" >>"$noted"
 }
 
 # put MODE SOURCE FILE: a whole file in one step, so that a running program stays whole.
 put() {
-    place "$3"
+    place "$3" || return 0
     { cp "$2" "$root/$3.new" && chmod "$1" "$root/$3.new" && mv -f "$root/$3.new" "$root/$3"; } || fail "$root/$3 can't be written"
+}
+
+put_all() {
+    put 755 "$program" bin/ragzomei
+    put 755 "$top/tools/ragzomei-cc" bin/ragzomei-cc
+    put 755 "$top/tools/ragzomei-serve" bin/ragzomei-serve
+    for name in cc c++ gcc g++ clang clang++; do
+        ! place "lib/ragzomei/$name" || ln -sf ../../bin/ragzomei-cc "$root/lib/ragzomei/$name" ||
+            fail "$root/lib/ragzomei/$name can't be made"
+    done
+    sed "s|^ExecStart=.*/ragzomei serve \(.*\) [0-9]*$|ExecStart=$prefix/bin/ragzomei serve \1 $(getconf _NPROCESSORS_ONLN || echo 4)|" \
+        "$top/tools/ragzomei.service" >"$noted.service" || exit 1
+    put 644 "$noted.service" lib/systemd/user/ragzomei.service
+    put 644 "$top/tools/man/ragzomei.1" share/man/man1/ragzomei.1
+    put 644 "$top/tools/man/ragzomei-cc.1" share/man/man1/ragzomei-cc.1
+    put 644 "$top/tools/completion/ragzomei.bash" share/bash-completion/completions/ragzomei
+    put 644 "$top/tools/completion/_ragzomei" share/zsh/site-functions/_ragzomei
 }
 
 install_all() {
@@ -68,23 +88,15 @@ install_all() {
     "$top/tools/is-current" "$program" ||
         fail "the proved program isn't there, or is older than a source: .ci/run makes it, or cd crates/sc_main && rt run -- --version"
     noted=$(mktemp) || exit 1
-    trap 'rm -f "$noted"' EXIT
-    put 755 "$program" bin/ragzomei
-    put 755 "$top/tools/ragzomei-cc" bin/ragzomei-cc
-    put 755 "$top/tools/ragzomei-serve" bin/ragzomei-serve
-    for name in cc c++ gcc g++ clang clang++; do
-        place "lib/ragzomei/$name"
-        ln -sf ../../bin/ragzomei-cc "$root/lib/ragzomei/$name" || fail "$root/lib/ragzomei/$name can't be made"
-    done
-    sed "s|^ExecStart=.*/ragzomei serve \(.*\) [0-9]*$|ExecStart=$prefix/bin/ragzomei serve \1 $(getconf _NPROCESSORS_ONLN || echo 4)|" \
-        "$top/tools/ragzomei.service" >"$noted.service" || exit 1
-    put 644 "$noted.service" lib/systemd/user/ragzomei.service
-    rm -f "$noted.service"
-    put 644 "$top/tools/man/ragzomei.1" share/man/man1/ragzomei.1
-    put 644 "$top/tools/man/ragzomei-cc.1" share/man/man1/ragzomei-cc.1
-    put 644 "$top/tools/completion/ragzomei.bash" share/bash-completion/completions/ragzomei
-    put 644 "$top/tools/completion/_ragzomei" share/zsh/site-functions/_ragzomei
-    { mkdir -p "$root/share/ragzomei" && cp "$noted" "$root/$list"; } || fail "$root/$list can't be written"
+    trap 'rm -f "$noted" "$noted.service"' EXIT
+    writes=''
+    put_all
+    # (the list comes first, with what stands in it already: an install that fails can be made again, or taken away)
+    cat "$root/$list" >>"$noted" 2>/dev/null
+    { mkdir -p "$root/share/ragzomei" && sort -u "$noted" >"$root/$list.new" && mv -f "$root/$list.new" "$root/$list"; } ||
+        fail "$root/$list can't be written"
+    writes=1
+    put_all
 }
 
 if [ -n "$uninstalls" ]; then
