@@ -9,18 +9,14 @@ import sys
 import tempfile
 import time
 
-TOP = os.path.dirname(os.path.dirname(os.path.realpath(__file__)))
-PROGRAM = os.path.realpath(sys.argv[1]) if len(sys.argv) > 1 else f"{TOP}/crates/sc_main/out/sc_main"
+from spelled import PROGRAM, Wrong, frame, u32
+
 SOURCE = "int twice(int n) { return 2 * n; }\n"
 
 # Requests and replies as they are on the wire: a length, then a number and what belongs to it.
-ZERO_STATS, GET_STATS = (struct.pack(">I", 4) + struct.pack("<I", number) for number in (0, 1))
-STARTED = struct.pack(">I", 8) + struct.pack("<II", 0, 0)
-ZEROED = struct.pack(">I", 4) + struct.pack("<I", 1)
-
-
-class Wrong(Exception):
-    """A check that doesn't hold."""
+ZERO_STATS, GET_STATS = frame(u32(0)), frame(u32(1))
+STARTED = frame(u32(0) + u32(0))
+ZEROED = frame(u32(1))
 
 
 def expect(holds, what):

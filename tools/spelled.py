@@ -9,7 +9,7 @@ PROGRAM = os.path.realpath(sys.argv[1]) if len(sys.argv) > 1 else f"{TOP}/crates
 
 
 class Wrong(Exception):
-    """A row that comes to something else."""
+    """A row, or a check, that comes to something else."""
 
 
 def u32(number):
