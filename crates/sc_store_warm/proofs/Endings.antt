@@ -15,7 +15,7 @@ use Rattle.sc_store_disk.specs.Moving.{part_files}
 use Rattle.sc_store_warm.proofs.Sources.{key_stays, rose_before, rose_then, stays_self, stays_then, was_held}
 use Rattle.sc_store_warm.proofs.Targets.{IsAside, Moved, TargetStep, moved, step_fits, step_grows, step_still, step_within, target_of}
 use Rattle.sc_store_warm.specs.Causes.{IfTells, held_under}
-use Rattle.sc_store_warm.specs.Outcomes.{FitEach, IsCopied, IsCopy, IsListed, IsOther, SourceStays, StaysOrGone, WhyGone, copied_bytes}
+use Rattle.sc_store_warm.specs.Outcomes.{FitEach, IsCopied, IsCopy, IsNext, IsOther, SourceStays, StaysOrGone, WhyGone, copied_bytes}
 use Rattle.sc_store_warm.specs.Warming.{Each, WarmsKey}
 use Rattle.sc_store_warm.specs.declared.warmed.Warmed.{Warmed}
 use Rattle.sc_store_warm.specs.declared.warmed.Warmed.TheVariants.{Absent, Copied, FromRefused, ToRefused, Torn}
@@ -145,7 +145,7 @@ grows_first (ToRefused refusal) rest a b c copy other more = let first : b ≤ a
 gone_first : (kind : LevelKind) (k : List ℕ) (keys : List (List ℕ)) (w : Warmed) (rest : List Warmed) (f : State) (part : Part) (t m u : HeldLevel) → m.level.losses ≤ u.level.losses → WhyGone kind (k ∷ []) (w ∷ []) f part t m → WhyGone kind (k ∷ keys) (w ∷ rest) f part t u
 gone_first Disk k keys w rest f part t m u less x = record {
   key = x.key;
-  listed = first x.listed;
+  listed = first x.before x.listed;
   bytes = x.bytes;
   spelled = x.spelled;
   wanted = x.wanted;
@@ -154,9 +154,9 @@ gone_first Disk k keys w rest f part t m u less x = record {
   split = ap (λ (ws : List Warmed). ws ++ rest) x.split ∙ append_assoc x.before x.behind rest;
   over = x.over;
 } where
-  first : IsListed x.key (k ∷ []) → IsListed x.key (k ∷ keys)
-  first (inl e) = inl e
-  first (inr none) = absurd none
+  first : (before : List Warmed) → IsNext x.key (k ∷ []) before → IsNext x.key (k ∷ keys) before
+  first [] e = e
+  first (v ∷ before) none = absurd none
 gone_first Remote k keys w rest f Main t m u less rose = rose_then t.level.losses m.level.losses u.level.losses rose less
 gone_first Remote k keys w rest f Pre t m u less none = none
 
@@ -171,7 +171,7 @@ gone_later : (kind : LevelKind) (k : List ℕ) (keys : List (List ℕ)) (w : War
     → (kind ≡ Disk → (ws : List Warmed) → part_size m.level + copied_bytes ws ≤ part_size t.level + copied_bytes (w ∷ ws)) → WhyGone kind keys rest s part m u → WhyGone kind (k ∷ keys) (w ∷ rest) f part t u
 gone_later Disk k keys w rest f s part t m u stays facts reserved less grows x = record {
   key = x.key;
-  listed = inr x.listed;
+  listed = x.listed;
   bytes = x.bytes;
   spelled = x.spelled;
   wanted = was_held f s x.key x.bytes stays x.wanted;

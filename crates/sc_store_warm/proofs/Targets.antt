@@ -237,7 +237,7 @@ module _ (key : List ℕ) (warmed : Warmed) (f g : State) (t u : HeldLevel) (x :
   apart_of Pre (WriteRefused c) p copy aside = tt
 
   why : (kind : LevelKind) (part : Part) → GoneBy kind t.facts.capacity (t.room.reserved + length x.bytes) part t.level u.level → WhyGone kind (key ∷ []) (warmed ∷ []) f part t u
-  why Disk part over = record { key = key; listed = inl refl; bytes = x.bytes; spelled = x.spelled; wanted = at_source; before = []; behind = warmed ∷ []; split = refl; over = omega (arith, over) }
+  why Disk part over = record { key = key; before = []; behind = warmed ∷ []; split = refl; listed = refl; bytes = x.bytes; spelled = x.spelled; wanted = at_source; over = omega (arith, over) }
   why Remote Main rose = rose
   why Remote Pre none = none
 

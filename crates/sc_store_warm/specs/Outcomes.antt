@@ -19,15 +19,16 @@ abbrev pub IsCopy : Warmed → Type 0
 IsCopy (Copied size) = Unit {0}
 IsCopy warmed = ⊥
 
--- a key was listed
-abbrev pub IsListed : List ℕ → List (List ℕ) → Type 0
-IsListed key [] = ⊥
-IsListed key (first ∷ keys) = (first ≡ key) ⊎ IsListed key keys
-
 -- a key was copied, at one of its places
 abbrev pub IsCopied : List ℕ → List (List ℕ) → List Warmed → Type 0
 IsCopied key (first ∷ keys) (warmed ∷ rest) = ((first ≡ key) × IsCopy warmed) ⊎ IsCopied key keys rest
 IsCopied key keys rest = ⊥
+
+-- the key that is listed next, behind those of which these tell
+abbrev pub IsNext : List ℕ → List (List ℕ) → List Warmed → Type 0
+IsNext key [] before = ⊥
+IsNext key (first ∷ keys) [] = first ≡ key
+IsNext key (first ∷ keys) (warmed ∷ before) = IsNext key keys before
 
 -- all bytes that were copied
 abbrev pub copied_bytes : List Warmed → ℕ
@@ -56,17 +57,17 @@ SourceStays (Layered old) (Layered new) = Unit {0}
 SourceStays (Wrapped old) (Wrapped new) = SourceStays old new
 SourceStays old new = ⊥
 
--- An eviction took a file for the entry of a listed key: the files that stood at first and the entries that were copied before took,
--- with what is reserved and that entry, more than the capacity.
+-- An eviction took a file for the entry of a listed key: the files that stood at first and the entries that were copied before that
+-- key took, with what is reserved and that entry, more than the capacity.
 pub record WasEvicted (keys : List (List ℕ)) (warmed : List Warmed) (from : State) (old : HeldLevel) : Type 0 where
   pub key : List ℕ
-  pub listed : IsListed key keys
-  pub bytes : List ℕ
-  pub spelled : AreSpelled bytes
-  pub wanted : IfTells from (λ source. held_under source key ≡ Some bytes)
   pub before : List Warmed
   pub behind : List Warmed
   pub split : warmed ≡ before ++ behind
+  pub listed : IsNext key keys before
+  pub bytes : List ℕ
+  pub spelled : AreSpelled bytes
+  pub wanted : IfTells from (λ source. held_under source key ≡ Some bytes)
   pub over : old.facts.capacity < part_size old.level + copied_bytes before + (old.room.reserved + length bytes)
 
 -- Why a file is gone: at a disk store it was evicted; a remote store found it lost, and keeps no preprocessor entries.

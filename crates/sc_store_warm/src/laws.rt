@@ -19,8 +19,8 @@ pub fn copied_stays()
 {}
 
 /// Whatever else the target held is as it was, or it is gone: a file because an eviction took it for the entry of a listed key,
-/// and only where the files that stood at first, the entries that were copied before, what is reserved and that entry took more
-/// than the capacity; an entry of a remote store because the store found it lost. No preprocessor entry is put or replaced.
+/// and only where the files that stood at first, the entries that were copied before that key, what is reserved and that entry
+/// took more than the capacity; an entry of a remote store because the store found it lost. No preprocessor entry is put or replaced.
 pub fn others_stay()
     ensures { (keys : List (List ℕ)) (warmed : List Warmed) (from from2 : State) (to to2 : HeldLevel) → Each WarmsKey keys warmed from from2 (Alone to) (Alone to2) → to.told ≡ true
         → (part : Part) (path : List ℕ) → IsOther part to.facts.kind path keys warmed → StaysOrGone keys warmed from part path to to2 }
@@ -31,9 +31,9 @@ pub fn source_stays()
     ensures { (keys : List (List ℕ)) (warmed : List Warmed) (from from2 to to2 : State) → Each WarmsKey keys warmed from from2 to to2 → SourceStays from from2 }
 {}
 
-/// A disk store stays within its capacity, after each key, since this holds of each front of the keys. Each entry that was copied
-/// fits in the capacity beside what is reserved, neither of which changes, and the files take no more bytes than before and those
-/// that were copied.
+/// A disk store that is within its capacity, as each store is (`DiskCache::keeps`), stays so, after each key, since this holds of
+/// each front of the keys. Each entry that was copied fits in the capacity beside what is reserved, neither of which changes, and
+/// the files take no more bytes than before and those that were copied.
 pub fn within()
     ensures within { (keys : List (List ℕ)) (warmed : List Warmed) (from from2 : State) (to to2 : HeldLevel) → Each WarmsKey keys warmed from from2 (Alone to) (Alone to2)
         → to.facts.kind ≡ IsDisk → part_size to.level + to.room.reserved ≤ to.facts.capacity → part_size to2.level + to2.room.reserved ≤ to2.facts.capacity }
