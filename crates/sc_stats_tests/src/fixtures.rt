@@ -1,8 +1,8 @@
-//! A store of two levels, and what the daemon tells without a store.
+//! A store of one level, and what a daemon tells of it.
 ghost use Rattle.std.specs.Prelude.{◌≡◌, [], ◌∷◌, codes, None, Some, true};
 
-use sc_entry::{ByteText, Counts, Items, NoMemory, Text};
-use sc_stats::{LevelStats, ServerInfo, ServerStats, Span, StoreFacts};
+use sc_entry::{ByteText, Items, NoMemory, Text};
+use sc_stats::{LevelStats, ServerInfo, ServerStats, StoreFacts};
 use std::alloc::Global;
 use std::test::Fail;
 
@@ -41,88 +41,33 @@ impl StoreFacts for Levels {
     }
 }
 
-/// What a level counts.
-#[derive(Clone, Copy)]
-pub(crate) struct LevelNumbers {
-    pub hits: u64,
-    pub misses: u64,
-    pub writes: u64,
-    pub write_failures: u64,
-    pub backfills_from: u64,
-    pub backfills_to: u64,
-    pub hit_nanoseconds: u64,
-    pub write_seconds: u64,
-}
-
-fn fill_level(level: &mut LevelStats, numbers: &LevelNumbers) {
-    level.hits = numbers.hits;
-    level.misses = numbers.misses;
-    level.writes = numbers.writes;
-    level.write_failures = numbers.write_failures;
-    level.backfills_from = numbers.backfills_from;
-    level.backfills_to = numbers.backfills_to;
-    level.hit_duration = Span::from_nanoseconds(numbers.hit_nanoseconds);
-    level.write_duration = Span::new(numbers.write_seconds, 0);
-}
-
-/// A level of this name and location that counted nothing.
-pub(crate) fn level_named(alloc: Global, name: &str, location: &str) -> Result<LevelStats, Fail> {
+fn level_named(alloc: Global, name: &str) -> Result<LevelStats, Fail> {
     let name = Text::from_str(alloc, name)?;
-    let location = Text::from_str(alloc, location)?;
-    Ok(LevelStats::named(name, location))
+    Ok(LevelStats::named(name, Text::new(alloc)))
 }
 
-/// A disk that counted these numbers.
-fn disk_level(alloc: Global, numbers: &LevelNumbers) -> Result<LevelStats, Fail> {
-    let mut disk = level_named(alloc, "L0 (disk)", "/ö")?;
-    fill_level(&mut disk, numbers);
-    Ok(disk)
-}
-
-fn push_levels(
-    levels: &mut Items<LevelStats>,
-    alloc: Global,
-    numbers: &LevelNumbers,
-    location: &str,
-) -> Result<(), Fail> {
-    levels.push(disk_level(alloc, numbers)?)?;
-    levels.push(level_named(alloc, "Lé", location)?)?;
-    Ok(())
-}
-
-/// A disk that counted these numbers, and behind it a level at a location that counted nothing.
-pub(crate) fn two_levels(
-    alloc: Global,
-    numbers: &LevelNumbers,
-    location: &str,
-) -> Result<Items<LevelStats>, Fail> {
+/// Levels of these names that counted nothing.
+pub(crate) fn levels_named(alloc: Global, names: &[&str]) -> Result<Items<LevelStats>, Fail> {
     let mut levels = Items::new(alloc);
-    push_levels(&mut levels, alloc, numbers, location)?;
+    for name in names {
+        levels.push(level_named(alloc, name)?)?;
+    }
     Ok(levels)
 }
 
-/// A store over these levels, which reads paths relative to two folders.
-pub(crate) fn store(
-    alloc: Global,
-    levels: Items<LevelStats>,
-    folders: [&[u8]; 2],
-) -> Result<Levels, Fail> {
-    let mut basedirs = Items::new(alloc);
-    for folder in folders {
-        basedirs.push(ByteText::from_slice(alloc, folder)?)?;
-    }
+/// A store of one level.
+fn store(alloc: Global) -> Result<Levels, Fail> {
+    let levels = levels_named(alloc, &["disk"])?;
+    let basedirs = Items::new(alloc);
     Ok(Levels { levels, basedirs })
 }
 
-/// What a daemon without a store tells that counted nothing.
-pub(crate) fn no_info(alloc: Global) -> Result<ServerInfo, Fail> {
-    let no_store: Option<&Levels> = None;
-    Ok(ServerInfo::new(alloc, ServerStats::new(alloc), no_store)?)
+fn info_of(alloc: Global, store: &Levels) -> Result<ServerInfo, Fail> {
+    Ok(ServerInfo::new(alloc, ServerStats::new(alloc), Some(store))?)
 }
 
-/// Counts a text so many times more.
-pub(crate) fn count(counts: &mut Counts, alloc: Global, text: &str, n: u64) -> Result<(), Fail> {
-    let text = Text::from_str(alloc, text)?;
-    counts.add(&text, n)?;
-    Ok(())
+/// What a daemon over such a store tells that counted nothing.
+pub(crate) fn info(alloc: Global) -> Result<ServerInfo, Fail> {
+    let store = store(alloc)?;
+    info_of(alloc, &store)
 }

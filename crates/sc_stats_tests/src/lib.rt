@@ -1,10 +1,6 @@
-//! Tests of `sc_stats` and `sc_stats_json`.
+//! Tests of `sc_stats` and `sc_stats_json`: the calls that the program doesn't make. What it prints of statistics `tools/tables` shows.
 #![tactic(auto)]
 
-#[cfg(test)]
-mod expected;
-#[cfg(test)]
-mod expected_json;
 #[cfg(test)]
 mod fixtures;
 #[cfg(test)]
