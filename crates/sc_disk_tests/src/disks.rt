@@ -22,18 +22,6 @@ pub(crate) fn disk_of(alloc: Global, root: &[u8], failing: &[u64]) -> Result<Mem
     disk_beside(alloc, root, BTreeMap::new(alloc), failing)
 }
 
-/// Puts a file on a disk, as if it had stood there.
-pub(crate) fn hold(
-    alloc: Global,
-    disk: &mut MemDisk,
-    path: &str,
-    moment: u64,
-    bytes: &[u8],
-) -> Result<(), NoMemory> {
-    let path = Text::from_str(alloc, path)?;
-    disk.hold(&path, moment, bytes)
-}
-
 /// The length of the file that a disk holds at a path, if any stands there.
 pub(crate) fn len_at(alloc: Global, disk: &MemDisk, path: &str) -> Result<Option<usize>, NoMemory> {
     let path = Text::from_str(alloc, path)?;

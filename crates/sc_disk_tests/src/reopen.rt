@@ -227,22 +227,6 @@ fn leaves(
     reopens(rt, alloc, torn, expected, size)
 }
 
-fn commits_whole(rt: &impl Abort, alloc: Global, store: &mut Store) -> Result<(), Fail> {
-    commits_one(alloc, store)?;
-    assert_eq!(rt; store.disk().changes().len(), 6);
-    leaves(rt, alloc, store, 5, "", 0)?;
-    leaves(rt, alloc, store, 6, "a=0123456789 ", 10)
-}
-
-/// While the first of two open entries is committed: a stop before its rename leaves nothing, and one after it the whole
-/// file. Nothing is left of the other entry.
-#[test]
-fn stopped_at_a_commit(rt: HostRuntime) -> Result<(), Fail> {
-    let alloc = rt.alloc();
-    let mut store = opened(alloc, empty_disk(alloc)?)?;
-    commits_whole(&rt, alloc, &mut store)
-}
-
 /// The files and their bytes together, once a store is opened after so many changes of the story.
 const TABLE: &[(&str, u64)] = &[
     ("", 0),

@@ -1,5 +1,5 @@
 //! A store of files on one disk. Which files go where it is full a script over the program shows, beside an own rule.
-use crate::disks::{disk_beside, hold, key_of, len_at};
+use crate::disks::{disk_beside, key_of, len_at};
 use sc_disk::{
     Disk, EntryFile, Error, FileWriter, InsertError, LruDiskCache, MemDisk, OpenError,
     make_key_path, normalize_key,
@@ -61,11 +61,6 @@ fn remove(alloc: Global, store: &mut Store, key: &str) -> Result<(), Error> {
     store.remove(&key)
 }
 
-fn has(alloc: Global, store: &Store, key: &str) -> Result<bool, NoMemory> {
-    let key = key_of(alloc, key)?;
-    Ok(store.contains_key(&key))
-}
-
 fn read(alloc: Global, store: &mut Store, key: &str) -> Result<Vec<u8>, Error> {
     let key = key_of(alloc, key)?;
     match store.get(&key, 4) {
@@ -80,31 +75,12 @@ fn reads(alloc: Global, store: &mut Store, key: &str, expected: &[u8]) -> Result
     Ok(bytes.as_slice() == expected)
 }
 
-/// The error of an entry that isn't opened.
-fn refused_to_add(
-    alloc: Global,
-    store: &mut Store,
-    key: &str,
-    size: u64,
-) -> Result<Option<Error>, NoMemory> {
-    let key = key_of(alloc, key)?;
-    Ok(store.prepare_add(&key, size, 3).err())
-}
-
 #[test]
 fn key_paths(rt: HostRuntime) -> Result<(), Fail> {
     let alloc = rt.alloc();
     let key = Text::from_str(alloc, "abcdef")?;
     assert_eq!(rt; make_key_path(alloc, &key)?.as_str(), "a/b/abcdef");
     assert_eq!(rt; normalize_key(alloc, &key)?.as_str(), "a/b/c/abcdef");
-    Ok(())
-}
-
-/// Stores three files of ten bytes.
-fn three_files(alloc: Global, store: &mut Store) -> Result<(), Error> {
-    for (name, now) in [("file1", 1), ("file2", 2), ("file3", 3)] {
-        insert(alloc, store, name, b"0123456789", now)?;
-    }
     Ok(())
 }
 
@@ -119,45 +95,6 @@ fn commit_undeclared(
     let entry = store.prepare_add(&key, 0, 1)?;
     store.fill(&entry, bytes)?;
     store.commit(entry, 1)
-}
-
-/// Four bytes are stored, and then eleven are refused.
-fn measures(rt: &impl Abort, alloc: Global, store: &mut Store) -> Result<(), Fail> {
-    commit_undeclared(alloc, store, "a", b"0123")?;
-    let size = store.size();
-    let large = commit_undeclared(alloc, store, "b", b"0123456789A");
-    let left = len_at(alloc, store.disk(), ".sccachetmp0")?;
-    let refused = large == Err(Error::FileTooLarge) && left.is_none();
-    assert!(rt; size == 4 && refused && store.size() == 4);
-    Ok(())
-}
-
-/// A commit measures what was filled, and leaves no temporary of what is too large.
-#[test]
-fn undeclared_bytes(rt: HostRuntime) -> Result<(), Fail> {
-    let mut store = store_of(rt.alloc(), 10, &[])?;
-    measures(&rt, rt.alloc(), &mut store)
-}
-
-/// Texts that are no keys are refused, and so is a size over the capacity; nothing is stored.
-fn refuses_keys(rt: &impl Abort, alloc: Global, store: &mut Store) -> Result<(), Fail> {
-    for bad in ["x/.sccachetmp1", "", "a//b", "../x", "a/.", "/a"] {
-        assert_eq!(rt;
-            refused_to_add(alloc, store, bad, 1)?,
-            Some(Error::BadKey),
-            "{bad}"
-        );
-    }
-    let large = refused_to_add(alloc, store, "c", 11)?;
-    let absent = read(alloc, store, "c").err();
-    assert!(rt; large == Some(Error::FileTooLarge) && absent == Some(Error::FileNotInCache));
-    Ok(())
-}
-
-#[test]
-fn refused_keys(rt: HostRuntime) -> Result<(), Fail> {
-    let mut store = store_of(rt.alloc(), 10, &[])?;
-    refuses_keys(&rt, rt.alloc(), &mut store)
 }
 
 /// Opens an entry, and removes its temporary.
@@ -186,12 +123,6 @@ fn ends_story(rt: &impl Abort, alloc: Global, store: &mut Store) -> Result<(), F
     Ok(())
 }
 
-#[test]
-fn whole_story(rt: HostRuntime) -> Result<(), Fail> {
-    let mut store = store_of(rt.alloc(), 10, &[])?;
-    ends_story(&rt, rt.alloc(), &mut store)
-}
-
 /// Whether the story is refused once, and the store stays within its capacity.
 fn is_refused_once(alloc: Global, store: &mut Store) -> bool {
     let answer = story(alloc, store);
@@ -213,10 +144,17 @@ fn refuses_story(
     Ok(())
 }
 
-/// A store whose disk refuses the call of this number.
+/// The story of a store whose disk refuses the call of this number. It makes no 29th.
+fn tells_story(rt: &impl Abort, alloc: Global, store: &mut Store, number: u64) -> Result<(), Fail> {
+    if number == 29 {
+        return ends_story(rt, alloc, store);
+    }
+    refuses_story(rt, alloc, store, number)
+}
+
 fn refuses_call(rt: &impl Abort, alloc: Global, number: u64) -> Result<(), Fail> {
     let mut store = store_of(alloc, 10, &[number])?;
-    refuses_story(rt, alloc, &mut store, number)
+    tells_story(rt, alloc, &mut store, number)
 }
 
 /// Whether a listing that is refused refuses the opening.
@@ -226,48 +164,14 @@ fn is_refused(alloc: Global) -> Result<bool, Fail> {
 }
 
 /// Whichever call of the disk is refused, the story is refused once, the store stays within its capacity, no temporary is
-/// left but one whose removal was refused, and the outside file stays.
+/// left but one whose removal was refused, and the outside file stays. Where none is, it ends by all of its calls.
 #[test]
 fn each_call_refused(rt: HostRuntime) -> Result<(), Fail> {
-    for number in 2..29 {
+    for number in 2..30 {
         refuses_call(&rt, rt.alloc(), number)?;
     }
     assert!(rt; is_refused(rt.alloc())?);
     Ok(())
-}
-
-/// Puts three files on a disk, a temporary, and a file over nine bytes.
-fn hold_files(alloc: Global, disk: &mut MemDisk) -> Result<(), NoMemory> {
-    hold(alloc, disk, "old", 1, b"0123")?;
-    hold(alloc, disk, "new", 3, b"0123")?;
-    hold(alloc, disk, "mid", 2, b"0123")?;
-    hold(alloc, disk, "x/.sccachetmp7", 4, b"0")?;
-    hold(alloc, disk, "large", 5, b"0123456789")
-}
-
-fn held_disk(alloc: Global) -> Result<MemDisk, Fail> {
-    let mut disk = disk_of(alloc, &[])?;
-    hold_files(alloc, &mut disk)?;
-    Ok(disk)
-}
-
-/// The two newest files that fit are indexed, and the others are gone.
-fn keeps_held(rt: &impl Abort, alloc: Global, store: &Store) -> Result<(), Fail> {
-    let middle = has(alloc, store, "mid")?;
-    let newest = has(alloc, store, "new")?;
-    assert!(rt; store.len() == 2 && middle && newest);
-    for gone in ["old", "x/.sccachetmp7", "large"] {
-        assert_eq!(rt; len_at(alloc, store.disk(), gone)?, None, "{gone}");
-    }
-    Ok(())
-}
-
-/// An opening keeps the newest files that fit; temporaries and files over the capacity go.
-#[test]
-fn reopened(rt: HostRuntime) -> Result<(), Fail> {
-    let disk = held_disk(rt.alloc())?;
-    let store = opened(LruDiskCache::new(rt.alloc(), disk, 9, 6))?;
-    keeps_held(&rt, rt.alloc(), &store)
 }
 
 /// Writes a text in two pieces, or refuses after the first.
@@ -318,38 +222,4 @@ fn writes(rt: &impl Abort, alloc: Global, store: &mut Store) -> Result<(), Fail>
 fn written_file(rt: HostRuntime) -> Result<(), Fail> {
     let mut store = store_of(rt.alloc(), 10, &[])?;
     writes(&rt, rt.alloc(), &mut store)
-}
-
-fn path_of(alloc: Global, store: &mut Store, key: &str) -> Result<Option<Vec<u8>>, Error> {
-    let key = key_of(alloc, key)?;
-    match store.get_abs_path(&key)? {
-        Some(path) => Ok(Some(path.into_vec())),
-        None => Ok(None),
-    }
-}
-
-/// Whether a key's file stands at this path.
-fn stands_at(alloc: Global, store: &mut Store, key: &str, expected: &[u8]) -> Result<bool, Error> {
-    match path_of(alloc, store, key)? {
-        Some(path) => Ok(path.as_slice() == expected),
-        None => Ok(false),
-    }
-}
-
-/// The second of three files is asked for its path, and is kept.
-fn finds_path(rt: &impl Abort, alloc: Global, store: &mut Store) -> Result<(), Fail> {
-    three_files(alloc, store)?;
-    let absent = path_of(alloc, store, "file1")?.is_none();
-    let found = stands_at(alloc, store, "file2", b"/r/file2")?;
-    insert(alloc, store, "file1", b"0123456789", 6)?;
-    let kept = has(alloc, store, "file2")?;
-    assert!(rt; absent && found && kept);
-    Ok(())
-}
-
-/// A key that is asked for its path is the newest.
-#[test]
-fn absolute_path(rt: HostRuntime) -> Result<(), Fail> {
-    let mut store = store_of(rt.alloc(), 25, &[])?;
-    finds_path(&rt, rt.alloc(), &mut store)
 }
