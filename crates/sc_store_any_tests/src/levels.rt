@@ -1,9 +1,9 @@
-//! Lookups and puts over levels.
+//! The calls that levels alone have.
 use sc_disk::MemDisk;
-use sc_entry::{ByteText, Cache, CacheMode, CacheWrite, Calls, Items, Text};
-use sc_model::{Answer, LevelPolicy, Mode, Put};
+use sc_entry::{ByteText, CacheMode, Calls, Items, Text};
+use sc_model::{Answer, Mode};
 use sc_stats::LevelStats;
-use sc_store::{DiskCache, Level, MemRemote, RemoteStorage, Unvouched};
+use sc_store::{Level, MemRemote, RemoteStorage, Unvouched};
 use sc_store_any::MultiLevelStorage;
 use sc_store_config::{DiskConfig, StoreConfig, WriteErrorPolicy};
 use std::alloc::Global;
@@ -17,12 +17,8 @@ pub(crate) type OneLevel = Level<MemRemote, MemDisk, Unvouched>;
 
 const RW: CacheMode = CacheMode::ReadWrite;
 
-const REQUIRED: LevelPolicy = LevelPolicy::Required;
-
-const BACKGROUND: LevelPolicy = LevelPolicy::Background;
-
 /// A remote level that holds these bytes under `abc`, if there are any.
-pub(crate) fn remote(alloc: Global, held: &[u8]) -> Result<OneLevel, Fail> {
+fn remote(alloc: Global, held: &[u8]) -> Result<OneLevel, Fail> {
     let mut files = Items::new(alloc);
     if !held.is_empty() {
         let path = Text::from_str(alloc, "a/b/c/abc")?;
@@ -32,68 +28,19 @@ pub(crate) fn remote(alloc: Global, held: &[u8]) -> Result<OneLevel, Fail> {
     Ok(Level::Remote(RemoteStorage::new(alloc, remote, Items::new(alloc), RW)))
 }
 
-/// An empty disk in memory, which refuses the call of this number.
-pub(crate) fn disk(alloc: Global, root: &[u8], fails: u64) -> Result<MemDisk, Fail> {
-    let failing = Items::from_vec(vec![in alloc; fails]?);
-    let calls = Calls::failing_at(alloc, failing)?;
-    Ok(MemDisk::new(
-        alloc,
-        ByteText::from_slice(alloc, root)?,
-        BTreeMap::new(alloc),
-        calls,
-    ))
+/// An empty disk in memory under this root.
+pub(crate) fn disk(alloc: Global, root: &[u8]) -> Result<MemDisk, Fail> {
+    let root = ByteText::from_slice(alloc, root)?;
+    Ok(MemDisk::new(alloc, root, BTreeMap::new(alloc), Calls::new(alloc)))
 }
 
-/// A disk store of 100 bytes, whose main disk refuses the call of this number.
-pub(crate) fn disk_store(
-    alloc: Global,
-    fails: u64,
-    mode: CacheMode,
-) -> Result<DiskCache<MemDisk, Unvouched>, Fail> {
-    let main = disk(alloc, b"/0", fails)?;
-    let pre = disk(alloc, b"/0p", 0)?;
-    Ok(DiskCache::new(alloc, main, pre, 100, true, mode, Items::new(alloc)))
-}
-
-/// The same as a level.
-pub(crate) fn disk_level(alloc: Global, fails: u64, mode: CacheMode) -> Result<OneLevel, Fail> {
-    Ok(Level::Disk(disk_store(alloc, fails, mode)?))
-}
-
-/// These levels, with these policies.
-pub(crate) fn storage(
-    alloc: Global,
-    levels: Vec<OneLevel>,
-    policies: &[LevelPolicy],
-) -> Result<Storage, Fail> {
-    let policies = Items::from_vec(policies.to_vec(alloc)?);
-    Ok(Storage::with_level_policies(alloc, levels, policies)?)
-}
-
-fn told(put: Put) -> &'static str {
-    match put {
-        Put::Done => "done",
-        Put::Refused(_) => "refused",
-        Put::Level(0, _) => "refused by level 0",
-        Put::Level(_, _) => "refused by a later level",
-        Put::NoLevels => "no levels",
+/// Remote levels, which hold these bytes under `abc`, where there are any.
+pub(crate) fn remotes(alloc: Global, held: &[&[u8]]) -> Result<Vec<OneLevel>, Fail> {
+    let mut levels = Vec::new(alloc);
+    for bytes in held {
+        levels.push(remote(alloc, bytes)?)?;
     }
-}
-
-/// Puts these bytes under `abc`.
-fn put(alloc: Global, storage: &mut Storage, bytes: &[u8]) -> Result<&'static str, Fail> {
-    let key = Text::from_str(alloc, "abc")?;
-    let bytes = ByteText::from_slice(alloc, bytes)?;
-    Ok(told(storage.put_raw(alloc, &key, bytes, 1)?))
-}
-
-/// What stands under `abc`, or nothing.
-fn get_raw(alloc: Global, storage: &mut Storage) -> Result<ByteText, Fail> {
-    let key = Text::from_str(alloc, "abc")?;
-    match storage.get_raw(alloc, &key, 1)? {
-        Some(bytes) => Ok(bytes),
-        None => Ok(ByteText::new(alloc)),
-    }
+    Ok(levels)
 }
 
 /// What a level counted: hits, misses, writes, failures, backfills from it, and backfills to it.
@@ -108,43 +55,10 @@ fn counted(alloc: Global, counters: &[LevelStats], level: usize) -> Result<Strin
     Ok(text)
 }
 
-/// Remote levels, which hold these bytes under `abc`, where there are any.
-pub(crate) fn remotes(alloc: Global, held: &[&[u8]]) -> Result<Vec<OneLevel>, Fail> {
-    let mut levels = Vec::new(alloc);
-    for bytes in held {
-        levels.push(remote(alloc, bytes)?)?;
-    }
-    Ok(levels)
-}
-
 /// Whether a level counted so.
 fn has_counted(alloc: Global, store: &Storage, level: usize, expected: &str) -> Result<bool, Fail> {
     let text = counted(alloc, store.stats(), level)?;
     Ok(text.as_str() == expected)
-}
-
-/// Whether these bytes stand under `abc`.
-fn holds(alloc: Global, store: &mut Storage, expected: &[u8]) -> Result<bool, Fail> {
-    let bytes = get_raw(alloc, store)?;
-    Ok(bytes.as_slice() == expected)
-}
-
-fn looks_up_and_puts(rt: &impl Abort, alloc: Global, store: &mut Storage) -> Result<(), Fail> {
-    assert!(rt; holds(alloc, store, b"AAA")?);
-    assert!(rt; holds(alloc, store, b"AAA")?);
-    assert_eq!(rt; put(alloc, store, b"BB")?, "done");
-    assert!(rt; has_counted(alloc, store, 0, "1 1 1 0 0 1")?);
-    assert!(rt; has_counted(alloc, store, 1, "0 1 1 0 0 1")?);
-    assert!(rt; has_counted(alloc, store, 2, "1 0 0 0 2 0")?);
-    Ok(())
-}
-
-#[test]
-fn hit_is_put_at_the_levels_before_it(rt: HostRuntime) -> Result<(), Fail> {
-    let alloc = rt.alloc();
-    let policies = [REQUIRED, BACKGROUND, LevelPolicy::Off];
-    let mut store = storage(alloc, remotes(alloc, &[b"", b"", b"AAA"])?, &policies)?;
-    looks_up_and_puts(&rt, alloc, &mut store)
 }
 
 /// Asks a level for the bytes under `abc`, and says whether it has them.
@@ -191,97 +105,11 @@ fn single_steps_touch_one_level(rt: HostRuntime) -> Result<(), Fail> {
     takes_single_steps(&rt, alloc, &mut store)
 }
 
-/// A level over a disk, whose call of this number is refused, and one over an empty remote.
-fn disk_and_remote(alloc: Global, fails: u64, mode: CacheMode) -> Result<Vec<OneLevel>, Fail> {
-    let mut levels = Vec::new(alloc);
-    levels.push(disk_level(alloc, fails, mode)?)?;
-    levels.push(remote(alloc, b"")?)?;
-    Ok(levels)
-}
-
-/// Whether a put ends so, and both levels count so.
-fn puts(
-    rt: &impl Abort,
-    alloc: Global,
-    store: &mut Storage,
-    end: &str,
-    counts: [&str; 2],
-) -> Result<(), Fail> {
-    assert_eq!(rt; put(alloc, store, b"BB")?, end);
-    assert!(rt; has_counted(alloc, store, 0, counts[0])?);
-    assert!(rt; has_counted(alloc, store, 1, counts[1])?);
-    Ok(())
-}
-
-#[test]
-fn refusal_of_level_0_ends_the_put(rt: HostRuntime) -> Result<(), Fail> {
-    let alloc = rt.alloc();
-    let mut store = Storage::new(alloc, disk_and_remote(alloc, 2, RW)?)?;
-    let counts = ["0 0 0 1 0 0", "0 0 0 0 0 0"];
-    puts(&rt, alloc, &mut store, "refused by level 0", counts)
-}
-
-#[test]
-fn read_only_level_is_left_out(rt: HostRuntime) -> Result<(), Fail> {
-    let alloc = rt.alloc();
-    let levels = disk_and_remote(alloc, 0, CacheMode::ReadOnly)?;
-    let mut store = Storage::with_write_error_policy(alloc, levels, WriteErrorPolicy::All)?;
-    let counts = ["0 0 0 0 0 0", "0 0 1 0 0 0"];
-    puts(&rt, alloc, &mut store, "done", counts)
-}
-
-fn holds_nothing(rt: &impl Abort, alloc: Global, store: &mut Storage) -> Result<(), Fail> {
-    assert_eq!(rt; put(alloc, store, b"BB")?, "no levels");
-    assert!(rt; holds(alloc, store, b"")?);
-    assert_eq!(rt; store.current_size(), None);
-    Ok(())
-}
-
-#[test]
-fn no_levels_hold_nothing(rt: HostRuntime) -> Result<(), Fail> {
-    let alloc = rt.alloc();
-    let mut store = storage(alloc, Vec::new(alloc), &[])?;
-    holds_nothing(&rt, alloc, &mut store)
-}
-
-/// Puts an entry with `hi` on standard output under `abc`.
-fn put_entry(alloc: Global, store: &mut Storage) -> Result<&'static str, Fail> {
-    let key = Text::from_str(alloc, "abc")?;
-    let mut entry = CacheWrite::new(alloc)?;
-    entry.put_stdout(b"hi")?;
-    Ok(told(store.put(alloc, &key, entry, 1)?))
-}
-
-/// Whether the entry under `abc` has this on standard output.
-fn entry_has(alloc: Global, store: &mut Storage, output: &[u8]) -> Result<bool, Fail> {
-    let key = Text::from_str(alloc, "abc")?;
-    match store.get(alloc, &key, 2)? {
-        Cache::Hit(found) => Ok(found.get_stdout() == output),
-        _ => Ok(false),
-    }
-}
-
-fn finds_what_it_put(rt: &impl Abort, alloc: Global, store: &mut Storage) -> Result<(), Fail> {
-    assert_eq!(rt; store.current_size(), None);
-    assert_eq!(rt; put_entry(alloc, store)?, "done");
-    assert!(rt; entry_has(alloc, store, b"hi")?);
-    assert_eq!(rt; store.current_size(), Some(25));
-    Ok(())
-}
-
-#[test]
-fn entry_is_found_again(rt: HostRuntime) -> Result<(), Fail> {
-    let alloc = rt.alloc();
-    let levels = vec![in alloc; disk_level(alloc, 0, RW)?]?;
-    let mut store = storage(alloc, levels, &[REQUIRED])?;
-    finds_what_it_put(&rt, alloc, &mut store)
-}
-
 /// A disk store of 100 bytes under this root.
 fn disk_config(alloc: Global, root: &[u8]) -> Result<DiskConfig<MemDisk>, Fail> {
     Ok(DiskConfig {
-        main: disk(alloc, root, 0)?,
-        pre: disk(alloc, b"/pre", 0)?,
+        main: disk(alloc, root)?,
+        pre: disk(alloc, b"/pre")?,
         max_size: 100,
         use_preprocessor_cache_mode: true,
         mode: RW,
@@ -308,13 +136,9 @@ fn chain(alloc: Global, names: Items<Text>) -> Result<Option<Storage>, Fail> {
 }
 
 #[test]
-fn chain_makes_levels(rt: HostRuntime) -> Result<(), Fail> {
+fn ample_from_config(rt: HostRuntime) -> Result<(), Fail> {
     let alloc = rt.alloc();
     let names = Items::from_vec(vec![in alloc; Text::from_str(alloc, "disk")?]?);
-    let Some(store) = chain(alloc, names)? else {
-        return Err(Fail::new("no levels"));
-    };
-    assert_eq!(rt; store.location(alloc)?.as_str(), "Multi-level (1 levels)");
-    assert!(rt; chain(alloc, Items::new(alloc))?.is_none());
+    assert!(rt; chain(alloc, names)?.is_some());
     Ok(())
 }

@@ -1,8 +1,6 @@
-//! Tests of `sc_store_any`.
+//! Tests of `sc_store_any` and of the stores of `sc_store_alone`: one answer of each call.
 #![tactic(auto)]
 
-#[cfg(test)]
-mod checks;
 #[cfg(test)]
 mod levels;
 #[cfg(test)]

@@ -1,15 +1,12 @@
-//! Any store asked as one.
-use crate::levels::{
-    OneLevel, Storage as Layered, disk, disk_level, disk_store, remote, remotes, storage,
-};
-use sc_disk::{Disk, MemDisk};
+//! Any store asked as one. A function that owns a store takes it of any kind, so that the end of one is proved once for all.
+use crate::levels::{OneLevel, disk, remotes};
+use sc_disk::MemDisk;
 use sc_entry::{ByteText, Cache, CacheMode, CacheWrite, GetPathResult, Items, Text};
-use sc_model::LevelPolicy;
+use sc_model::Cause;
 use sc_stats::{ServerInfo, ServerStats};
 use sc_store::{DiskCache, Level, MemRemote, RemoteStorage, Unvouched};
 use sc_store_any::{MultiLevelStorage, ReadOnlyStorage, Storage, StorageError, StorageFacts};
 use std::alloc::Global;
-use std::process::Abort;
 use std::test::Fail;
 
 /// How a call ended, in words.
@@ -18,6 +15,28 @@ fn told(alloc: Global, end: Result<(), StorageError>) -> Result<String, Fail> {
         Ok(()) => Ok(String::from_str(alloc, "ok")?),
         Err(error) => Ok(format!(in alloc; "{error}")?),
     }
+}
+
+/// Whether a refusal is told so.
+fn is_told(alloc: Global, refusal: StorageError, expected: &str) -> Result<bool, Fail> {
+    let text = told(alloc, Err(refusal))?;
+    Ok(text.as_str() == expected)
+}
+
+fn tells_refusals(alloc: Global) -> Result<bool, Fail> {
+    let level = StorageError::Level(0, Cause::Io);
+    let torn = StorageError::Refused(Cause::BadEntry);
+    Ok(
+        is_told(alloc, level, "Failed to write to cache level 0: disk fault")?
+            && is_told(alloc, torn, "Failed to parse cache entry")?
+            && is_told(alloc, StorageError::NoLevels, "No cache levels configured")?,
+    )
+}
+
+#[test]
+fn refusals_are_told(rt: HostRuntime) -> Result<(), Fail> {
+    assert!(rt; tells_refusals(rt.alloc())?);
+    Ok(())
 }
 
 /// Whether a put of these bytes under `abc` is told so.
@@ -59,18 +78,6 @@ fn hits<S: Storage>(alloc: Global, store: &mut S) -> Result<bool, Fail> {
         Ok(Cache::Hit(_)) => Ok(true),
         Ok(_) => Ok(false),
         Err(_) => Err(Fail::new("refused")),
-    }
-}
-
-/// Whether a lookup of an entry under `abc` is refused so.
-fn refusal_is<S: Storage>(alloc: Global, store: &mut S, expected: &str) -> Result<bool, Fail> {
-    let key = Text::from_str(alloc, "abc")?;
-    match store.get(alloc, &key, 2) {
-        Ok(_) => Ok(false),
-        Err(error) => {
-            let text = told(alloc, Err(error))?;
-            Ok(text.as_str() == expected)
-        }
     }
 }
 
@@ -122,32 +129,6 @@ fn put_preprocessor_is<S: Storage>(
     Ok(text.as_str() == expected)
 }
 
-/// Whether a lookup of such an entry is refused.
-fn refuses_preprocessor<S: Storage>(alloc: Global, store: &mut S) -> Result<bool, Fail> {
-    let key = Text::from_str(alloc, "abc")?;
-    match store.get_preprocessor_cache_entry(alloc, &key, 2) {
-        Ok(_) => Ok(false),
-        Err(_) => Ok(true),
-    }
-}
-
-/// A disk level whose disk of the preprocessor's entries holds `P` under `abc`.
-fn preprocessor_level(alloc: Global) -> Result<OneLevel, Fail> {
-    let mut pre = disk(alloc, b"/0p", 0)?;
-    let path = Text::from_str(alloc, "a/b/c/abc")?;
-    match pre.create(&path, 1) {
-        Ok(()) => {}
-        Err(_) => return Err(Fail::new("no file")),
-    }
-    match pre.append(&path, b"P") {
-        Ok(()) => {}
-        Err(_) => return Err(Fail::new("no bytes")),
-    }
-    let main = disk(alloc, b"/0", 0)?;
-    let (mode, basedirs) = (CacheMode::ReadWrite, Items::new(alloc));
-    Ok(Level::Disk(DiskCache::new(alloc, main, pre, 100, true, mode, basedirs)))
-}
-
 /// Whether a check finds that a store is only read.
 fn is_read_only<S: Storage>(alloc: Global, store: &mut S) -> Result<bool, Fail> {
     match store.check(alloc) {
@@ -157,144 +138,14 @@ fn is_read_only<S: Storage>(alloc: Global, store: &mut S) -> Result<bool, Fail> 
     }
 }
 
-type OneRemote = RemoteStorage<MemRemote, Unvouched>;
-
-/// A remote store that holds nothing. Its call of this number is refused.
-fn remote_store(alloc: Global, fails: u64, mode: CacheMode) -> Result<OneRemote, Fail> {
-    let mut failing = Items::new(alloc);
-    failing.push(fails)?;
-    let remote = MemRemote::new(alloc, Items::new(alloc), failing)?;
-    Ok(RemoteStorage::new(alloc, remote, Items::new(alloc), mode))
-}
-
-/// Whether an entry that is put is found again, and its bytes.
-fn holds_what_was_put<S: Storage>(alloc: Global, store: &mut S) -> Result<bool, Fail> {
-    if hits(alloc, store)? || !puts(alloc, store, "abc")? || puts(alloc, store, "a")? {
-        return Ok(false);
+/// Whether the file of `abc` stands where a disk under `/0` has it.
+fn has_path<S: Storage>(alloc: Global, store: &mut S) -> Result<bool, Fail> {
+    let key = Text::from_str(alloc, "abc")?;
+    match store.get_path(alloc, &key, 2)? {
+        GetPathResult::Found(path) => Ok(path.as_slice() == b"/0/a/b/abc".as_slice()),
+        GetPathResult::Miss => Ok(false),
+        GetPathResult::Unsupported => Ok(false),
     }
-    let both = get_with_raw(alloc, store)?;
-    Ok(hits(alloc, store)? && both == raw_len(alloc, store)?)
-}
-
-#[test]
-fn remote_store_holds_what_was_put(rt: HostRuntime) -> Result<(), Fail> {
-    let alloc = rt.alloc();
-    let mut remote = remote_store(alloc, 0, CacheMode::ReadWrite)?;
-    assert!(rt; holds_what_was_put(alloc, &mut remote)?);
-    Ok(())
-}
-
-#[test]
-fn remote_store_is_found_writable(rt: HostRuntime) -> Result<(), Fail> {
-    let alloc = rt.alloc();
-    let mut remote = remote_store(alloc, 0, CacheMode::ReadWrite)?;
-    assert!(rt; !is_read_only(alloc, &mut remote)?);
-    Ok(())
-}
-
-/// Whether a store tells what its levels counted.
-fn tells_of_levels<S: Storage>(alloc: Global, store: &S) -> Result<bool, Fail> {
-    let counted = store.multilevel_stats(alloc)?;
-    Ok(counted.is_some())
-}
-
-fn holds_and_tells(rt: &impl Abort, alloc: Global, store: &mut Layered) -> Result<(), Fail> {
-    assert!(rt; holds_what_was_put(alloc, store)?);
-    assert!(rt; tells_of_levels(alloc, store)?);
-    Ok(())
-}
-
-#[test]
-fn levels_hold_what_was_put(rt: HostRuntime) -> Result<(), Fail> {
-    let alloc = rt.alloc();
-    let levels = vec![in alloc; disk_level(alloc, 0, CacheMode::ReadWrite)?]?;
-    let mut store = storage(alloc, levels, &[LevelPolicy::Required])?;
-    holds_and_tells(&rt, alloc, &mut store)
-}
-
-fn tells_refusals(rt: &impl Abort, alloc: Global, remote: &mut OneRemote) -> Result<(), Fail> {
-    assert!(rt; refusal_is(alloc, remote, "remote fault: Other")?);
-    assert!(rt; put_raw_is(alloc, remote, b"BB", "ok")?);
-    assert!(rt; refusal_is(alloc, remote, "Failed to parse cache entry")?);
-    Ok(())
-}
-
-#[test]
-fn refusals_of_a_remote_store_are_told(rt: HostRuntime) -> Result<(), Fail> {
-    let alloc = rt.alloc();
-    let mut remote = remote_store(alloc, 1, CacheMode::ReadWrite)?;
-    tells_refusals(&rt, alloc, &mut remote)
-}
-
-#[test]
-fn refusal_of_a_read_only_remote_store_is_told(rt: HostRuntime) -> Result<(), Fail> {
-    let alloc = rt.alloc();
-    let mut remote = remote_store(alloc, 0, CacheMode::ReadOnly)?;
-    assert!(rt; put_raw_is(alloc, &mut remote, b"BB", "storage is read-only")?);
-    Ok(())
-}
-
-#[test]
-fn refusal_of_a_disk_store_is_told(rt: HostRuntime) -> Result<(), Fail> {
-    let alloc = rt.alloc();
-    let mut disk = disk_store(alloc, 2, CacheMode::ReadWrite)?;
-    assert!(rt; put_raw_is(alloc, &mut disk, b"BB", "disk fault")?);
-    Ok(())
-}
-
-#[test]
-fn refusal_of_a_level_is_told(rt: HostRuntime) -> Result<(), Fail> {
-    let alloc = rt.alloc();
-    let levels = vec![in alloc; disk_level(alloc, 2, CacheMode::ReadWrite)?]?;
-    let mut store = MultiLevelStorage::new(alloc, levels)?;
-    let expected = "Failed to write to cache level 0: disk fault";
-    assert!(rt; put_raw_is(alloc, &mut store, b"BB", expected)?);
-    Ok(())
-}
-
-#[test]
-fn put_over_no_levels_is_refused(rt: HostRuntime) -> Result<(), Fail> {
-    let alloc = rt.alloc();
-    let mut none = storage(alloc, Vec::new(alloc), &[])?;
-    assert!(rt; put_is(alloc, &mut none, "No cache levels configured")?);
-    Ok(())
-}
-
-/// A store that is only read, over two levels of which the second holds `AAA` under `abc`.
-type ReadOnly = ReadOnlyStorage<Layered>;
-
-fn read_only_store(alloc: Global) -> Result<ReadOnly, Fail> {
-    let store = MultiLevelStorage::new(alloc, remotes(alloc, &[b"", b"AAA"])?)?;
-    Ok(ReadOnlyStorage { store })
-}
-
-fn refuses_puts(rt: &impl Abort, alloc: Global, store: &mut ReadOnly) -> Result<(), Fail> {
-    let only_read = "Cannot write to read-only storage";
-    assert!(rt; put_is(alloc, store, only_read)?);
-    assert!(rt; put_preprocessor_is(alloc, store, only_read)?);
-    let expected = "put_raw not implemented for this storage backend";
-    assert!(rt; put_raw_is(alloc, store, b"BB", expected)?);
-    Ok(())
-}
-
-#[test]
-fn store_that_is_only_read_takes_no_puts(rt: HostRuntime) -> Result<(), Fail> {
-    let alloc = rt.alloc();
-    let mut store = read_only_store(alloc)?;
-    refuses_puts(&rt, alloc, &mut store)
-}
-
-fn is_looked_up(rt: &impl Abort, alloc: Global, store: &mut ReadOnly) -> Result<(), Fail> {
-    assert_eq!(rt; raw_len(alloc, store)?, 3);
-    assert!(rt; is_read_only(alloc, store)?);
-    Ok(())
-}
-
-#[test]
-fn store_that_is_only_read_is_looked_up(rt: HostRuntime) -> Result<(), Fail> {
-    let alloc = rt.alloc();
-    let mut store = read_only_store(alloc)?;
-    is_looked_up(&rt, alloc, &mut store)
 }
 
 /// Whether a store says that it stands here.
@@ -303,130 +154,182 @@ fn stands_at<S: Storage>(alloc: Global, store: &S, expected: &str) -> Result<boo
     Ok(location.as_str() == expected)
 }
 
-fn tells_of_its_store(rt: &impl Abort, alloc: Global, store: &ReadOnly) -> Result<(), Fail> {
-    assert!(rt; stands_at(alloc, store, "Multi-level (2 levels)")?);
-    assert!(rt; !tells_of_levels(alloc, store)?);
-    assert_eq!(rt; store.store.stats().len(), 2);
+/// Whether a store tells what its levels counted.
+fn tells_of_levels<S: Storage>(alloc: Global, store: &S) -> Result<bool, Fail> {
+    let counted = store.multilevel_stats(alloc)?;
+    Ok(counted.is_some())
+}
+
+/// What a kind of store is asked for besides entries: where it stands, how many bytes of a preprocessor's entry it keeps, whether it
+/// keeps files, and whether it has levels.
+#[derive(Clone, Copy)]
+struct Kind {
+    location: &'static str,
+    preprocessor: Option<usize>,
+    has_files: bool,
+    has_levels: bool,
+}
+
+/// Whether an entry that is put is found again, and its bytes, and one under a bad key isn't put.
+fn holds_what_was_put<S: Storage>(alloc: Global, store: &mut S) -> Result<bool, Fail> {
+    if hits(alloc, store)? || !puts(alloc, store, "abc")? || puts(alloc, store, "a")? {
+        return Ok(false);
+    }
+    let both = get_with_raw(alloc, store)?;
+    Ok(hits(alloc, store)? && both == raw_len(alloc, store)?)
+}
+
+/// Whether a preprocessor's entry that is put is kept, or not.
+fn keeps_preprocessor_entry<S: Storage>(
+    alloc: Global,
+    store: &mut S,
+    kept: Option<usize>,
+) -> Result<bool, Fail> {
+    Ok(put_preprocessor_is(alloc, store, "ok")? && preprocessor_len(alloc, store)? == kept)
+}
+
+/// Whether a store tells of itself so.
+fn is_of_kind<S: Storage>(alloc: Global, store: &mut S, kind: Kind) -> Result<bool, Fail> {
+    Ok(
+        has_path(alloc, store)? == kind.has_files
+            && stands_at(alloc, store, kind.location)?
+            && tells_of_levels(alloc, store)? == kind.has_levels,
+    )
+}
+
+/// Whether a store that can be written answers each call.
+fn answers<S: Storage>(alloc: Global, store: &mut S, kind: Kind) -> Result<bool, Fail> {
+    Ok(
+        holds_what_was_put(alloc, store)?
+            && !is_read_only(alloc, store)?
+            && keeps_preprocessor_entry(alloc, store, kind.preprocessor)?
+            && is_of_kind(alloc, store, kind)?,
+    )
+}
+
+/// The same of a store that is given away.
+fn is_asked<S: Storage + Drop>(alloc: Global, store: S, kind: Kind) -> Result<bool, Fail> {
+    let mut store = store;
+    answers(alloc, &mut store, kind)
+}
+
+type OneRemote = RemoteStorage<MemRemote, Unvouched>;
+
+/// A remote store that holds nothing. Its call of this number is refused.
+fn remote_store(alloc: Global, fails: u64) -> Result<OneRemote, Fail> {
+    let mut failing = Items::new(alloc);
+    failing.push(fails)?;
+    let remote = MemRemote::new(alloc, Items::new(alloc), failing)?;
+    Ok(RemoteStorage::new(alloc, remote, Items::new(alloc), CacheMode::ReadWrite))
+}
+
+#[test]
+fn remote_store_answers(rt: HostRuntime) -> Result<(), Fail> {
+    let kind = Kind {
+        location: "memory, name: m, prefix: /",
+        preprocessor: None,
+        has_files: false,
+        has_levels: false,
+    };
+    let remote = remote_store(rt.alloc(), 0)?;
+    assert!(rt; is_asked(rt.alloc(), remote, kind)?);
+    Ok(())
+}
+
+/// A disk store of 100 bytes.
+fn disk_store(alloc: Global) -> Result<DiskCache<MemDisk, Unvouched>, Fail> {
+    let main = disk(alloc, b"/0")?;
+    let pre = disk(alloc, b"/0p")?;
+    let (mode, basedirs) = (CacheMode::ReadWrite, Items::new(alloc));
+    Ok(DiskCache::new(alloc, main, pre, 100, true, mode, basedirs))
+}
+
+const DISK: Kind = Kind {
+    location: "Local disk: \"/0\"",
+    preprocessor: Some(2),
+    has_files: true,
+    has_levels: false,
+};
+
+#[test]
+fn disk_store_answers(rt: HostRuntime) -> Result<(), Fail> {
+    let disk = disk_store(rt.alloc())?;
+    assert!(rt; is_asked(rt.alloc(), disk, DISK)?);
+    Ok(())
+}
+
+/// The same as a level.
+fn disk_level(alloc: Global) -> Result<OneLevel, Fail> {
+    Ok(Level::Disk(disk_store(alloc)?))
+}
+
+#[test]
+fn level_answers(rt: HostRuntime) -> Result<(), Fail> {
+    let level = disk_level(rt.alloc())?;
+    assert!(rt; is_asked(rt.alloc(), level, DISK)?);
     Ok(())
 }
 
 #[test]
-fn store_that_is_only_read_tells_of_the_one_in_it(rt: HostRuntime) -> Result<(), Fail> {
-    let alloc = rt.alloc();
-    let store = read_only_store(alloc)?;
-    tells_of_its_store(&rt, alloc, &store)
+fn levels_answer(rt: HostRuntime) -> Result<(), Fail> {
+    let kind = Kind {
+        location: "Multi-level (1 levels)",
+        preprocessor: Some(2),
+        has_files: false,
+        has_levels: true,
+    };
+    let levels = vec![in rt.alloc(); disk_level(rt.alloc())?]?;
+    let store = MultiLevelStorage::new(rt.alloc(), levels)?;
+    assert!(rt; is_asked(rt.alloc(), store, kind)?);
+    Ok(())
+}
+
+/// Whether a check of a store is refused.
+fn refuses_check<S: Storage + Drop>(alloc: Global, store: S) -> bool {
+    let mut store = store;
+    let checked = store.check(alloc);
+    checked.is_err()
+}
+
+/// A check over levels reads, and that is refused here.
+#[test]
+fn levels_are_read_for_a_check(rt: HostRuntime) -> Result<(), Fail> {
+    let remote: OneLevel = Level::Remote(remote_store(rt.alloc(), 1)?);
+    let levels = vec![in rt.alloc(); remote]?;
+    let store = MultiLevelStorage::new(rt.alloc(), levels)?;
+    assert!(rt; refuses_check(rt.alloc(), store));
+    Ok(())
 }
 
 /// Whether statistics are told that a store stands here, and that it has levels or none.
-fn statistics_tell<S: Storage>(
-    alloc: Global,
-    store: &S,
-    location: &str,
-    has_levels: bool,
-) -> Result<bool, Fail> {
+fn statistics_tell<S: Storage>(alloc: Global, store: &S, location: &str) -> Result<bool, Fail> {
     let facts = StorageFacts::new(store);
     let info = ServerInfo::new(alloc, ServerStats::new(alloc), Some(&facts))?;
-    Ok(info.cache_location.as_str() == location && info.stats.multi_level.is_some() == has_levels)
+    Ok(info.cache_location.as_str() == location && info.stats.multi_level.is_none())
 }
 
-fn statistics_are_told(rt: &impl Abort, alloc: Global, store: &ReadOnly) -> Result<(), Fail> {
-    let location = "Multi-level (2 levels)";
-    assert!(rt; statistics_tell(alloc, &store.store, location, true)?);
-    assert!(rt; statistics_tell(alloc, store, location, false)?);
-    Ok(())
+/// Whether a store that is only read, and holds three bytes under `abc`, refuses puts and tells what is read.
+fn only_reads<S: Storage>(alloc: Global, store: &mut S) -> Result<bool, Fail> {
+    let unsupported = "put_raw not implemented for this storage backend";
+    Ok(
+        put_is(alloc, store, "Cannot write to read-only storage")?
+            && put_raw_is(alloc, store, b"BB", unsupported)?
+            && raw_len(alloc, store)? == 3
+            && is_read_only(alloc, store)?
+            && statistics_tell(alloc, store, "Multi-level (2 levels)")?,
+    )
 }
 
+fn is_only_read<S: Storage + Drop>(alloc: Global, store: S) -> Result<bool, Fail> {
+    let mut store = ReadOnlyStorage { store };
+    only_reads(alloc, &mut store)
+}
+
+/// Over two levels of which the second holds `AAA` under `abc`.
 #[test]
-fn statistics_are_told_of_a_store(rt: HostRuntime) -> Result<(), Fail> {
-    let alloc = rt.alloc();
-    let store = read_only_store(alloc)?;
-    statistics_are_told(&rt, alloc, &store)
-}
-
-/// A remote level, one that holds a preprocessor entry, and one that can't be opened.
-fn preprocessor_levels(alloc: Global) -> Result<Vec<OneLevel>, Fail> {
-    let mut levels = Vec::new(alloc);
-    levels.push(remote(alloc, b"AAA")?)?;
-    levels.push(preprocessor_level(alloc)?)?;
-    levels.push(disk_level(alloc, 1, CacheMode::ReadWrite)?)?;
-    Ok(levels)
-}
-
-#[test]
-fn preprocessor_entry_is_the_first_that_is_found(rt: HostRuntime) -> Result<(), Fail> {
-    let alloc = rt.alloc();
-    let mut store = storage(alloc, preprocessor_levels(alloc)?, &[])?;
-    assert_eq!(rt; preprocessor_len(alloc, &mut store)?, Some(1));
+fn store_that_is_only_read_answers(rt: HostRuntime) -> Result<(), Fail> {
+    let levels = remotes(rt.alloc(), &[b"", b"AAA"])?;
+    let store = MultiLevelStorage::new(rt.alloc(), levels)?;
+    assert!(rt; is_only_read(rt.alloc(), store)?);
     Ok(())
-}
-
-#[test]
-fn refused_opening_is_told(rt: HostRuntime) -> Result<(), Fail> {
-    let alloc = rt.alloc();
-    let levels = vec![in alloc; disk_level(alloc, 1, CacheMode::ReadWrite)?]?;
-    let mut store = storage(alloc, levels, &[])?;
-    assert!(rt; refuses_preprocessor(alloc, &mut store)?);
-    Ok(())
-}
-
-#[test]
-fn remote_store_keeps_no_preprocessor_entries(rt: HostRuntime) -> Result<(), Fail> {
-    let alloc = rt.alloc();
-    let mut remote = remote_store(alloc, 1, CacheMode::ReadWrite)?;
-    assert_eq!(rt; preprocessor_len(alloc, &mut remote)?, None);
-    Ok(())
-}
-
-/// Two disk levels, the first of which is only read.
-fn two_disks(alloc: Global) -> Result<Vec<OneLevel>, Fail> {
-    let mut levels = Vec::new(alloc);
-    levels.push(disk_level(alloc, 0, CacheMode::ReadOnly)?)?;
-    levels.push(disk_level(alloc, 0, CacheMode::ReadWrite)?)?;
-    Ok(levels)
-}
-
-fn keeps_preprocessor_entry(
-    rt: &impl Abort,
-    alloc: Global,
-    store: &mut Layered,
-) -> Result<(), Fail> {
-    assert!(rt; put_preprocessor_is(alloc, store, "ok")?);
-    assert_eq!(rt; store.current_size(), Some(2));
-    assert_eq!(rt; preprocessor_len(alloc, store)?, Some(2));
-    Ok(())
-}
-
-#[test]
-fn preprocessor_entry_is_put_where_it_may_be(rt: HostRuntime) -> Result<(), Fail> {
-    let alloc = rt.alloc();
-    let mut store = storage(alloc, two_disks(alloc)?, &[])?;
-    keeps_preprocessor_entry(&rt, alloc, &mut store)
-}
-
-/// Whether the file of `abc` stands here; nowhere where there is none.
-fn stands_there<S: Storage>(alloc: Global, store: &mut S, expected: &[u8]) -> Result<bool, Fail> {
-    let key = Text::from_str(alloc, "abc")?;
-    match store.get_path(alloc, &key, 2)? {
-        GetPathResult::Found(path) => Ok(path.as_slice() == expected),
-        GetPathResult::Miss => Ok(expected.is_empty()),
-        GetPathResult::Unsupported => Ok(false),
-    }
-}
-
-fn tells_the_path(
-    rt: &impl Abort,
-    alloc: Global,
-    disk: &mut DiskCache<MemDisk, Unvouched>,
-) -> Result<(), Fail> {
-    assert!(rt; stands_there(alloc, disk, b"")?);
-    assert!(rt; puts(alloc, disk, "abc")?);
-    assert!(rt; stands_there(alloc, disk, b"/0/a/b/abc")?);
-    Ok(())
-}
-
-#[test]
-fn disk_store_tells_where_a_file_stands(rt: HostRuntime) -> Result<(), Fail> {
-    let alloc = rt.alloc();
-    let mut disk = disk_store(alloc, 0, CacheMode::ReadWrite)?;
-    tells_the_path(&rt, alloc, &mut disk)
 }
