@@ -1,7 +1,7 @@
-//! Tests of a distributed client's maker, and of the container over both.
+//! What is told of a distributed client, and that it is as its maker answers.
 use crate::silent::{Silent, SilentMaker};
 use sc_compile_dist::{
-    ClientAnswer, DistClientConfig, DistClientContainer, DistMaker, Making, MemMaker, ScriptDist,
+    ClientAnswer, DistClientConfig, DistClientContainer, Making, MemMaker, ScriptDist,
 };
 use sc_entry::Text;
 use sc_model::DistClientState;
@@ -19,7 +19,7 @@ const URL: &str = "http://s";
 const WAIT: u64 = 30_000_000_000;
 
 /// What a maker comes to, as a plain value.
-#[derive(Clone, Copy, PartialEq, Eq)]
+#[derive(Clone, Copy)]
 enum Made {
     Made,
     Unreachable,
@@ -29,7 +29,6 @@ enum Made {
 /// What is told of where a client stands: of one that isn't connected, why.
 #[derive(Clone, Copy)]
 enum Stands {
-    Disabled,
     NotConnected(&'static str),
     Scheduler,
 }
@@ -58,55 +57,6 @@ fn maker(alloc: Global, each: &[Made]) -> Result<MemMaker, Fail> {
 
 fn client(alloc: Global) -> Result<ScriptDist, Fail> {
     Ok(ScriptDist::new(alloc, Vec::new(alloc))?)
-}
-
-/// What was made, and with which text.
-fn is_made(making: &Making, made: Made) -> bool {
-    match making {
-        Making::Made => made == Made::Made,
-        Making::Unreachable => made == Made::Unreachable,
-        Making::NoToken(text) => made == Made::NoToken && text.as_str() == "no token",
-    }
-}
-
-/// Whether the maker comes to this, and has failed so often then.
-fn makes(
-    alloc: Global,
-    maker: &mut MemMaker,
-    client: &mut ScriptDist,
-    made: Made,
-    faults: u64,
-) -> Result<bool, Fail> {
-    let making = maker.make(alloc, client, 0)?;
-    Ok(is_made(&making, made) && maker.faults() == faults)
-}
-
-fn makes_each(
-    alloc: Global,
-    maker: &mut MemMaker,
-    client: &mut ScriptDist,
-    cases: &[(Made, u64)],
-) -> Result<bool, Fail> {
-    for (made, faults) in cases {
-        if !makes(alloc, maker, client, *made, *faults)? {
-            return Ok(false);
-        }
-    }
-    Ok(true)
-}
-
-#[test]
-fn a_maker_answers_in_turn(rt: HostRuntime) -> Result<(), Fail> {
-    let mut client = client(rt.alloc())?;
-    let mut maker = maker(rt.alloc(), &[Made::Made, Made::Unreachable, Made::NoToken])?;
-    let cases = [
-        (Made::Made, 0),
-        (Made::Unreachable, 1),
-        (Made::NoToken, 2),
-        (Made::Made, 2),
-    ];
-    assert!(rt; makes_each(rt.alloc(), &mut maker, &mut client, &cases)?);
-    Ok(())
 }
 
 /// What is known of a client whose scheduler has an address.
@@ -145,7 +95,6 @@ fn is_of_a_script(url: &Option<Text>, servers: u64, processors: u64, jobs: u64) 
 /// Whether this is told of where a client stands.
 fn is_told(info: &DistInfo, stands: Stands) -> bool {
     match (info, stands) {
-        (DistInfo::Disabled(text), Stands::Disabled) => text.as_str() == "disabled",
         (DistInfo::NotConnected(url, text), Stands::NotConnected(why)) => {
             is_url(url) && text.as_str() == why
         }
@@ -183,87 +132,6 @@ fn gets(alloc: Global, container: &mut Container, now: u64, wanted: &str) -> Res
     Ok(word(&answer) == wanted)
 }
 
-/// Whether the container stays disabled, whatever is asked.
-fn stays_disabled(alloc: Global, container: &mut Container) -> Result<bool, Fail> {
-    let asked = gets(alloc, container, 0, "no client")?;
-    container.reset_state(0);
-    Ok(
-        asked
-            && container.is_disabled()
-            && gets(alloc, container, u64::MAX, "no client")?
-            && tells(alloc, container, u64::MAX, Stands::Disabled)?,
-    )
-}
-
-#[test]
-fn a_disabled_client_is_never_made(rt: HostRuntime) -> Result<(), Fail> {
-    let client = client(rt.alloc())?;
-    let maker = maker(rt.alloc(), &[])?;
-    let mut container = DistClientContainer::new_disabled(client, maker);
-    assert!(rt; stays_disabled(rt.alloc(), &mut container)?);
-    Ok(())
-}
-
-/// Whether a client that is made serves until it is reset, and is made anew then.
-fn is_made_anew(alloc: Global, container: &mut Container) -> Result<bool, Fail> {
-    let served = gets(alloc, container, 5, "ready")?
-        && tells(alloc, container, 5, Stands::Scheduler)?;
-    container.reset_state(7);
-    let not_yet = Stands::NotConnected("enabled, not connected, will retry in 0.0s");
-    Ok(
-        served
-            && !container.is_disabled()
-            && tells(alloc, container, 6, not_yet)?
-            && gets(alloc, container, 6, "no client")?
-            && gets(alloc, container, 7, "no client")?
-            && gets(alloc, container, 7 + WAIT, "ready")?,
-    )
-}
-
-#[test]
-fn a_client_serves_until_it_is_reset(rt: HostRuntime) -> Result<(), Fail> {
-    let state = DistClientState::Made;
-    let mut container = container_in(rt.alloc(), state, &[Made::Unreachable])?;
-    assert!(rt; is_made_anew(rt.alloc(), &mut container)?);
-    Ok(())
-}
-
-/// Whether a client that isn't reached is waited for.
-fn waits(alloc: Global, container: &mut Container) -> Result<bool, Fail> {
-    let whole = Stands::NotConnected("enabled, not connected, will retry in 30.0s");
-    let rest = Stands::NotConnected("enabled, not connected, will retry in 0.0s");
-    Ok(
-        tells(alloc, container, 5, whole)?
-            && gets(alloc, container, 4 + WAIT, "no client")?
-            && tells(alloc, container, 4 + WAIT, rest)?
-            && gets(alloc, container, 5 + WAIT, "ready")?,
-    )
-}
-
-#[test]
-fn a_client_that_is_not_reached_is_waited_for(rt: HostRuntime) -> Result<(), Fail> {
-    let mut container = due_container(rt.alloc(), &[Made::Unreachable])?;
-    assert!(rt; waits(rt.alloc(), &mut container)?);
-    Ok(())
-}
-
-/// Whether the wait of a client that isn't reached ends with the moments.
-fn waits_for_the_last_moment(alloc: Global, container: &mut Container) -> Result<bool, Fail> {
-    let rest = Stands::NotConnected("enabled, not connected, will retry in 0.1s");
-    Ok(
-        gets(alloc, container, u64::MAX - 100_000_000, "no client")?
-            && tells(alloc, container, u64::MAX - 100_000_000, rest)?
-            && gets(alloc, container, u64::MAX, "ready")?,
-    )
-}
-
-#[test]
-fn moments_stop_at_their_end(rt: HostRuntime) -> Result<(), Fail> {
-    let mut container = due_container(rt.alloc(), &[Made::Unreachable])?;
-    assert!(rt; waits_for_the_last_moment(rt.alloc(), &mut container)?);
-    Ok(())
-}
-
 /// Whether a client without a token tells that once, and is made anew then.
 fn fails_once(alloc: Global, container: &mut Container) -> Result<bool, Fail> {
     let no_token = Stands::NotConnected("enabled, auth not configured");
@@ -276,18 +144,14 @@ fn fails_once(alloc: Global, container: &mut Container) -> Result<bool, Fail> {
     )
 }
 
-#[test]
-fn a_client_without_a_token_tells_it_once(rt: HostRuntime) -> Result<(), Fail> {
-    let mut container = due_container(rt.alloc(), &[Made::NoToken])?;
-    assert!(rt; fails_once(rt.alloc(), &mut container)?);
-    Ok(())
+fn tells_failure(alloc: Global) -> Result<bool, Fail> {
+    let mut container = due_container(alloc, &[Made::NoToken])?;
+    fails_once(alloc, &mut container)
 }
 
 #[test]
-fn a_kept_message_is_told_once(rt: HostRuntime) -> Result<(), Fail> {
-    let state = DistClientState::FailWithMessage(Text::from_str(rt.alloc(), "no token")?);
-    let mut container = container_in(rt.alloc(), state, &[])?;
-    assert!(rt; fails_once(rt.alloc(), &mut container)?);
+fn a_client_without_a_token_tells_it_once(rt: HostRuntime) -> Result<(), Fail> {
+    assert!(rt; tells_failure(rt.alloc())?);
     Ok(())
 }
 
@@ -303,11 +167,15 @@ fn goes_on(alloc: Global, container: &mut Container) -> Result<bool, Fail> {
     )
 }
 
+fn goes_on_as_made(alloc: Global) -> Result<bool, Fail> {
+    let each = [Made::Made, Made::Unreachable, Made::NoToken];
+    let mut container = due_container(alloc, &each)?;
+    goes_on(alloc, &mut container)
+}
+
 #[test]
 fn a_client_is_as_its_maker_answers(rt: HostRuntime) -> Result<(), Fail> {
-    let each = [Made::Made, Made::Unreachable, Made::NoToken];
-    let mut container = due_container(rt.alloc(), &each)?;
-    assert!(rt; goes_on(rt.alloc(), &mut container)?);
+    assert!(rt; goes_on_as_made(rt.alloc())?);
     Ok(())
 }
 
@@ -387,9 +255,13 @@ fn is_silent(
     Ok(is_told(&info, why))
 }
 
+fn tells_silence(alloc: Global) -> Result<bool, Fail> {
+    let mut container = silent(alloc)?;
+    is_silent(alloc, &mut container)
+}
+
 #[test]
 fn a_scheduler_that_does_not_answer_is_told(rt: HostRuntime) -> Result<(), Fail> {
-    let mut container = silent(rt.alloc())?;
-    assert!(rt; is_silent(rt.alloc(), &mut container)?);
+    assert!(rt; tells_silence(rt.alloc())?);
     Ok(())
 }

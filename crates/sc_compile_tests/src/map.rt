@@ -29,14 +29,6 @@ fn kind_of(found: &Detected) -> Option<CompilerKind> {
     }
 }
 
-/// Why none was found.
-fn refusal_of(found: &Detected) -> Option<&str> {
-    match found {
-        Detected::Compiler(_) => None,
-        Detected::Refused(why) => Some(why.as_str()),
-    }
-}
-
 fn found_kind(
     alloc: Global,
     map: &mut CompilerMap,
@@ -72,26 +64,5 @@ fn a_compiler_is_kept_until_its_file_changes(rt: HostRuntime) -> Result<(), Fail
     for (moment, kind, expected) in cases {
         assert!(rt; kind_at(rt.alloc(), &mut map, moment, kind)? == expected);
     }
-    Ok(())
-}
-
-/// Whether no compiler is found at a path, for this reason.
-fn is_refused(
-    alloc: Global,
-    map: &mut CompilerMap,
-    tools: &ToolTable,
-    path: &[u8],
-    why: &str,
-) -> Result<bool, Fail> {
-    let path = ByteText::from_slice(alloc, path)?;
-    let found = map.compiler_info(alloc, tools, &path)?;
-    Ok(refusal_of(&found) == Some(why))
-}
-
-#[test]
-fn a_file_that_is_not_there_is_no_compiler(rt: HostRuntime) -> Result<(), Fail> {
-    let tools = table(rt.alloc(), 1, ToolKind::Compiler(GCC))?;
-    let mut map = CompilerMap::new(rt.alloc());
-    assert!(rt; is_refused(rt.alloc(), &mut map, &tools, b"/ld", "compiler not found")?);
     Ok(())
 }
