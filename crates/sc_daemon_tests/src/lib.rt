@@ -1,5 +1,4 @@
-//! Tests of `sc_daemon_ranked` and `sc_compile_direct`. What `sc_daemon_job`, `sc_daemon_owned` and `sc_main_memory` do the scripts of cases/
-//! show.
+//! Tests of `sc_daemon` and of the crates that were split from it.
 #![tactic(auto)]
 
 #[cfg(test)]
@@ -8,3 +7,5 @@ mod direct;
 mod ranked;
 #[cfg(test)]
 mod scripts;
+#[cfg(test)]
+mod uses;

@@ -1,4 +1,4 @@
-//! Tests of `sc_host`.
+//! Tests of `sc_host` and of the crates that were split from it, and of `sc_link` over sockets.
 #![tactic(auto)]
 
 #[cfg(test)]
@@ -7,3 +7,9 @@ mod children;
 mod files;
 #[cfg(test)]
 mod folders;
+#[cfg(test)]
+mod links;
+#[cfg(test)]
+mod probing;
+#[cfg(test)]
+mod sockets;

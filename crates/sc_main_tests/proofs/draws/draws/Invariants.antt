@@ -1,5 +1,5 @@
 use Rattle.std.proofs.Common.{◌<◌}
-use Rattle.sc_main_generate_tests.proofs.draws.draws.Given as goal
+use Rattle.sc_main_tests.proofs.draws.draws.Given as goal
 
 abbrev pub invariant-loop : goal.invariant-loop
 invariant-loop l = l.state < 2147483648

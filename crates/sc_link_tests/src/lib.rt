@@ -1,7 +1,0 @@
-//! Tests of `sc_link` and `sc_host_net`.
-#![tactic(auto)]
-
-#[cfg(test)]
-mod sockets;
-#[cfg(test)]
-mod tests;
