@@ -1,4 +1,4 @@
-//! Tests of `sc_client`.
+//! Tests of `sc_client`, and of the calls of `sc_wire` that the program doesn't make.
 #![tactic(auto)]
 
 #[cfg(test)]
@@ -7,5 +7,7 @@ mod connections;
 mod finding;
 #[cfg(test)]
 mod links;
+#[cfg(test)]
+mod messages;
 #[cfg(test)]
 mod tests;

@@ -1,6 +1,5 @@
 //! Statuses and tokens.
 use sc_command::{Client, exit_status};
-use std::alloc::Global;
 use std::os::unix::process::ExitStatusExt;
 use std::sync::Wait;
 use std::sync::atomic::{AtomicU64, Ordering};

@@ -1,5 +1,5 @@
 use sc_daemon_ranked::RankedList;
-use std::alloc::{AllocError, Global};
+use std::alloc::AllocError;
 use std::test::Fail;
 
 type Numbers = RankedList<u64>;

@@ -11,7 +11,7 @@ use std::collections::BTreeMap;
 use std::process::Abort;
 use std::test::Fail;
 
-pub(crate) type Storage = MultiLevelStorage<MemRemote, MemDisk, Unvouched>;
+type Storage = MultiLevelStorage<MemRemote, MemDisk, Unvouched>;
 
 pub(crate) type OneLevel = Level<MemRemote, MemDisk, Unvouched>;
 

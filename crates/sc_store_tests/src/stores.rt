@@ -23,19 +23,29 @@ fn is_told(alloc: Global, refusal: StorageError, expected: &str) -> Result<bool,
     Ok(text.as_str() == expected)
 }
 
-fn tells_refusals(alloc: Global) -> Result<bool, Fail> {
-    let level = StorageError::Level(0, Cause::Io);
-    let torn = StorageError::Refused(Cause::BadEntry);
-    Ok(
-        is_told(alloc, level, "Failed to write to cache level 0: disk fault")?
-            && is_told(alloc, torn, "Failed to parse cache entry")?
-            && is_told(alloc, StorageError::NoLevels, "No cache levels configured")?,
+fn tells_refusal_of_a_level(alloc: Global) -> Result<bool, Fail> {
+    let refusal = StorageError::Level(0, Cause::Io);
+    is_told(
+        alloc,
+        refusal,
+        "Failed to write to cache level 0: disk fault",
     )
+}
+
+fn tells_torn_entry(alloc: Global) -> Result<bool, Fail> {
+    let refusal = StorageError::Refused(Cause::BadEntry);
+    is_told(alloc, refusal, "Failed to parse cache entry")
+}
+
+fn tells_no_levels(alloc: Global) -> Result<bool, Fail> {
+    is_told(alloc, StorageError::NoLevels, "No cache levels configured")
 }
 
 #[test]
 fn refusals_are_told(rt: HostRuntime) -> Result<(), Fail> {
-    assert!(rt; tells_refusals(rt.alloc())?);
+    assert!(rt; tells_refusal_of_a_level(rt.alloc())?);
+    assert!(rt; tells_torn_entry(rt.alloc())?);
+    assert!(rt; tells_no_levels(rt.alloc())?);
     Ok(())
 }
 
@@ -278,9 +288,10 @@ fn levels_answer(rt: HostRuntime) -> Result<(), Fail> {
         has_files: false,
         has_levels: true,
     };
-    let levels = vec![in rt.alloc(); disk_level(rt.alloc())?]?;
-    let store = MultiLevelStorage::new(rt.alloc(), levels)?;
-    assert!(rt; is_asked(rt.alloc(), store, kind)?);
+    let alloc = rt.alloc();
+    let levels = vec![in alloc; disk_level(alloc)?]?;
+    let store = MultiLevelStorage::new(alloc, levels)?;
+    assert!(rt; is_asked(alloc, store, kind)?);
     Ok(())
 }
 
@@ -294,10 +305,11 @@ fn refuses_check<S: Storage + Drop>(alloc: Global, store: S) -> bool {
 /// A check over levels reads, and that is refused here.
 #[test]
 fn levels_are_read_for_a_check(rt: HostRuntime) -> Result<(), Fail> {
-    let remote: OneLevel = Level::Remote(remote_store(rt.alloc(), 1)?);
-    let levels = vec![in rt.alloc(); remote]?;
-    let store = MultiLevelStorage::new(rt.alloc(), levels)?;
-    assert!(rt; refuses_check(rt.alloc(), store));
+    let alloc = rt.alloc();
+    let remote: OneLevel = Level::Remote(remote_store(alloc, 1)?);
+    let levels = vec![in alloc; remote]?;
+    let store = MultiLevelStorage::new(alloc, levels)?;
+    assert!(rt; refuses_check(alloc, store));
     Ok(())
 }
 
