@@ -395,9 +395,9 @@ served_raised now e s s1 s2 is serves = subst (λ (x : Session). ServesEvent 0 e
 
 -- an action was done, its message kept or not, and its answer written or not
 pub answers_on : (r r1 r2 : Option LinkEnd) (first : Scene) (s s1 s2 s3 : Session) (m m2 : Messages) (w : ShutdownOrInactive) (c c2 : Option (List ℕ)) (k k2 : Wire) (now : ℕ) (e : Event)
-    → SoFar r first (scene s (record { messages = m; wait = w }) c k) → s1 ≡ raised now s → Ticks_once now c c2 → ServesEvent 0 e s1.daemon s2.daemon s1.line s2.line → (s1.lost ≡ false) × (s2.lost ≡ false)
+    → SoFar r first (scene s (record { messages = m; wait = w; is_polled = false }) c k) → s1 ≡ raised now s → Ticks_once now c c2 → ServesEvent 0 e s1.daemon s2.daemon s1.line s2.line → (s1.lost ≡ false) × (s2.lost ≡ false)
     → (kept : List ServerMessage) × (m2 ≡ with_kept kept m) × (((kept ≡ told_by e.what) × (r1 ≡ r)) ⊎ (r1 ≡ Some ends.NoMemory)) → Sends r1 r2 s2.line.out k k2 → s3 ≡ record s2 { line = record s2.line { out = [] } }
-    → SoFar r2 first (scene s3 (record { messages = m2; wait = w }) c2 k2)
+    → SoFar r2 first (scene s3 (record { messages = m2; wait = w; is_polled = false }) c2 k2)
 answers_on r r1 r2 first s s1 s2 s3 m m2 w c c2 k k2 now e f raise t serves (before, after) (kept, is, told) sends taken =
     let d : s3.daemon ≡ s2.daemon = ap (λ (x : Session). x.daemon) taken in
     let a : Acts now e s s3 = record {
@@ -407,21 +407,21 @@ answers_on r r1 r2 first s s1 s2 s3 m m2 w c c2 k k2 now e f raise t serves (bef
       before = sym (ap (λ (x : Session). x.lost) raise) ∙ before;
       after = ap (λ (x : Session). x.lost) taken ∙ after;
     } in
-    subst (λ (n : Messages). SoFar r2 first (scene s3 (record { messages = n; wait = w }) c2 k2)) (sym is)
-    (turns_on r r1 r2 first s s3 (record { messages = m; wait = w }) c c2 k k2 now e kept f t a told sends)
+    subst (λ (n : Messages). SoFar r2 first (scene s3 (record { messages = n; wait = w; is_polled = false }) c2 k2)) (sym is)
+    (turns_on r r1 r2 first s s3 (record { messages = m; wait = w; is_polled = false }) c c2 k k2 now e kept f t a told sends)
 
 -- nothing was due
 pub answers_none : (r r1 : Option LinkEnd) (first : Scene) (s s1 s2 : Session) (m m2 : Messages) (w : ShutdownOrInactive) (c c2 : Option (List ℕ)) (k : Wire) (now : ℕ) (e : Event)
-    → SoFar r first (scene s (record { messages = m; wait = w }) c k) → s1 ≡ raised now s → Ticks_once now c c2 → ServesEvent 0 e s1.daemon s2.daemon s1.line s2.line → (s1.lost ≡ false) × (s2.lost ≡ false)
+    → SoFar r first (scene s (record { messages = m; wait = w; is_polled = false }) c k) → s1 ≡ raised now s → Ticks_once now c c2 → ServesEvent 0 e s1.daemon s2.daemon s1.line s2.line → (s1.lost ≡ false) × (s2.lost ≡ false)
     → (kept : List ServerMessage) × (m2 ≡ with_kept kept m) × (((kept ≡ told_by e.what) × (r1 ≡ r)) ⊎ (r1 ≡ Some ends.NoMemory)) → e.owner ≡ Nobody
-    → SoFar r1 first (scene s2 (record { messages = m2; wait = w }) c2 k)
+    → SoFar r1 first (scene s2 (record { messages = m2; wait = w; is_polled = false }) c2 k)
 unfolding idle_acts
 answers_none r r1 first s s1 s2 m m2 w c c2 k now e f raise t serves (before, after) (kept, is, told) owner =
     let there = served_raised now e s s1 s2 raise serves in
     let lost : s.lost ≡ false = sym (ap (λ (x : Session). x.lost) raise) ∙ before in
     let out : s2.line.out ≡ [] = ap (λ (l : Line). l.out) (idle_serves now e s s2 there owner).2 ∙ f.emptied in
-    subst (λ (n : Messages). SoFar r1 first (scene s2 (record { messages = n; wait = w }) c2 k)) (sym is)
-    (turns_on r r1 r1 first s s2 (record { messages = m; wait = w }) c c2 k k now e kept f t (idle_acts now e s s2 there owner f.emptied lost after) told
+    subst (λ (n : Messages). SoFar r1 first (scene s2 (record { messages = n; wait = w; is_polled = false }) c2 k)) (sym is)
+    (turns_on r r1 r1 first s s2 (record { messages = m; wait = w; is_polled = false }) c c2 k k now e kept f t (idle_acts now e s s2 there owner f.emptied lost after) told
     (subst (λ (v : List ℕ). Sends r1 r1 v k k) (sym out) (sends_nothing r1 k)))
 
 pub answered_idle : (now : ℕ) (e : Event) (s s1 s2 : Session) → s1 ≡ raised now s → ServesEvent 0 e s1.daemon s2.daemon s1.line s2.line → e.owner ≡ Nobody → IsIdleLine s2.daemon.free s2.line
@@ -446,19 +446,19 @@ pub writes_done : (now : ℕ) (e : Event) (s s1 s2 : Session) → s1 ≡ raised 
 writes_done now e s s1 s2 raise backs owner = no_write now e s s2 (backed_raised now e s s1 s2 raise backs) owner
 
 -- the messages were polled
-pub polled_is : (now : ℕ) (m m2 : Messages) (w w2 : ShutdownOrInactive) → m2 ≡ record m { standing = [] } → w2.idle_time ≡ w.idle_time → w2.active_at ≡ (if has_request m.standing then now else w.active_at)
+pub polled_is : (now : ℕ) (m m2 : Messages) (w w2 : ShutdownOrInactive) (before : Bool) → m2 ≡ record m { standing = [] } → w2.idle_time ≡ w.idle_time → w2.active_at ≡ (if has_request m.standing then now else w.active_at)
     → w2.cause ≡ option_or w.cause (cause_of (has_shutdown m.standing) m.is_closed (has_passed w.idle_time w2.active_at now))
-    → polled now (record { messages = m; wait = w }) ≡ record { messages = m2; wait = w2 }
-polled_is now m m2 w w2 taken idle active caused =
+    → polled now (record { messages = m; wait = w; is_polled = before }) ≡ record { messages = m2; wait = w2; is_polled = true }
+polled_is now m m2 w w2 before taken idle active caused =
     let cause = caused ∙ ap (λ (n : ℕ). option_or w.cause (cause_of (has_shutdown m.standing) m.is_closed (has_passed w.idle_time n now))) active in
-    sym (λ i. record { messages = taken i; wait = record { idle_time = idle i; active_at = active i; cause = cause i } })
+    sym (λ i. record { messages = taken i; wait = record { idle_time = idle i; active_at = active i; cause = cause i }; is_polled = true })
 
 pub poll_on : (r : Option LinkEnd) (first : Scene) (s : Session) (m m2 : Messages) (w w2 : ShutdownOrInactive) (c c2 : Option (List ℕ)) (k : Wire) (now : ℕ)
-    → SoFar r first (scene s (record { messages = m; wait = w }) c k) → Ticks_once now c c2 → m2 ≡ record m { standing = [] } → w2.idle_time ≡ w.idle_time → w2.active_at ≡ (if has_request m.standing then now else w.active_at)
+    → SoFar r first (scene s (record { messages = m; wait = w; is_polled = false }) c k) → Ticks_once now c c2 → m2 ≡ record m { standing = [] } → w2.idle_time ≡ w.idle_time → w2.active_at ≡ (if has_request m.standing then now else w.active_at)
     → w2.cause ≡ option_or w.cause (cause_of (has_shutdown m.standing) m.is_closed (has_passed w.idle_time w2.active_at now))
-    → SoFar r first (scene s (record { messages = m2; wait = w2 }) c2 k)
+    → SoFar r first (scene s (record { messages = m2; wait = w2; is_polled = true }) c2 k)
 poll_on r first s m m2 w w2 c c2 k now f t taken idle active caused =
-    subst (λ (h : Heard). SoFar r first (scene s h c2 k)) (polled_is now m m2 w w2 taken idle active caused) (polls_on r first s (record { messages = m; wait = w }) c c2 k now f t)
+    subst (λ (h : Heard). SoFar r first (scene s h c2 k)) (polled_is now m m2 w w2 false taken idle active caused) (polls_on r first s (record { messages = m; wait = w; is_polled = false }) c c2 k now f t)
 
 -- a link's serving begins
 pub raised_first : (s s1 : Session) (h : Heard) (c c2 : Option (List ℕ)) (k : Wire) (now : ℕ) → s.line ≡ new_line s.daemon.state.config.limit → s1 ≡ raised now s → Ticks_once now c c2 → SoFar None (scene s h c k) (scene s1 h c2 k)

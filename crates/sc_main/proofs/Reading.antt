@@ -1,5 +1,5 @@
 -- A piece more that was read of a link, its end, and how it is left.
-use Rattle.std.proofs.Common.{◌≡◌, inl, inr, ℕ, ◌+◌, ◌<◌, ◌≤◌, true, List, [], ◌∷◌, ◌++◌, length, take, Option, Some, None, true≢false, refl, sym, ap, ◌∙◌, subst, arith, append_assoc}
+use Rattle.std.proofs.Common.{◌≡◌, inl, inr, ℕ, ◌+◌, ◌<◌, ◌≤◌, true, false, List, [], ◌∷◌, ◌++◌, length, take, Option, Some, None, true≢false, refl, sym, ap, ◌∙◌, subst, arith, append_assoc}
 use Rattle.sc_daemon.specs.Daemons.{Kept}
 use Rattle.sc_daemon.specs.Lines.{IsDone, Line, new_line}
 use Rattle.sc_daemon.specs.Sessions.{Feeds, Session}
@@ -58,17 +58,17 @@ told_more bytes piece a b c x y =
 
 -- and its requests were taken
 pub takes_on : (first : Scene) (s s2 : Session) (h : Heard) (c : Option (List ℕ)) (k : Wire) (ahead : Option (List ℕ)) (piece : List ℕ)
-    → SoFar None first (scene s h c (record k { ahead = ahead })) → Told (λ before after. before ≡ piece ++ after) ahead k.ahead → h.wait.cause ≡ None
-    → (IsDone s.line → ⊥) → s2 ≡ record s { line = s2.line } → TakesMore piece s.line s2.line → SoFar None first (scene s2 h c k)
-takes_on first s s2 h c k ahead piece f read uncaused going same takes =
+    → SoFar None first (scene s h c (record k { ahead = ahead })) → Told (λ before after. before ≡ piece ++ after) ahead k.ahead → h.is_polled ≡ true → h.wait.cause ≡ None
+    → (IsDone s.line → ⊥) → s2 ≡ record s { line = s2.line } → TakesMore piece s.line s2.line → SoFar None first (scene s2 (record h { is_polled = false }) c k)
+takes_on first s s2 h c k ahead piece f read polled uncaused going same takes =
     let line = takes.same in
     record {
       deeds = Took piece ∷ f.deeds;
       leads = (s, f.leads, (same, going, takes));
       ticks = f.ticks;
-      heard = f.heard;
+      heard = ap (λ (x : Heard). record x { is_polled = false }) f.heard;
       told = f.told;
-      reading = (sym (ap (λ (x : Heard). x.wait.cause) f.heard) ∙ uncaused, f.marked, f.reading);
+      reading = (sym (ap (λ (x : Heard). x.is_polled) f.heard) ∙ polled, sym (ap (λ (x : Heard). x.wait.cause) f.heard) ∙ uncaused, f.marked, f.reading);
       marked = f.marked;
       real = f.real;
       reads = told_more (read_by f.deeds) piece first.link.ahead ahead k.ahead f.reads read;
@@ -90,18 +90,18 @@ takes_on first s s2 h c k ahead piece f read uncaused going same takes =
 
 -- or memory ran out as they were taken
 pub loses_on : (first : Scene) (s s2 : Session) (h : Heard) (c : Option (List ℕ)) (k : Wire) (ahead : Option (List ℕ)) (piece : List ℕ)
-    → SoFar None first (scene s h c (record k { ahead = ahead })) → Told (λ before after. before ≡ piece ++ after) ahead k.ahead → h.wait.cause ≡ None
-    → IsIdleLine s.daemon.free s.line → s2 ≡ renewed s → SoFar (Some ends.NoMemory) first (scene s2 h c k)
-loses_on first s s2 h c k ahead piece f read uncaused idle same =
+    → SoFar None first (scene s h c (record k { ahead = ahead })) → Told (λ before after. before ≡ piece ++ after) ahead k.ahead → h.is_polled ≡ true → h.wait.cause ≡ None
+    → IsIdleLine s.daemon.free s.line → s2 ≡ renewed s → SoFar (Some ends.NoMemory) first (scene s2 (record h { is_polled = false }) c k)
+loses_on first s s2 h c k ahead piece f read polled uncaused idle same =
     let u = setup (config_of first.session.daemon.state.config) in
     let line : s2.line ≡ new_line s.daemon.state.config.limit = ap (λ (x : Session). x.line) same in
     record {
       deeds = Refused ∷ Lost piece ∷ f.deeds;
       leads = (s2, (s, f.leads, same), refl);
       ticks = f.ticks;
-      heard = f.heard;
+      heard = ap (λ (x : Heard). record x { is_polled = false }) f.heard;
       told = tt;
-      reading = (sym (ap (λ (x : Heard). x.wait.cause) f.heard) ∙ uncaused, f.marked, f.reading);
+      reading = (sym (ap (λ (x : Heard). x.is_polled) f.heard) ∙ polled, sym (ap (λ (x : Heard). x.wait.cause) f.heard) ∙ uncaused, f.marked, f.reading);
       marked = refl;
       real = refl;
       reads = told_more (read_by f.deeds) piece first.link.ahead ahead k.ahead f.reads read;
@@ -230,18 +230,18 @@ leaves_refused end first now f = record { so_far = subst (λ (r : Option LinkEnd
 
 -- a piece was fed
 pub feeds_on : (first : Scene) (s s2 : Session) (h : Heard) (c : Option (List ℕ)) (k : Wire) (ahead : Option (List ℕ)) (piece : List ℕ)
-    → SoFar None first (scene s h c (record k { ahead = ahead })) → Told (λ before after. before ≡ piece ++ after) ahead k.ahead → h.wait.cause ≡ None → (IsDone s.line → ⊥)
-    → Feeds piece s.line s2.line → s2.daemon ≡ s.daemon → s2.lost ≡ s.lost → SoFar None first (scene s2 h c k)
-feeds_on first s s2 h c k ahead piece f read uncaused going (inl (done, same)) d lost = absurd (going done)
-feeds_on first s s2 h c k ahead piece f read uncaused going (inr (on, takes)) d lost =
-    takes_on first s s2 h c k ahead piece f read uncaused going (λ i. record { daemon = d i; line = s2.line; lost = lost i }) takes
+    → SoFar None first (scene s h c (record k { ahead = ahead })) → Told (λ before after. before ≡ piece ++ after) ahead k.ahead → h.is_polled ≡ true → h.wait.cause ≡ None → (IsDone s.line → ⊥)
+    → Feeds piece s.line s2.line → s2.daemon ≡ s.daemon → s2.lost ≡ s.lost → SoFar None first (scene s2 (record h { is_polled = false }) c k)
+feeds_on first s s2 h c k ahead piece f read polled uncaused going (inl (done, same)) d lost = absurd (going done)
+feeds_on first s s2 h c k ahead piece f read polled uncaused going (inr (on, takes)) d lost =
+    takes_on first s s2 h c k ahead piece f read polled uncaused going (λ i. record { daemon = d i; line = s2.line; lost = lost i }) takes
 
 -- and wasn't taken
 pub unfed_on : (first : Scene) (s s2 : Session) (h : Heard) (c : Option (List ℕ)) (k : Wire) (ahead : Option (List ℕ)) (piece : List ℕ)
-    → SoFar None first (scene s h c (record k { ahead = ahead })) → Told (λ before after. before ≡ piece ++ after) ahead k.ahead → h.wait.cause ≡ None → IsIdleLine s.daemon.free s.line
-    → s2.line ≡ new_line s.daemon.state.config.limit → s2.daemon ≡ s.daemon → s2.lost ≡ s.lost → SoFar (Some ends.NoMemory) first (scene s2 h c k)
-unfed_on first s s2 h c k ahead piece f read uncaused idle line d lost =
-    loses_on first s s2 h c k ahead piece f read uncaused idle (λ i. record { daemon = d i; line = line i; lost = lost i })
+    → SoFar None first (scene s h c (record k { ahead = ahead })) → Told (λ before after. before ≡ piece ++ after) ahead k.ahead → h.is_polled ≡ true → h.wait.cause ≡ None → IsIdleLine s.daemon.free s.line
+    → s2.line ≡ new_line s.daemon.state.config.limit → s2.daemon ≡ s.daemon → s2.lost ≡ s.lost → SoFar (Some ends.NoMemory) first (scene s2 (record h { is_polled = false }) c k)
+unfed_on first s s2 h c k ahead piece f read polled uncaused idle line d lost =
+    loses_on first s s2 h c k ahead piece f read polled uncaused idle (λ i. record { daemon = d i; line = line i; lost = lost i })
 
 pub new_idle : (free : ℕ) (l : Line) (limit : ℕ) → l ≡ new_line limit → IsIdleLine free l
 new_idle free l limit is = inl (inl (ap (λ (n : Line). length n.waiting) is))

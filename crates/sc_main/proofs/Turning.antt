@@ -1,5 +1,5 @@
 -- The turns of a server, one more at a time.
-use Rattle.std.proofs.Common.{◌≡◌, ℕ, suc, ◌+◌, false, List, [], ◌∷◌, ◌++◌, length, Option, None, Result, Ok, Err, option_map, refl, sym, ap, ◌∙◌, subst, arith, append_assoc, length-append}
+use Rattle.std.proofs.Common.{◌≡◌, ℕ, suc, ◌+◌, Bool, true, false, List, [], ◌∷◌, ◌++◌, length, Option, None, Result, Ok, Err, option_map, refl, sym, ap, ◌∙◌, subst, arith, append_assoc, length-append}
 use Rattle.std.specs.Option.{option_or}
 use Rattle.std.specs.Prelude.{IsErrAnd, if◌then◌else◌}
 use Rattle.sc_clock.specs.Moments.{with_pause}
@@ -34,14 +34,14 @@ numbers_more number from (x ∷ links) link are is = (are.0, numbers_more number
 
 -- ---- as the code does it
 
-pub polls_by : (s : Session) (m m2 : Messages) (w w2 : ShutdownOrInactive) (c c2 p p2 : Option (List ℕ)) (now : ℕ) → Ticks_once now c c2 → m2 ≡ record m { standing = [] } → w2.idle_time ≡ w.idle_time
+pub polls_by : (s : Session) (m m2 : Messages) (w w2 : ShutdownOrInactive) (before : Bool) (c c2 p p2 : Option (List ℕ)) (now : ℕ) → Ticks_once now c c2 → m2 ≡ record m { standing = [] } → w2.idle_time ≡ w.idle_time
     → w2.active_at ≡ (if has_request m.standing then now else w.active_at) → w2.cause ≡ option_or w.cause (cause_of (has_shutdown m.standing) m.is_closed (has_passed w.idle_time w2.active_at now)) → p2 ≡ p
-    → Polls (desk s (record { messages = m; wait = w }) c p) (desk s (record { messages = m2; wait = w2 }) c2 p2)
-polls_by s m m2 w w2 c c2 p p2 now t taken idle active caused paused = record {
+    → Polls (desk s (record { messages = m; wait = w; is_polled = before }) c p) (desk s (record { messages = m2; wait = w2; is_polled = true }) c2 p2)
+polls_by s m m2 w w2 before c c2 p p2 now t taken idle active caused paused = record {
   now = now;
   ticks = t;
-  heard = sym (polled_is now m m2 w w2 taken idle active caused);
-  same = ap (λ (x : Option (List ℕ)). desk s (record { messages = m2; wait = w2 }) c2 x) paused;
+  heard = sym (polled_is now m m2 w w2 before taken idle active caused);
+  same = ap (λ (x : Option (List ℕ)). desk s (record { messages = m2; wait = w2; is_polled = true }) c2 x) paused;
 }
 
 pub paused_by : (s : Session) (h : Heard) (c c2 p p2 : Option (List ℕ)) → c2 ≡ c → p2 ≡ option_map (with_pause 10000000) p → desk s h c2 p2 ≡ record (desk s h c p) { pauses = option_map (with_pause 10000000) (desk s h c p).pauses }
@@ -70,10 +70,10 @@ module _ {K : Type 0} (known : K → Wire) (number : K → ℕ) where
     numbers = tt;
   }
 
-  pub all_link : (a a1 a2 : Door K) (first d new : Desk) → ServesAll known number a a1 first d → d.heard.wait.cause ≡ None → AcceptsLink known number a1 a2 d new → ServesAll known number a a2 first new
-  all_link a a1 a2 first d new all uncaused x = record {
+  pub all_link : (a a1 a2 : Door K) (first d new : Desk) → ServesAll known number a a1 first d → d.heard.is_polled ≡ true → d.heard.wait.cause ≡ None → AcceptsLink known number a1 a2 d new → ServesAll known number a a2 first new
+  all_link a a1 a2 first d new all polled uncaused x = record {
     turns = Link x.link x.left x.end ∷ all.turns;
-    taken = (d, all.taken, (uncaused, x.visits));
+    taken = (d, all.taken, (polled, uncaused, x.visits));
     links = told_then (λ (p q : List K). p ≡ links_of all.turns ++ q) (λ (p q : List K). p ≡ x.link ∷ q) (λ (p q : List K). p ≡ (links_of all.turns ++ x.link ∷ []) ++ q)
         (λ p q r v w. v ∙ ap (λ (z : List K). links_of all.turns ++ z) w ∙ sym (append_assoc (links_of all.turns) (x.link ∷ []) r)) a.ready a1.ready a2.ready all.links x.first;
     given = let one = x.given in let before = all.given in omega (arith, one, before, length-append (links_of all.turns) (x.link ∷ []));
@@ -93,14 +93,14 @@ module _ {K : Type 0} (known : K → Wire) (number : K → ℕ) where
   pub all_poll : (a a1 : Door K) (first d new : Desk) → ServesAll known number a a1 first d → Polls d new → ServesAll known number a a1 first new
   all_poll a a1 first d new all x = record { turns = Poll ∷ all.turns; taken = (d, all.taken, x); links = all.links; given = all.given; numbers = all.numbers }
 
-  pub all_pause : (a a1 : Door K) (first d new : Desk) → ServesAll known number a a1 first d → d.heard.wait.cause ≡ None → new ≡ record d { pauses = option_map (with_pause 10000000) d.pauses } → ServesAll known number a a1 first new
-  all_pause a a1 first d new all uncaused x = record { turns = Pause ∷ all.turns; taken = (d, all.taken, (uncaused, x)); links = all.links; given = all.given; numbers = all.numbers }
+  pub all_pause : (a a1 : Door K) (first d new : Desk) → ServesAll known number a a1 first d → d.heard.is_polled ≡ true → d.heard.wait.cause ≡ None → new ≡ record d { pauses = option_map (with_pause 10000000) d.pauses } → ServesAll known number a a1 first new
+  all_pause a a1 first d new all polled uncaused x = record { turns = Pause ∷ all.turns; taken = (d, all.taken, (polled, uncaused, x)); links = all.links; given = all.given; numbers = all.numbers }
 
   -- what came of asking the acceptor is a turn more, or none
-  pub all_next : (a a1 a2 : Door K) (before now : ℕ) (first d new : Desk) (next : AfterAccept) → ServesAll known number a a1 first d → d.heard.wait.cause ≡ None → AcceptsNext known number a1 a2 before now d new (Ok next) → ServesAll known number a a2 first new × (now ≡ before)
-  all_next a a1 a2 before now first d new Now all uncaused x = (all_link a a1 a2 first d new all uncaused x.0, x.1)
-  all_next a a1 a2 before now first d new Later all uncaused x = (all_none a a1 a2 first d new all x.0, x.1)
-  all_next a a1 a2 before now first d new Never all uncaused x = (all_none a a1 a2 first d new all x.0, x.1)
+  pub all_next : (a a1 a2 : Door K) (before now : ℕ) (first d new : Desk) (next : AfterAccept) → ServesAll known number a a1 first d → d.heard.is_polled ≡ true → d.heard.wait.cause ≡ None → AcceptsNext known number a1 a2 before now d new (Ok next) → ServesAll known number a a2 first new × (now ≡ before)
+  all_next a a1 a2 before now first d new Now all polled uncaused x = (all_link a a1 a2 first d new all polled uncaused x.0, x.1)
+  all_next a a1 a2 before now first d new Later all polled uncaused x = (all_none a a1 a2 first d new all x.0, x.1)
+  all_next a a1 a2 before now first d new Never all polled uncaused x = (all_none a a1 a2 first d new all x.0, x.1)
 
   -- or the server ends
   pub all_refused : (a a1 a2 : Door K) (start before now : ℕ) (first d new : Desk) (error : ServeError) → ServesAll known number a a1 first d → d.heard.wait.cause ≡ None → before ≡ start → AcceptsNext known number a1 a2 before now d new (Err error) → EndsServing known number a a2 start now first new (Err error)
@@ -110,13 +110,13 @@ module _ {K : Type 0} (known : K → Wire) (number : K → ℕ) where
 
   -- a link was accepted, served, and left
   pub link_served : (a a2 : Door K) (link left : K) (end : LinkEnd) (s s2 s3 : Session) (h h2 : Heard) (c c2 p p2 : Option (List ℕ)) → Told (AcceptsOnce (Ok (Gives link))) a.ready a2.ready → a2.given ≡ a.given + 1 → number link ≡ a.given
-      → ServesLink end (known link) (known left) c c2 h h2 s s2 → p2 ≡ p → s3.daemon ≡ s2.daemon → s3.line ≡ new_line s2.daemon.state.config.limit → s3.lost ≡ s2.lost
-      → AcceptsLink known number a a2 (desk s h c p) (desk s3 h2 c2 p2)
+      → ServesLink end (known link) (known left) c c2 h (record h2 { is_polled = true }) s s2 → p2 ≡ p → s3.daemon ≡ s2.daemon → s3.line ≡ new_line s2.daemon.state.config.limit → s3.lost ≡ s2.lost
+      → AcceptsLink known number a a2 (desk s h c p) (desk s3 (record h2 { is_polled = false }) c2 p2)
   link_served a a2 link left end s s2 s3 h h2 c c2 p p2 told given numbered serves paused daemon line lost = record {
     link = link;
     left = left;
     end = end;
-    visits = record { session = s2; serves = serves; renews = renewed_is s2 s3 daemon line lost; pauses = paused };
+    visits = record { session = s2; serves = serves; unpolled = refl; renews = renewed_is s2 s3 daemon line lost; pauses = paused };
     first = told;
     given = given;
     numbered = numbered;
@@ -124,8 +124,8 @@ module _ {K : Type 0} (known : K → Wire) (number : K → ℕ) where
 
   pub link_by : (a a2 : Door K) (answer : Accepted K) (link left : K) (end : LinkEnd) (s s2 s3 : Session) (h h2 : Heard) (c c2 p p2 : Option (List ℕ)) (before now : ℕ) → answer ≡ Gives link → Told (AcceptsOnce (Ok answer)) a.ready a2.ready
       → a2.given ≡ given_after {K = K} (Ok answer) a.given → IfLink (Ok answer) (λ l. number l ≡ a.given) → now ≡ before
-      → ServesLink end (known link) (known left) c c2 h h2 s s2 → p2 ≡ p → s3.daemon ≡ s2.daemon → s3.line ≡ new_line s2.daemon.state.config.limit → s3.lost ≡ s2.lost
-      → AcceptsLink known number a a2 (desk s h c p) (desk s3 h2 c2 p2) × (now ≡ before)
+      → ServesLink end (known link) (known left) c c2 h (record h2 { is_polled = true }) s s2 → p2 ≡ p → s3.daemon ≡ s2.daemon → s3.line ≡ new_line s2.daemon.state.config.limit → s3.lost ≡ s2.lost
+      → AcceptsLink known number a a2 (desk s h c p) (desk s3 (record h2 { is_polled = false }) c2 p2) × (now ≡ before)
   link_by a a2 answer link left end s s2 s3 h h2 c c2 p p2 before now is told given numbered faults serves paused daemon line lost = (
     link_served a a2 link left end s s2 s3 h h2 c c2 p p2 (subst (λ (x : Accepted K). Told (AcceptsOnce (Ok x)) a.ready a2.ready) is told) (subst (λ (x : Accepted K). a2.given ≡ given_after {K = K} (Ok x) a.given) is given)
         (subst (λ (x : Accepted K). IfLink (Ok x) (λ l. number l ≡ a.given)) is numbered) serves paused daemon line lost,
@@ -139,9 +139,9 @@ module _ {K : Type 0} (known : K → Wire) (number : K → ℕ) where
 
   -- a server that began with nothing told
   pub serves_from : (a a2 : Door K) (before now idle_time : ℕ) (s s2 : Session) (c left c2 p p1 p2 : Option (List ℕ)) (result : Result StopCause ServeError) (start : ℕ) (first last : Heard) → Ticks_once start c left
-      → first.messages.standing ≡ [] → first.messages.is_closed ≡ false → first.wait.idle_time ≡ idle_time → first.wait.active_at ≡ start → first.wait.cause ≡ None → p1 ≡ p
+      → first.messages.standing ≡ [] → first.messages.is_closed ≡ false → first.wait.idle_time ≡ idle_time → first.wait.active_at ≡ start → first.wait.cause ≡ None → first.is_polled ≡ true → p1 ≡ p
       → EndsServing known number a a2 before now (desk s first left p1) (desk s2 last c2 p2) result → IfServed result (ServesFrom known number a a2 before now idle_time s s2 c c2 p p2 result)
-  serves_from a a2 before now idle_time s s2 c left c2 p p1 p2 result start first last t standing unclosed idle active uncaused paused ended =
+  serves_from a a2 before now idle_time s s2 c left c2 p p1 p2 result start first last t standing unclosed idle active uncaused polled paused ended =
       if_served result (ServesFrom known number a a2 before now idle_time s s2 c c2 p p2 result) (record {
         start = start;
         left = left;
@@ -152,6 +152,7 @@ module _ {K : Type 0} (known : K → Wire) (number : K → ℕ) where
         idle = idle;
         active = active;
         uncaused = uncaused;
+        caught_up = polled;
         last = last;
         ends = subst (λ (x : Option (List ℕ)). EndsServing known number a a2 before now (desk s first left x) (desk s2 last c2 p2) result) paused ended;
       })

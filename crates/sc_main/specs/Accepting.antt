@@ -1,5 +1,5 @@
 -- What a server does for all its links, the newest first.
-use Rattle.std.specs.Prelude.{◌≡◌, ℕ, suc, ◌+◌, false, List, [], ◌∷◌, ◌++◌, Option, Some, None, Result, Ok, Err, length, option_map}
+use Rattle.std.specs.Prelude.{◌≡◌, ℕ, suc, ◌+◌, Bool, true, false, List, [], ◌∷◌, ◌++◌, Option, Some, None, Result, Ok, Err, length, option_map}
 use Rattle.sc_clock.specs.Moments.{with_pause}
 use Rattle.sc_daemon.specs.Sessions.{Session}
 use Rattle.sc_entry.specs.Causes.{Rose, Told}
@@ -31,10 +31,11 @@ pub data Turn (K : Type 0) : Type 0 where
   -- the clock was handed a pause
   Pause : Turn K
 
--- a link was served as it came, over a connection of its own
+-- a link was served as it came, over a connection of its own; the messages are to be polled behind it
 pub record Visits (end : LinkEnd) (k k2 : Wire) (old new : Desk) : Type 0 where
   pub session : Session
-  pub serves : ServesLink end k k2 old.moments new.moments old.heard new.heard old.session session
+  pub serves : ServesLink end k k2 old.moments new.moments old.heard (record new.heard { is_polled = true }) old.session session
+  pub unpolled : new.heard.is_polled ≡ false
   pub renews : new.session ≡ renewed session
   pub pauses : new.pauses ≡ old.pauses
 
@@ -45,11 +46,12 @@ pub record Polls (old new : Desk) : Type 0 where
   pub heard : new.heard ≡ polled now old.heard
   pub same : new ≡ record old { heard = new.heard; moments = new.moments }
 
--- A turn. While a poll has found that the server is to stop, nothing more is accepted, and no pause is made.
+-- A turn. A link is accepted, or a pause made, only where the messages were polled behind the link before, and no poll has found that the
+-- server is to stop.
 abbrev pub Takes_turn : {K : Type 0} → (K → Wire) → Turn K → Desk → Desk → Type 0
-Takes_turn known (Link link left end) old new = (old.heard.wait.cause ≡ None) × Visits end (known link) (known left) old new
+Takes_turn known (Link link left end) old new = (old.heard.is_polled ≡ true) × (old.heard.wait.cause ≡ None) × Visits end (known link) (known left) old new
 Takes_turn known Poll old new = Polls old new
-Takes_turn known Pause old new = (old.heard.wait.cause ≡ None) × (new ≡ record old { pauses = option_map (with_pause 10000000) old.pauses })
+Takes_turn known Pause old new = (old.heard.is_polled ≡ true) × (old.heard.wait.cause ≡ None) × (new ≡ record old { pauses = option_map (with_pause 10000000) old.pauses })
 
 -- turns, one after the other
 abbrev pub Turns : {K : Type 0} → (K → Wire) → List (Turn K) → Desk → Desk → Type 0
@@ -88,6 +90,13 @@ pub record AcceptsNone {K : Type 0} (a a2 : Door K) (old new : Desk) : Type 0 wh
   pub same : new ≡ old
   pub ready : Told (λ before after. before ≡ after) a.ready a2.ready
   pub given : a2.given ≡ a.given
+
+-- whether the messages were polled behind all links, once the acceptor was asked
+abbrev pub polled_after : Result AfterAccept ServeError → Bool
+polled_after (Ok Now) = false
+polled_after (Ok Later) = true
+polled_after (Ok Never) = true
+polled_after (Err e) = true
 
 -- what came of asking the acceptor once
 abbrev pub AcceptsNext : {K : Type 0} → (K → Wire) → (K → ℕ) → Door K → Door K → ℕ → ℕ → Desk → Desk → Result AfterAccept ServeError → Type 0
@@ -129,5 +138,6 @@ pub record ServesFrom {K : Type 0} (known : K → Wire) (number : K → ℕ) (a 
   pub idle : first.wait.idle_time ≡ idle_time
   pub active : first.wait.active_at ≡ start
   pub uncaused : first.wait.cause ≡ None
+  pub caught_up : first.is_polled ≡ true
   pub last : Heard
   pub ends : EndsServing known number a a2 before now (desk session first left p) (desk session2 last c2 p2) result

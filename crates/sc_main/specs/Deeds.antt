@@ -101,10 +101,11 @@ due_by s (_ ∷ t) = due_by s t
 
 -- ---- what they tell the server
 
--- what a server waits by
+-- what a server waits by, and whether the messages were polled behind all that was read
 pub record Heard : Type 0 where
   pub messages : Messages
   pub wait : ShutdownOrInactive
+  pub is_polled : Bool
 
 -- what an event tells: that a request came, and behind it that one to shut down came
 abbrev pub told_by : What → List ServerMessage
@@ -128,9 +129,12 @@ polled now h = record {
     active_at = active_after now h;
     cause = option_or h.wait.cause (cause_of (has_shutdown h.messages.standing) h.messages.is_closed (has_passed h.wait.idle_time (active_after now h) now));
   };
+  is_polled = true;
 }
 
 abbrev pub hears : Deed → Heard → Heard
+hears (Took piece) h = record h { is_polled = false }
+hears (Lost piece) h = record h { is_polled = false }
 hears (Did now e kept) h = record h { messages = with_kept kept h.messages }
 hears (Polled now) h = polled now h
 hears _ h = h
@@ -145,11 +149,12 @@ TellsAll [] = Unit {0}
 TellsAll (Did now e kept ∷ t) = (kept ≡ told_by e.what) × TellsAll t
 TellsAll (_ ∷ t) = TellsAll t
 
--- Each piece was read while no poll had found that the server is to stop, and nothing had been refused.
+-- Each piece was read where the messages had been polled behind the one before, while no poll had found that the server is to stop, and
+-- nothing had been refused.
 abbrev pub ReadsOpen : List Deed → Heard → Type 0
 ReadsOpen [] h = Unit {0}
-ReadsOpen (Took piece ∷ t) h = ((heard_by t h).wait.cause ≡ None) × (is_refused t ≡ false) × ReadsOpen t h
-ReadsOpen (Lost piece ∷ t) h = ((heard_by t h).wait.cause ≡ None) × (is_refused t ≡ false) × ReadsOpen t h
+ReadsOpen (Took piece ∷ t) h = ((heard_by t h).is_polled ≡ true) × ((heard_by t h).wait.cause ≡ None) × (is_refused t ≡ false) × ReadsOpen t h
+ReadsOpen (Lost piece ∷ t) h = ((heard_by t h).is_polled ≡ true) × ((heard_by t h).wait.cause ≡ None) × (is_refused t ≡ false) × ReadsOpen t h
 ReadsOpen (_ ∷ t) h = ReadsOpen t h
 
 -- ---- the moments that they are done at

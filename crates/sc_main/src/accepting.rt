@@ -1,7 +1,7 @@
 //! All the links of a server, one after the other.
-ghost use Rattle.std.specs.Prelude.{◌≡◌, ◌<◌, ◌≤◌, None, IfOk, length};
+ghost use Rattle.std.specs.Prelude.{◌≡◌, ◌<◌, ◌≤◌, true, None, IfOk, length};
 ghost use Rattle.sc_daemon.specs.Lines.{new_line};
-ghost use Rattle.sc_main.specs.Accepting.{AcceptsNext, EndsServing, IfServed, ServesFrom, desk};
+ghost use Rattle.sc_main.specs.Accepting.{AcceptsNext, EndsServing, IfServed, ServesFrom, desk, polled_after};
 ghost use Rattle.sc_main.specs.Serving.{wire};
 
 use crate::after_accept::AfterAccept;
@@ -33,7 +33,7 @@ fn serve_next<P: Parts, A: Acceptor, C: Clock>(
 ) -> Result<AfterAccept, ServeError>
     requires line { session.old.line ≡ new_line session.old.daemon.state.config.limit }
     requires room { 0 < length buffer.old }
-    ensures next { AcceptsNext (λ (link : A.Link). wire (A.Link.ahead link) (A.Link.written link) (A.Link.fault_count link)) (λ (link : A.Link). A.Link.number_of link) (record { ready = A.ready acceptor.old; given = A.given acceptor.old }) (record { ready = A.ready acceptor.new; given = A.given acceptor.new }) (A.fault_count acceptor.old) (A.fault_count acceptor.new) (desk session.old (record { messages = messages.old; wait = wait.old }) (C.moments clock.old) (C.pauses clock.old)) (desk session.new (record { messages = messages.new; wait = wait.new }) (C.moments clock.new) (C.pauses clock.new)) result }
+    ensures next { AcceptsNext (λ (link : A.Link). wire (A.Link.ahead link) (A.Link.written link) (A.Link.fault_count link)) (λ (link : A.Link). A.Link.number_of link) (record { ready = A.ready acceptor.old; given = A.given acceptor.old }) (record { ready = A.ready acceptor.new; given = A.given acceptor.new }) (A.fault_count acceptor.old) (A.fault_count acceptor.new) (desk session.old (record { messages = messages.old; wait = wait.old; is_polled = true }) (C.moments clock.old) (C.pauses clock.old)) (desk session.new (record { messages = messages.new; wait = wait.new; is_polled = polled_after result }) (C.moments clock.new) (C.pauses clock.new)) result }
     ensures later { A.fault_count acceptor.old ≤ A.fault_count acceptor.new }
     ensures line { IfOk result (λ _. session.new.line ≡ new_line session.new.daemon.state.config.limit) }
     ensures same_size { length buffer.new ≡ length buffer.old }
@@ -66,7 +66,7 @@ fn serve_until<P: Parts, A: Acceptor, C: Clock>(
     requires room { 0 < length buffer.old }
     requires uncaused { wait.old.cause ≡ None }
     ensures later { A.fault_count acceptor.old ≤ A.fault_count acceptor.new }
-    ensures ends { EndsServing (λ (link : A.Link). wire (A.Link.ahead link) (A.Link.written link) (A.Link.fault_count link)) (λ (link : A.Link). A.Link.number_of link) (record { ready = A.ready acceptor.old; given = A.given acceptor.old }) (record { ready = A.ready acceptor.new; given = A.given acceptor.new }) (A.fault_count acceptor.old) (A.fault_count acceptor.new) (desk session.old (record { messages = messages.old; wait = wait.old }) (C.moments clock.old) (C.pauses clock.old)) (desk session.new (record { messages = messages.new; wait = wait.new }) (C.moments clock.new) (C.pauses clock.new)) result }
+    ensures ends { EndsServing (λ (link : A.Link). wire (A.Link.ahead link) (A.Link.written link) (A.Link.fault_count link)) (λ (link : A.Link). A.Link.number_of link) (record { ready = A.ready acceptor.old; given = A.given acceptor.old }) (record { ready = A.ready acceptor.new; given = A.given acceptor.new }) (A.fault_count acceptor.old) (A.fault_count acceptor.new) (desk session.old (record { messages = messages.old; wait = wait.old; is_polled = true }) (C.moments clock.old) (C.pauses clock.old)) (desk session.new (record { messages = messages.new; wait = wait.new; is_polled = true }) (C.moments clock.new) (C.pauses clock.new)) result }
 {
     let mut next = AfterAccept::Now;
     for _turn in 0..u64::MAX {

@@ -1,5 +1,5 @@
 //! The requests that were taken over a link, one action after the other.
-ghost use Rattle.std.specs.Prelude.{◌≡◌, ◌⊎◌, [], true, List, Option, Some, None, IfOk, OnOk, OnErr};
+ghost use Rattle.std.specs.Prelude.{◌≡◌, ◌⊎◌, [], true, false, List, Option, Some, None, IfOk, OnOk, OnErr};
 ghost use Rattle.sc_daemon.specs.Turns.{IsIdleLine};
 ghost use Rattle.sc_main.specs.Deeds.{Heard, Ticks_once, raised, told_by, with_kept};
 ghost use Rattle.sc_main.specs.Progress.{Scene, Sends, SoFar, scene};
@@ -104,7 +104,7 @@ pub fn answer_all<P: Parts, K: Link, C: Clock>(
     link: &mut K,
     messages: &mut Messages,
 ) -> Result<Option<LinkEnd>, NoMemory>
-    ensures answers { IfOk result (λ refused. (first : Scene) (wait : ShutdownOrInactive) → SoFar None first (scene session.old (record { messages = messages.old; wait = wait }) (C.moments clock.old) (wire (K.ahead link.old) (K.written link.old) (K.fault_count link.old))) → SoFar refused first (scene session.new (record { messages = messages.new; wait = wait }) (C.moments clock.new) (wire (K.ahead link.new) (K.written link.new) (K.fault_count link.new)))) }
+    ensures answers { IfOk result (λ refused. (first : Scene) (wait : ShutdownOrInactive) → SoFar None first (scene session.old (record { messages = messages.old; wait = wait; is_polled = false }) (C.moments clock.old) (wire (K.ahead link.old) (K.written link.old) (K.fault_count link.old))) → SoFar refused first (scene session.new (record { messages = messages.new; wait = wait; is_polled = false }) (C.moments clock.new) (wire (K.ahead link.new) (K.written link.new) (K.fault_count link.new)))) }
     ensures idle { IfOk result (λ _. IsIdleLine session.new.daemon.free session.new.line) }
     ensures pauses { C.pauses clock.new ≡ C.pauses clock.old }
     ensures same_shut { K.is_shut link.new ≡ K.is_shut link.old }

@@ -1,5 +1,5 @@
 //! One link, from its first byte until it is left.
-ghost use Rattle.std.specs.Prelude.{◌≡◌, ◌<◌, ◌++◌, ℕ, List, Option, None, IfOk, length};
+ghost use Rattle.std.specs.Prelude.{◌≡◌, ◌<◌, ◌++◌, ℕ, true, false, List, Option, None, IfOk, length};
 ghost use Rattle.sc_daemon.specs.Lines.{IsDone, new_line};
 ghost use Rattle.sc_daemon.specs.Turns.{IsIdleLine};
 ghost use Rattle.sc_entry.specs.Causes.{Told};
@@ -29,6 +29,30 @@ fn end_so_far<P: Parts>(session: &Session<P>, wait: &ShutdownOrInactive) -> Opti
     None
 }
 
+/// Takes a piece, and answers the requests that are whole by then. Says what was refused.
+fn take_piece<P: Parts, K: Link, C: Clock>(
+    alloc: Global,
+    session: &mut Session<P>,
+    clock: &mut C,
+    link: &mut K,
+    messages: &mut Messages,
+    piece: &[u8],
+) -> Result<Option<LinkEnd>, NoMemory>
+    requires going { IsDone session.old.line → ⊥ }
+    requires idle { IsIdleLine session.old.daemon.free session.old.line }
+    ensures serves { IfOk result (λ refused. (first : Scene) (wait : ShutdownOrInactive) (ahead : Option (List ℕ)) → wait.cause ≡ None → Told (λ before after. before ≡ piece.now ++ after) ahead (K.ahead link.old) → SoFar None first (scene session.old (record { messages = messages.old; wait = wait; is_polled = true }) (C.moments clock.old) (wire ahead (K.written link.old) (K.fault_count link.old))) → SoFar refused first (scene session.new (record { messages = messages.new; wait = wait; is_polled = false }) (C.moments clock.new) (wire (K.ahead link.new) (K.written link.new) (K.fault_count link.new)))) }
+    ensures idle { IfOk result (λ _. IsIdleLine session.new.daemon.free session.new.line) }
+    ensures pauses { C.pauses clock.new ≡ C.pauses clock.old }
+    ensures same_shut { K.is_shut link.new ≡ K.is_shut link.old }
+    ensures same_number { K.number_of link.new ≡ K.number_of link.old }
+{
+    let Ok(()) = session.feed(alloc, piece) else {
+        return Ok(Some(LinkEnd::NoMemory));
+    };
+    let refused = answer_all(alloc, session, clock, link, messages)?;
+    Ok(refused)
+}
+
 /// Takes a piece, answers the requests that are whole by then, and polls. Says what was refused.
 fn serve_piece<P: Parts, K: Link, C: Clock>(
     alloc: Global,
@@ -42,16 +66,13 @@ fn serve_piece<P: Parts, K: Link, C: Clock>(
     requires going { IsDone session.old.line → ⊥ }
     requires idle { IsIdleLine session.old.daemon.free session.old.line }
     requires uncaused { wait.old.cause ≡ None }
-    ensures serves { IfOk result (λ refused. (first : Scene) (ahead : Option (List ℕ)) → Told (λ before after. before ≡ piece.now ++ after) ahead (K.ahead link.old) → SoFar None first (scene session.old (record { messages = messages.old; wait = wait.old }) (C.moments clock.old) (wire ahead (K.written link.old) (K.fault_count link.old))) → SoFar refused first (scene session.new (record { messages = messages.new; wait = wait.new }) (C.moments clock.new) (wire (K.ahead link.new) (K.written link.new) (K.fault_count link.new)))) }
+    ensures serves { IfOk result (λ refused. (first : Scene) (ahead : Option (List ℕ)) → Told (λ before after. before ≡ piece.now ++ after) ahead (K.ahead link.old) → SoFar None first (scene session.old (record { messages = messages.old; wait = wait.old; is_polled = true }) (C.moments clock.old) (wire ahead (K.written link.old) (K.fault_count link.old))) → SoFar refused first (scene session.new (record { messages = messages.new; wait = wait.new; is_polled = true }) (C.moments clock.new) (wire (K.ahead link.new) (K.written link.new) (K.fault_count link.new)))) }
     ensures idle { IfOk result (λ _. IsIdleLine session.new.daemon.free session.new.line) }
     ensures pauses { C.pauses clock.new ≡ C.pauses clock.old }
     ensures same_shut { K.is_shut link.new ≡ K.is_shut link.old }
     ensures same_number { K.number_of link.new ≡ K.number_of link.old }
 {
-    let Ok(()) = session.feed(alloc, piece) else {
-        return Ok(Some(LinkEnd::NoMemory));
-    };
-    let refused = answer_all(alloc, session, clock, link, messages)?;
+    let refused = take_piece(alloc, session, clock, link, messages, piece)?;
     let now = clock.now();
     wait.poll(messages, now);
     Ok(refused)
@@ -69,7 +90,7 @@ fn serve_pieces<P: Parts, K: Link, C: Clock>(
 ) -> Result<LinkEnd, NoMemory>
     requires idle { IsIdleLine session.old.daemon.free session.old.line }
     requires room { 0 < length buffer.old }
-    ensures leaves { IfOk result (λ end. (first : Scene) → SoFar None first (scene session.old (record { messages = messages.old; wait = wait.old }) (C.moments clock.old) (wire (K.ahead link.old) (K.written link.old) (K.fault_count link.old))) → Leaves end first (scene session.new (record { messages = messages.new; wait = wait.new }) (C.moments clock.new) (wire (K.ahead link.new) (K.written link.new) (K.fault_count link.new)))) }
+    ensures leaves { IfOk result (λ end. (first : Scene) → SoFar None first (scene session.old (record { messages = messages.old; wait = wait.old; is_polled = true }) (C.moments clock.old) (wire (K.ahead link.old) (K.written link.old) (K.fault_count link.old))) → Leaves end first (scene session.new (record { messages = messages.new; wait = wait.new; is_polled = true }) (C.moments clock.new) (wire (K.ahead link.new) (K.written link.new) (K.fault_count link.new)))) }
     ensures idle { IfOk result (λ _. IsIdleLine session.new.daemon.free session.new.line) }
     ensures pauses { C.pauses clock.new ≡ C.pauses clock.old }
     ensures same_shut { K.is_shut link.new ≡ K.is_shut link.old }
@@ -117,7 +138,7 @@ pub fn serve_one<P: Parts, K: Link, C: Clock>(
 ) -> Result<LinkEnd, NoMemory>
     requires line { session.old.line ≡ new_line session.old.daemon.state.config.limit }
     requires room { 0 < length buffer.old }
-    ensures serves { IfOk result (λ end. ServesLink end (wire (K.ahead link.old) (K.written link.old) (K.fault_count link.old)) (wire (K.ahead link.new) (K.written link.new) (K.fault_count link.new)) (C.moments clock.old) (C.moments clock.new) (record { messages = messages.old; wait = wait.old }) (record { messages = messages.new; wait = wait.new }) session.old session.new) }
+    ensures serves { IfOk result (λ end. ServesLink end (wire (K.ahead link.old) (K.written link.old) (K.fault_count link.old)) (wire (K.ahead link.new) (K.written link.new) (K.fault_count link.new)) (C.moments clock.old) (C.moments clock.new) (record { messages = messages.old; wait = wait.old; is_polled = true }) (record { messages = messages.new; wait = wait.new; is_polled = true }) session.old session.new) }
     ensures pauses { C.pauses clock.new ≡ C.pauses clock.old }
     ensures same_shut { K.is_shut link.new ≡ K.is_shut link.old }
     ensures same_number { K.number_of link.new ≡ K.number_of link.old }

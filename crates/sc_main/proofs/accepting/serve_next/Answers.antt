@@ -1,3 +1,4 @@
+use Rattle.std.proofs.Common.{true}
 use Rattle.sc_main.proofs.Turning.{link_by}
 use Rattle.sc_main.specs.Accepting.{Door}
 use Rattle.sc_main.specs.Deeds.{Heard}
@@ -10,8 +11,8 @@ returns-in_ok-serve_one-in-Link-clause-next g c =
     let new = c.accept.new.self in
     let a : Door g.row.A-Link.Denot = record { ready = g.A.Acceptor.ready old; given = g.A.Acceptor.given old } in
     let a2 : Door g.row.A-Link.Denot = record { ready = g.A.Acceptor.ready new; given = g.A.Acceptor.given new } in
-    let h : Heard = record { messages = c.args.messages.now; wait = c.args.wait.now } in
-    let h2 : Heard = record { messages = c.serve_one.new.messages; wait = c.serve_one.new.wait } in
+    let h : Heard = record { messages = c.args.messages.now; wait = c.args.wait.now; is_polled = true } in
+    let h2 : Heard = record { messages = c.serve_one.new.messages; wait = c.serve_one.new.wait; is_polled = true } in
     let asked = c.in_ok-link.ensures in
     link_by (λ (link : g.row.A-Link.Denot). wire (g.A.Link.Link.ahead link) (g.A.Link.Link.written link) (g.A.Link.Link.fault_count link)) (λ (link : g.row.A-Link.Denot). g.A.Link.Link.number_of link)
     a a2 c.in_ok-link.field-0 c.in-Link.link c.serve_one.new.link c.in_ok-serve_one-in-Link.field-0 c.args.session.now c.serve_one.new.session c.renew.new.self h h2 (g.C.Clock.moments c.args.clock.now) (g.C.Clock.moments c.serve_one.new.clock) (g.C.Clock.pauses c.args.clock.now) (g.C.Clock.pauses c.serve_one.new.clock)

@@ -1,4 +1,4 @@
-use Rattle.std.proofs.Common.{◌∙◌}
+use Rattle.std.proofs.Common.{◌∙◌, true}
 use Rattle.sc_main.proofs.Ending.{serves_link}
 use Rattle.sc_main.proofs.Going.{first_idle, raised_first}
 use Rattle.sc_main.specs.Deeds.{Heard}
@@ -16,8 +16,8 @@ returns g c =
     let new = c.serve_pieces.new.link in
     let k = wire (g.K.Link.ahead old) (g.K.Link.written old) (g.K.Link.fault_count old) in
     let k2 = wire (g.K.Link.ahead new) (g.K.Link.written new) (g.K.Link.fault_count new) in
-    let h : Heard = record { messages = c.args.messages.now; wait = c.args.wait.now } in
-    let h2 : Heard = record { messages = c.serve_pieces.new.messages; wait = c.serve_pieces.new.wait } in
+    let h : Heard = record { messages = c.args.messages.now; wait = c.args.wait.now; is_polled = true } in
+    let h2 : Heard = record { messages = c.serve_pieces.new.messages; wait = c.serve_pieces.new.wait; is_polled = true } in
     let first = scene c.args.session.now h (moments c.args.clock.now) k in
     let end = c.in_ok-end.end in
     let left = c.in_ok-end.ensures.leaves first (raised_first c.args.session.now c.raise.new.session h (moments c.args.clock.now) (moments c.raise.new.clock) k c.raise.result c.requires.line c.raise.ensures.session c.raise.ensures.ticks) in

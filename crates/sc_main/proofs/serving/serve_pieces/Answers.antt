@@ -1,4 +1,4 @@
-use Rattle.std.proofs.Common.{◌≡◌, ◌<◌, length, take, Option, refl, ◌∙◌, subst, arith}
+use Rattle.std.proofs.Common.{◌≡◌, ◌<◌, true, length, take, Option, refl, ◌∙◌, subst, arith}
 use Rattle.sc_main.proofs.Reading.{faults_on, gives_up, leaves_refused, read_end, read_piece, read_same, shut_idle, shuts_on}
 use Rattle.sc_main.specs.Deeds.{Heard}
 use Rattle.sc_main.specs.Progress.{SoFar, scene}
@@ -13,7 +13,7 @@ loop-piece-preserved-then-count-eq0 g c =
     let now = c.loop-piece in
     let old = now.link in
     let new = c.read.new.self in
-    let h : Heard = record { messages = now.messages; wait = now.wait } in
+    let h : Heard = record { messages = now.messages; wait = now.wait; is_polled = true } in
     let k = wire (g.K.Link.ahead new) (g.K.Link.written new) (g.K.Link.fault_count new) in
     let told = c.in-Ok.ensures.told in
     let size : length c.read.new.buffer ≡ length now.buffer = c.read.auto.buffer in
@@ -36,13 +36,13 @@ loop-piece-preserved g c =
     let now = c.loop-piece in
     let old = now.link in
     let new = c.read.new.self in
-    let h : Heard = record { messages = now.messages; wait = now.wait } in
+    let h : Heard = record { messages = now.messages; wait = now.wait; is_polled = true } in
     let count = c.in-Ok.count in
     let buffer = c.read.new.buffer in
     let served = c.in_ok-refused.ensures in
     let size : length buffer ≡ length now.buffer = c.read.auto.buffer in
     record {
-      so_far = λ first f. subst (λ (r : Option LinkEnd). SoFar r first (scene c.serve_piece.new.session (record { messages = c.serve_piece.new.messages; wait = c.serve_piece.new.wait }) (g.C.Clock.moments c.serve_piece.new.clock) (wire (g.K.Link.ahead c.serve_piece.new.link) (g.K.Link.written c.serve_piece.new.link) (g.K.Link.fault_count c.serve_piece.new.link)))) c.in_default-refused.is
+      so_far = λ first f. subst (λ (r : Option LinkEnd). SoFar r first (scene c.serve_piece.new.session (record { messages = c.serve_piece.new.messages; wait = c.serve_piece.new.wait; is_polled = true }) (g.C.Clock.moments c.serve_piece.new.clock) (wire (g.K.Link.ahead c.serve_piece.new.link) (g.K.Link.written c.serve_piece.new.link) (g.K.Link.fault_count c.serve_piece.new.link)))) c.in_default-refused.is
           (served.serves first (g.K.Link.ahead old) (read_piece count buffer (take count buffer) (g.K.Link.ahead old) (g.K.Link.ahead new) refl c.in-Ok.ensures.told)
           (read_same first now.session h (g.C.Clock.moments now.clock) (g.K.Link.ahead old) (g.K.Link.written old) (g.K.Link.written new) (g.K.Link.fault_count old) (g.K.Link.fault_count new) (now.invariant.so_far first f) c.read.ensures.same_written c.in-Ok.ensures.quiet));
       idle = served.idle;
@@ -59,7 +59,7 @@ returns-in_default-read-clause-leaves g c first f =
     let old = now.link in
     let new = c.read.new.self in
     leaves_refused ends.ReadFault first _
-    (faults_on first now.session (record { messages = now.messages; wait = now.wait }) (g.C.Clock.moments now.clock) (wire (g.K.Link.ahead old) (g.K.Link.written old) (g.K.Link.fault_count old)) (wire (g.K.Link.ahead new) (g.K.Link.written new) (g.K.Link.fault_count new))
+    (faults_on first now.session (record { messages = now.messages; wait = now.wait; is_polled = true }) (g.C.Clock.moments now.clock) (wire (g.K.Link.ahead old) (g.K.Link.written old) (g.K.Link.fault_count old)) (wire (g.K.Link.ahead new) (g.K.Link.written new) (g.K.Link.fault_count new))
     (now.invariant.so_far first f) c.in_default-read.ensures.refused c.read.ensures.same_written c.in_default-read.ensures.cause c.read.ensures.later)
 
 -- or a write
@@ -68,10 +68,10 @@ returns-in-Some-refused-clause-leaves g c first f =
     let now = c.loop-piece in
     let old = now.link in
     let new = c.read.new.self in
-    let h : Heard = record { messages = now.messages; wait = now.wait } in
+    let h : Heard = record { messages = now.messages; wait = now.wait; is_polled = true } in
     let count = c.in-Ok.count in
     let buffer = c.read.new.buffer in
-    leaves_refused c.in-Some-refused.end first (scene c.serve_piece.new.session (record { messages = c.serve_piece.new.messages; wait = c.serve_piece.new.wait }) (g.C.Clock.moments c.serve_piece.new.clock) (wire (g.K.Link.ahead c.serve_piece.new.link) (g.K.Link.written c.serve_piece.new.link) (g.K.Link.fault_count c.serve_piece.new.link))) (subst (λ (r : Option LinkEnd). SoFar r first (scene c.serve_piece.new.session (record { messages = c.serve_piece.new.messages; wait = c.serve_piece.new.wait }) (g.C.Clock.moments c.serve_piece.new.clock) (wire (g.K.Link.ahead c.serve_piece.new.link) (g.K.Link.written c.serve_piece.new.link) (g.K.Link.fault_count c.serve_piece.new.link)))) c.in-Some-refused.is
+    leaves_refused c.in-Some-refused.end first (scene c.serve_piece.new.session (record { messages = c.serve_piece.new.messages; wait = c.serve_piece.new.wait; is_polled = true }) (g.C.Clock.moments c.serve_piece.new.clock) (wire (g.K.Link.ahead c.serve_piece.new.link) (g.K.Link.written c.serve_piece.new.link) (g.K.Link.fault_count c.serve_piece.new.link))) (subst (λ (r : Option LinkEnd). SoFar r first (scene c.serve_piece.new.session (record { messages = c.serve_piece.new.messages; wait = c.serve_piece.new.wait; is_polled = true }) (g.C.Clock.moments c.serve_piece.new.clock) (wire (g.K.Link.ahead c.serve_piece.new.link) (g.K.Link.written c.serve_piece.new.link) (g.K.Link.fault_count c.serve_piece.new.link)))) c.in-Some-refused.is
     (c.in_ok-refused.ensures.serves first (g.K.Link.ahead old) (read_piece count buffer (take count buffer) (g.K.Link.ahead old) (g.K.Link.ahead new) refl c.in-Ok.ensures.told)
     (read_same first now.session h (g.C.Clock.moments now.clock) (g.K.Link.ahead old) (g.K.Link.written old) (g.K.Link.written new) (g.K.Link.fault_count old) (g.K.Link.fault_count new) (now.invariant.so_far first f) c.read.ensures.same_written c.in-Ok.ensures.quiet)))
 
@@ -79,4 +79,4 @@ pub returns-clause-leaves : goal.returns-clause-leaves
 returns-clause-leaves g c first f =
     let now = c.loop-piece in
     leaves_refused ends.NoMemory first _
-    (gives_up first now.session (record { messages = now.messages; wait = now.wait }) (g.C.Clock.moments now.clock) (wire (g.K.Link.ahead now.link) (g.K.Link.written now.link) (g.K.Link.fault_count now.link)) (now.invariant.so_far first f))
+    (gives_up first now.session (record { messages = now.messages; wait = now.wait; is_polled = true }) (g.C.Clock.moments now.clock) (wire (g.K.Link.ahead now.link) (g.K.Link.written now.link) (g.K.Link.fault_count now.link)) (now.invariant.so_far first f))
