@@ -175,14 +175,6 @@ fn breaks<W: Workshop>(
     Ok(are_texts(chain_of(&answer), chain) && shop.faults() == faults)
 }
 
-type Shop = CommandWorkshop<MockCommandCreator, MemFiles>;
-
-/// A workshop over a creator, whose files refuse the calls of these numbers.
-fn shop_of(alloc: Global, creator: MockCommandCreator, failing: &[u64]) -> Result<Shop, Fail> {
-    let files = files_of(alloc, failing)?;
-    Ok(CommandWorkshop::new(creator, files))
-}
-
 /// Adds a spawn that is refused, a child whose wait is, and one that ends well.
 fn add_three(alloc: Global, creator: &mut MockCommandCreator) -> Result<(), Fail> {
     creator.next_command_spawns(Err(SpawnError::SpawnFault))?;
@@ -218,7 +210,7 @@ fn runs<W: Workshop + Drop>(alloc: Global, shop: W) -> Result<bool, Fail> {
 
 #[test]
 fn ample_run(rt: HostRuntime) -> Result<(), Fail> {
-    let shop = shop_of(rt.alloc(), four_mocks(rt.alloc())?, &[])?;
+    let shop = CommandWorkshop::new(four_mocks(rt.alloc())?, files_of(rt.alloc(), &[])?);
     assert!(rt; runs(rt.alloc(), shop)?);
     Ok(())
 }
@@ -282,7 +274,7 @@ fn places_all<W: Workshop + Drop>(alloc: Global, shop: W) -> Result<bool, Fail> 
 
 #[test]
 fn places_an_entry(rt: HostRuntime) -> Result<(), Fail> {
-    let shop = shop_of(rt.alloc(), mocks(rt.alloc())?, &[2])?;
+    let shop = CommandWorkshop::new(mocks(rt.alloc())?, files_of(rt.alloc(), &[2])?);
     assert!(rt; places_all(rt.alloc(), shop)?);
     Ok(())
 }
