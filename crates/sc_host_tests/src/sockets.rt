@@ -135,11 +135,11 @@ fn ample_unix(rt: HostRuntime) -> Result<(), Fail> {
     let alloc = rt.alloc();
     let mut connector = HostConnector::new(rt.clone()?);
     let mut maker = HostAcceptorMaker::new(rt.clone()?);
-    let addr = SocketAddr::Unix(Text::from_str(alloc, "folder/server")?);
-    fs::create_dir_all(&rt, "folder")?;
+    let addr = SocketAddr::Unix(Text::from_str(alloc, "sockets/server")?);
+    fs::create_dir_all(&rt, "sockets")?;
     let mut acceptor = maker.make(&addr)?;
     assert_eq!(rt;
-        fs::symlink_metadata(&rt, "folder/server")?.mode() & 0o7777,
+        fs::symlink_metadata(&rt, "sockets/server")?.mode() & 0o7777,
         0o600
     );
     assert!(rt; *acceptor.local_addr() == addr);
@@ -149,7 +149,7 @@ fn ample_unix(rt: HostRuntime) -> Result<(), Fail> {
     drop(acceptor);
     let mut acceptor = maker.make(&addr)?;
     assert!(rt; talk_twice(&mut acceptor, &mut connector, &addr));
-    assert_eq!(rt; fs::read_dir(&rt, "folder")?.count(), 1);
+    assert_eq!(rt; fs::read_dir(&rt, "sockets")?.count(), 1);
     Ok(())
 }
 
