@@ -1,7 +1,7 @@
 //! Mocked children, commands and creators.
 use sc_command::{
-    Client, CommandChild, CommandCreator, CommandCreatorSync, RunCommand, SharedCreator,
-    SpawnError, exit_status,
+    Client, CommandChild, CommandCreator, CommandCreatorSync, CommandError, CommandRefusal,
+    NewCommandError, RunCommand, SharedCreator, SpawnError, exit_status,
 };
 use sc_command_mock::{Call, ChildCall, ChildOrCall, MockChild, MockCommand, MockCommandCreator};
 use sc_entry::{ByteText, MemSink, NoMemory, Source, read_to_end, write_all};
@@ -48,6 +48,57 @@ fn new_command(alloc: Global, creator: &mut MockCommandCreator) -> Result<MockCo
     Ok(creator.new_command(&program)?)
 }
 
+/// Whether a command's child ends well, and writes to both its streams.
+fn greets(command: &mut MockCommand) -> Result<bool, Fail> {
+    let output = command.spawn()?.wait_with_output()?;
+    let printed = output.stdout.as_slice() == b"hi".as_slice();
+    let warned = output.stderr.as_slice() == b"oh".as_slice();
+    Ok(output.status.code() == Some(0) && printed && warned)
+}
+
+/// Whether a command was spawned before, as the creator books it.
+fn is_spent(creator: &mut MockCommandCreator, command: &mut MockCommand) -> bool {
+    match command.spawn() {
+        Err(CommandError::Fault(fault)) => creator.book(fault) == CommandRefusal::Spent,
+        _ => false,
+    }
+}
+
+/// Whether a creator's command is spawned once, and its second spawn is counted.
+fn spawns_once(alloc: Global, creator: &mut MockCommandCreator) -> Result<bool, Fail> {
+    let mut command = new_command(alloc, creator)?;
+    let greeted = greets(&mut command)?;
+    let spent = is_spent(creator, &mut command);
+    Ok(greeted && spent && creator.faults() == 1)
+}
+
+#[test]
+fn one_child_is_spawned_once(rt: HostRuntime) -> Result<(), Fail> {
+    let mut creator = mocks_with(rt.alloc(), 0)?;
+    assert!(rt; spawns_once(rt.alloc(), &mut creator)?);
+    Ok(())
+}
+
+/// Whether a creator has no child left for a command.
+fn has_no_child(creator: &mut MockCommandCreator, program: &ByteText) -> bool {
+    let next = creator.new_command(program);
+    matches!(next, Err(NewCommandError::NoChild))
+}
+
+/// Whether a creator gives its one child, and counts that it has no other.
+fn gives_once(alloc: Global, creator: &mut MockCommandCreator) -> Result<bool, Fail> {
+    let program = word(alloc, "/cc")?;
+    let given = creator.new_command(&program).is_ok() && creator.faults() == 0;
+    Ok(given && has_no_child(creator, &program) && creator.faults() == 1)
+}
+
+#[test]
+fn one_child_is_given_once(rt: HostRuntime) -> Result<(), Fail> {
+    let mut creator = mocks_with(rt.alloc(), 0)?;
+    assert!(rt; gives_once(rt.alloc(), &mut creator)?);
+    Ok(())
+}
+
 /// The code that a command's child ends with.
 fn code_of(command: &mut MockCommand) -> Result<Option<i32>, Fail> {
     let status = command.spawn()?.wait()?;
@@ -60,20 +111,14 @@ fn next_code(alloc: Global, creator: &mut MockCommandCreator) -> Result<Option<i
     code_of(&mut command)
 }
 
-/// Whether the first child that was given is spawned first.
-fn spawns_in_turn(alloc: Global, creator: &mut MockCommandCreator) -> Result<bool, Fail> {
-    add_child(alloc, creator, 512)?;
-    Ok(next_code(alloc, creator)? == Some(1) && next_code(alloc, creator)? == Some(2))
-}
-
-fn spawns_both(alloc: Global) -> Result<bool, Fail> {
-    let mut creator = mocks_with(alloc, 256)?;
-    spawns_in_turn(alloc, &mut creator)
-}
-
+/// The first child that was given is spawned first.
 #[test]
 fn ample_next_command_spawns(rt: HostRuntime) -> Result<(), Fail> {
-    assert!(rt; spawns_both(rt.alloc())?);
+    let mut creator = mocks_with(rt.alloc(), 256)?;
+    add_child(rt.alloc(), &mut creator, 512)?;
+    for code in [1, 2] {
+        assert_eq!(rt; next_code(rt.alloc(), &mut creator)?, Some(code));
+    }
     Ok(())
 }
 
@@ -89,6 +134,14 @@ fn has_errors(alloc: Global, child: &mut MockChild, expected: &[u8]) -> Result<b
     gives(alloc, &mut stderr, expected)
 }
 
+#[test]
+fn errors_are_taken_once(rt: HostRuntime) -> Result<(), Fail> {
+    let mut child = child(rt.alloc(), 0)?;
+    assert!(rt; has_errors(rt.alloc(), &mut child, b"oh")?);
+    assert!(rt; child.take_stderr().is_none());
+    Ok(())
+}
+
 /// Whether a sink holds the bytes that are written to it.
 fn holds_written(sink: &mut MemSink, bytes: &[u8]) -> Result<bool, Fail> {
     write_all(sink, bytes)?;
@@ -101,20 +154,11 @@ fn takes_input(child: &mut MockChild) -> Result<bool, Fail> {
     holds_written(&mut stdin, b"in")
 }
 
-/// Whether both streams of a child are there once.
-fn gives_streams_once(alloc: Global, child: &mut MockChild) -> Result<bool, Fail> {
-    let first = has_errors(alloc, child, b"oh")? && takes_input(child)?;
-    Ok(first && child.take_stderr().is_none() && child.take_stdin().is_none())
-}
-
-fn child_gives_streams_once(alloc: Global) -> Result<bool, Fail> {
-    let mut child = child(alloc, 0)?;
-    gives_streams_once(alloc, &mut child)
-}
-
 #[test]
-fn streams_are_taken_once(rt: HostRuntime) -> Result<(), Fail> {
-    assert!(rt; child_gives_streams_once(rt.alloc())?);
+fn input_is_taken_once(rt: HostRuntime) -> Result<(), Fail> {
+    let mut child = child(rt.alloc(), 0)?;
+    assert!(rt; takes_input(&mut child)?);
+    assert!(rt; child.take_stdin().is_none());
     Ok(())
 }
 
@@ -174,19 +218,11 @@ fn prints_its_words(alloc: Global, creator: &mut MockCommandCreator) -> Result<b
     prints(&mut command, b"-c a.c b.c ")
 }
 
-fn calls_once(alloc: Global, creator: &mut MockCommandCreator) -> Result<bool, Fail> {
-    add_call(alloc, creator)?;
-    prints_its_words(alloc, creator)
-}
-
-fn calls(alloc: Global) -> Result<bool, Fail> {
-    let mut creator = mocks(alloc)?;
-    calls_once(alloc, &mut creator)
-}
-
 #[test]
 fn ample_next_command_calls(rt: HostRuntime) -> Result<(), Fail> {
-    assert!(rt; calls(rt.alloc())?);
+    let mut creator = mocks(rt.alloc())?;
+    add_call(rt.alloc(), &mut creator)?;
+    assert!(rt; prints_its_words(rt.alloc(), &mut creator)?);
     Ok(())
 }
 

@@ -1,5 +1,7 @@
-//! Statuses and tokens.
-use sc_command::{Client, exit_status};
+//! Statuses, tokens and variables.
+use sc_command::{Client, Variables, exit_status};
+use sc_entry::{ByteText, NoMemory};
+use std::alloc::Global;
 use std::os::unix::process::ExitStatusExt;
 use std::sync::Wait;
 use std::sync::atomic::{AtomicU64, Ordering};
@@ -93,5 +95,42 @@ fn two_threads_and_one_token(rt: HostRuntime) -> Result<(), Fail> {
         || take_turns(&rt, &client, &holders),
     );
     assert!(rt; mine == 0 && theirs == 0 && has_free(&rt, &client));
+    Ok(())
+}
+
+/// A variable with its value.
+fn pair_of(alloc: Global, name: &str, value: &str) -> Result<(ByteText, ByteText), NoMemory> {
+    let name = ByteText::from_slice(alloc, name.as_bytes())?;
+    let value = ByteText::from_slice(alloc, value.as_bytes())?;
+    Ok((name, value))
+}
+
+fn pairs_of(
+    alloc: Global,
+    rows: &[(&'static str, &'static str)],
+) -> Result<Vec<(ByteText, ByteText)>, Fail> {
+    let mut pairs = Vec::new(alloc);
+    for (name, value) in rows {
+        pairs.push(pair_of(alloc, name, value)?)?;
+    }
+    Ok(pairs)
+}
+
+/// How many variables there are once these are set.
+fn number_set(alloc: Global, pairs: &[(ByteText, ByteText)]) -> Result<usize, Fail> {
+    let mut variables = Variables::new(alloc);
+    variables.set_all(pairs)?;
+    Ok(variables.len())
+}
+
+/// How many variables there are once three are set, two of them of one name.
+fn number_of_three(alloc: Global) -> Result<usize, Fail> {
+    let pairs = pairs_of(alloc, &[("A", "1"), ("B", "2"), ("A", "3")])?;
+    number_set(alloc, &pairs)
+}
+
+#[test]
+fn ample_set_all(rt: HostRuntime) -> Result<(), Fail> {
+    assert_eq!(rt; number_of_three(rt.alloc())?, 2);
     Ok(())
 }

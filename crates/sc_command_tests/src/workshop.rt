@@ -1,9 +1,9 @@
 //! Runs and placings over mocked children and files in memory, and one over a real child.
-use crate::mocks::{add_child, mocks, mocks_with, word};
+use crate::mocks::{mocks, mocks_with, word};
 use sc_command::{Client, CommandCreator, SpawnError, WaitFault};
 use sc_command_mock::{MockChild, MockCommandCreator};
 use sc_command_workshop::{
-    CCompileCommand, CommandWorkshop, CompileCommand, CompileCommandImpl, ExecuteError,
+    CCompileCommand, CommandWorkshop, CompileCommand, CompileCommandImpl, ExecuteError, prepare,
 };
 use sc_compile::{SingleCompileCommand, Workshop};
 use sc_entry::{
@@ -99,9 +99,14 @@ fn run<W: Workshop>(alloc: Global, shop: &mut W, rows: &[Row]) -> Result<RunAnsw
     run_outputs(alloc, shop, &outputs)
 }
 
-/// Whether a child ended well, and wrote `hi` and `oh`.
-fn is_told(told: &Output) -> bool {
-    let ends = matches!(told.status, Status::Code(0));
+/// Whether a child ended so, and wrote `hi` and `oh`.
+fn is_told(told: &Output, status: Status) -> bool {
+    let ends = match (told.status, status) {
+        (Status::Code(one), Status::Code(other)) => one == other,
+        (Status::Signal(one), Status::Signal(other)) => one == other,
+        (Status::Neither, Status::Neither) => true,
+        _ => false,
+    };
     ends && told.stdout.as_slice() == b"hi".as_slice() && told.stderr.as_slice() == b"oh".as_slice()
 }
 
@@ -140,7 +145,7 @@ fn are_texts(texts: &[Text], expected: &[&str]) -> bool {
 
 fn is_success(answer: &RunAnswer) -> bool {
     match answer {
-        RunAnswer::Output(out) => is_told(&out.output),
+        RunAnswer::Output(out) => is_told(&out.output, Status::Code(0)),
         RunAnswer::ProcessError(_output) => false,
         RunAnswer::Fault(_chain) => false,
     }
@@ -163,6 +168,45 @@ fn collects<W: Workshop>(alloc: Global, shop: &mut W) -> Result<bool, Fail> {
     Ok(is_success(&answer) && are_obj(objects_of(&answer)))
 }
 
+#[test]
+fn collects_outputs(rt: HostRuntime) -> Result<(), Fail> {
+    let mut shop = CommandWorkshop::new(mocks_with(rt.alloc(), 0)?, files_of(rt.alloc(), &[])?);
+    assert!(rt; collects(rt.alloc(), &mut shop)?);
+    Ok(())
+}
+
+fn is_process_error(answer: &RunAnswer, status: Status) -> bool {
+    match answer {
+        RunAnswer::ProcessError(output) => is_told(output, status),
+        RunAnswer::Output(_out) => false,
+        RunAnswer::Fault(_chain) => false,
+    }
+}
+
+/// Whether a run is a failed child's, and no refusal.
+fn fails<W: Workshop>(alloc: Global, shop: &mut W, status: Status) -> Result<bool, Fail> {
+    let answer = run(alloc, shop, &[("none", false)])?;
+    Ok(is_process_error(&answer, status) && shop.faults() == 0)
+}
+
+/// Whether a child that ends with a value of the system's wait fails so.
+fn fails_with(alloc: Global, value: i32, status: Status) -> Result<bool, Fail> {
+    let mut shop = CommandWorkshop::new(mocks_with(alloc, value)?, files_of(alloc, &[])?);
+    fails(alloc, &mut shop, status)
+}
+
+#[test]
+fn tells_how_a_child_ended(rt: HostRuntime) -> Result<(), Fail> {
+    for (value, status) in [
+        (768, Status::Code(3)),
+        (9, Status::Signal(9)),
+        (127, Status::Neither),
+    ] {
+        assert!(rt; fails_with(rt.alloc(), value, status)?, "of {value}");
+    }
+    Ok(())
+}
+
 /// Whether a run comes to this chain, and counts so many refusals.
 fn breaks<W: Workshop>(
     alloc: Global,
@@ -175,43 +219,54 @@ fn breaks<W: Workshop>(
     Ok(are_texts(chain_of(&answer), chain) && shop.faults() == faults)
 }
 
-/// Adds a spawn that is refused, a child whose wait is, and one that ends well.
-fn add_three(alloc: Global, creator: &mut MockCommandCreator) -> Result<(), Fail> {
-    creator.next_command_spawns(Err(SpawnError::SpawnFault))?;
-    creator.next_command_spawns(Ok(MockChild::with_error(alloc, WaitFault)))?;
-    add_child(alloc, creator, 0)
-}
-
-/// A creator of a child that ends well, and these.
-fn four_mocks(alloc: Global) -> Result<MockCommandCreator, Fail> {
-    let mut creator = mocks_with(alloc, 0)?;
-    add_three(alloc, &mut creator)?;
-    Ok(creator)
-}
-
-/// Whether a workshop over these mocks collects outputs, and tells each refusal.
-fn runs_each<W: Workshop>(alloc: Global, shop: &mut W) -> Result<bool, Fail> {
-    let twice = [("obj", false), ("obj", false)];
-    let bad_name = ["failed to zip up compiler outputs", "bad object name"];
-    Ok(
-        collects(alloc, shop)?
-            && breaks(alloc, shop, &[], &["cannot spawn"], 1)?
-            && breaks(alloc, shop, &[], &["cannot wait"], 2)?
-            && breaks(alloc, shop, &twice, &bad_name, 3)?
-            && breaks(alloc, shop, &[], &["no mock child left"], 4)?,
-    )
-}
-
-/// The same of a workshop that is given away, so that the end of one is proved once for all.
-fn runs<W: Workshop + Drop>(alloc: Global, shop: W) -> Result<bool, Fail> {
-    let mut shop = shop;
-    runs_each(alloc, &mut shop)
+#[test]
+fn tells_why_outputs_lack(rt: HostRuntime) -> Result<(), Fail> {
+    let mut shop = CommandWorkshop::new(mocks_with(rt.alloc(), 0)?, files_of(rt.alloc(), &[])?);
+    let chain = [
+        "failed to zip up compiler outputs",
+        "failed to open file none",
+    ];
+    assert!(rt; breaks(rt.alloc(), &mut shop, &[("none", false)], &chain, 1)?);
+    Ok(())
 }
 
 #[test]
-fn ample_run(rt: HostRuntime) -> Result<(), Fail> {
-    let shop = CommandWorkshop::new(four_mocks(rt.alloc())?, files_of(rt.alloc(), &[])?);
-    assert!(rt; runs(rt.alloc(), shop)?);
+fn refuses_objects_that_no_entry_holds(rt: HostRuntime) -> Result<(), Fail> {
+    let mut shop = CommandWorkshop::new(mocks_with(rt.alloc(), 0)?, files_of(rt.alloc(), &[])?);
+    let rows = [("obj", false), ("obj", false)];
+    let chain = ["failed to zip up compiler outputs", "bad object name"];
+    assert!(rt; breaks(rt.alloc(), &mut shop, &rows, &chain, 1)?);
+    Ok(())
+}
+
+/// Adds a spawn that is refused, and a child whose wait is.
+fn refuse_twice(alloc: Global, creator: &mut MockCommandCreator) -> Result<(), Fail> {
+    creator.next_command_spawns(Err(SpawnError::SpawnFault))?;
+    creator.next_command_spawns(Ok(MockChild::with_error(alloc, WaitFault)))?;
+    Ok(())
+}
+
+/// A creator whose first spawn is refused, whose second child's wait is, and that has no other child.
+fn refusing_mocks(alloc: Global) -> Result<MockCommandCreator, Fail> {
+    let mut creator = mocks(alloc)?;
+    refuse_twice(alloc, &mut creator)?;
+    Ok(creator)
+}
+
+#[test]
+fn tells_why_no_child_ran(rt: HostRuntime) -> Result<(), Fail> {
+    let mut shop = CommandWorkshop::new(refusing_mocks(rt.alloc())?, files_of(rt.alloc(), &[])?);
+    for (faults, text) in [
+        (1, "cannot spawn"),
+        (2, "cannot wait"),
+        (3, "no mock child left"),
+    ] {
+        assert!(rt;
+            breaks(rt.alloc(), &mut shop, &[], &[text], faults)?,
+            "{text}"
+        );
+    }
+    assert_eq!(rt; shop.creator().faults(), 3);
     Ok(())
 }
 
@@ -263,19 +318,12 @@ fn refuses_torn<W: Workshop>(alloc: Global, shop: &mut W) -> Result<bool, Fail> 
     places(alloc, shop, "obj", &torn, Some(text))
 }
 
-fn places_each<W: Workshop>(alloc: Global, shop: &mut W) -> Result<bool, Fail> {
-    Ok(places_whole(alloc, shop)? && refuses_torn(alloc, shop)? && shop.faults() == 3)
-}
-
-fn places_all<W: Workshop + Drop>(alloc: Global, shop: W) -> Result<bool, Fail> {
-    let mut shop = shop;
-    places_each(alloc, &mut shop)
-}
-
 #[test]
 fn places_an_entry(rt: HostRuntime) -> Result<(), Fail> {
-    let shop = CommandWorkshop::new(mocks(rt.alloc())?, files_of(rt.alloc(), &[2])?);
-    assert!(rt; places_all(rt.alloc(), shop)?);
+    let mut shop = CommandWorkshop::new(mocks_with(rt.alloc(), 0)?, files_of(rt.alloc(), &[2])?);
+    assert!(rt; places_whole(rt.alloc(), &mut shop)?);
+    assert!(rt; refuses_torn(rt.alloc(), &mut shop)?);
+    assert!(rt; shop.faults() == 3 && shop.files().faults() == 1);
     Ok(())
 }
 
@@ -318,14 +366,23 @@ fn passes_on(alloc: Global, creator: &mut MockCommandCreator) -> Result<bool, Fa
     Ok(told && runs_once(creator, &command))
 }
 
-fn passes_all(alloc: Global) -> Result<bool, Fail> {
-    let mut creator = mocks_with(alloc, 256)?;
-    passes_on(alloc, &mut creator)
+#[test]
+fn passes_all_on(rt: HostRuntime) -> Result<(), Fail> {
+    let mut creator = mocks_with(rt.alloc(), 256)?;
+    assert!(rt; passes_on(rt.alloc(), &mut creator)?);
+    Ok(())
+}
+
+/// Whether a creator without a child makes no command.
+fn prepares_none(alloc: Global, creator: &mut MockCommandCreator) -> Result<bool, Fail> {
+    let command = shell(alloc, "cc")?;
+    Ok(prepare(creator, &command).is_err())
 }
 
 #[test]
-fn passes_all_on(rt: HostRuntime) -> Result<(), Fail> {
-    assert!(rt; passes_all(rt.alloc())?);
+fn prepares_no_command_without_a_child(rt: HostRuntime) -> Result<(), Fail> {
+    let mut creator = mocks(rt.alloc())?;
+    assert!(rt; prepares_none(rt.alloc(), &mut creator)?);
     Ok(())
 }
 
@@ -348,16 +405,11 @@ fn runs_shell<W: Workshop>(alloc: Global, shop: &mut W) -> Result<bool, Fail> {
     Ok(gave(&answer, b"1", b"/\n"))
 }
 
-fn tells_variables<W: Workshop + Drop>(alloc: Global, shop: W) -> Result<bool, Fail> {
-    let mut shop = shop;
-    runs_shell(alloc, &mut shop)
-}
-
 #[test]
 fn runs_a_real_child_with_its_variables_alone(rt: HostRuntime) -> Result<(), Fail> {
     let alloc = rt.alloc();
     let creator = ProcessCommandCreator::new(rt, alloc, &Client::new(alloc, 1)?)?;
-    let shop = CommandWorkshop::new(creator, HostFiles::new(rt));
-    assert!(rt; tells_variables(alloc, shop)?);
+    let mut shop = CommandWorkshop::new(creator, HostFiles::new(rt));
+    assert!(rt; runs_shell(alloc, &mut shop)?);
     Ok(())
 }
