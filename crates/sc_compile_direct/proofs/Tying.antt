@@ -19,14 +19,15 @@ use Rattle.sc_model.specs.declared.event.Placing.{Placing}
 use Rattle.sc_model.specs.declared.event.RunAnswer.{RunAnswer}
 use Rattle.sc_model.specs.declared.event.Task.{Task}
 use Rattle.sc_model.specs.declared.event.What.{What}
-use Rattle.sc_model.specs.declared.event.What.TheVariants.{Dist, Keyed, Placed, Ran}
+use Rattle.sc_model.specs.declared.event.What.TheVariants.{Committed, Dist, Keyed, Placed, Ran}
+use Rattle.sc_model.specs.declared.event.Written.{Written}
 use Rattle.sc_model.specs.declared.message.Compile.{Compile as CompileRequest}
 use Rattle.sc_model.specs.declared.message.Request.{Request}
 use Rattle.sc_model.specs.declared.message.Request.TheVariants.{Compile}
 use Rattle.sc_model.specs.declared.phase.Ending.{Ending}
 use Rattle.sc_model.specs.declared.phase.Job.{Job}
 use Rattle.sc_model.specs.declared.phase.Phase.{Phase}
-use Rattle.sc_model.specs.declared.phase.Phase.TheVariants.{AtDist, AtEnded, AtFinish, AtKey, AtOver, AtPlace, AtRun, AtWrite, PrePut}
+use Rattle.sc_model.specs.declared.phase.Phase.TheVariants.{AtCommit, AtDist, AtEnded, AtFinish, AtKey, AtOver, AtPlace, AtRun, AtWrite, PrePut}
 use Rattle.sc_compile_direct.specs.Following.{Compiles, FollowOn, MovedBy, NeedsBy, begun, newest_first, own_of}
 use Rattle.sc_compile_direct.specs.Running.{Steps, StepsBy, ending_of, is_over}
 use Rattle.sc_compile_direct.specs.Answers.{answer_in}
@@ -41,6 +42,7 @@ keys_at : (s : Setup) (r : Request) (p : Phase) → (need_at s r p).keys ≡ key
 keys_at s r (AtRun work) = refl
 keys_at s r (AtDist work) = refl
 keys_at s r (AtPlace job b d) = refl
+keys_at s r (AtCommit b l ls g ending) = refl
 keys_at s r _ = refl
 
 placed_at : (s : Setup) (r : Request) (own : List Own) (p : Phase) (x : Placing) → Keeps s r own p → Fits s r (due_at s r p) (Placed x) → NeedsBy s r own (Placed x) (need_at s r p)
@@ -65,11 +67,19 @@ dist_at s r own (PrePut b (l ∷ ls) g) x kp f = absurd f
 dist_at s r own (PrePut b [] g) x kp f = absurd f
 dist_at s r own _ x kp f = absurd f
 
+committed_at : (s : Setup) (r : Request) (own : List Own) (p : Phase) (l : ℕ) (k b : List ℕ) (how : Written) → Keeps s r own p → Fits s r (due_at s r p) (Committed l k b how) → NeedsBy s r own (Committed l k b how) (need_at s r p)
+committed_at s r own (AtCommit c i ls g ending) l k b how kp f = sym kp.5
+committed_at s r own (AtWrite c (i ∷ ls) g ending) l k b how kp f = absurd (start_is s r (kind_at s.levels i) i c (Committed l k b how) f)
+committed_at s r own (PrePut c (i ∷ ls) g) l k b how kp f = absurd f
+committed_at s r own (PrePut c [] g) l k b how kp f = absurd f
+committed_at s r own _ l k b how kp f = absurd f
+
 needs_at : (s : Setup) (r : Request) (own : List Own) (p : Phase) (x : What) → Keeps s r own p → Fits s r (due_at s r p) x → NeedsBy s r own x (need_at s r p)
 needs_at s r own p (Keyed first client step) kp f = keys_at s r p
 needs_at s r own p (Placed x) kp f = placed_at s r own p x kp f
 needs_at s r own p (Ran x) kp f = ran_at s r own p x kp f
 needs_at s r own p (Dist x) kp f = dist_at s r own p x kp f
+needs_at s r own p (Committed l k b how) kp f = committed_at s r own p l k b how kp f
 needs_at s r own p _ kp f = tt
 
 -- ---- the phase keeps what the events tell

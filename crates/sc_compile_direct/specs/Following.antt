@@ -2,14 +2,14 @@
 use Rattle.std.specs.Prelude.{◌≡◌, ℕ, List, [], ◌∷◌, ◌++◌, map, reverse}
 use Rattle.sc_model.specs.Follows.{Fits, ToFinish, due, what_of}
 use Rattle.sc_model.specs.Headline.{Carries, Stores}
-use Rattle.sc_model.specs.Job.{At, Own, finish, hit_of, job_of}
+use Rattle.sc_model.specs.Job.{At, Own, entry_mark, finish, hit_of, job_of}
 use Rattle.sc_model.specs.Script.{Setup}
 use Rattle.sc_model.specs.World.{Need, keys_of, placed_of}
 use Rattle.sc_model.specs.declared.event.Parsed.TheVariants.{Started}
 use Rattle.sc_model.specs.declared.event.Task.{Task}
 use Rattle.sc_model.specs.declared.event.Told.TheVariants.{Compile as TellsCompile}
 use Rattle.sc_model.specs.declared.event.What.{What}
-use Rattle.sc_model.specs.declared.event.What.TheVariants.{Began, Dist, Keyed, Placed, Ran, Sent}
+use Rattle.sc_model.specs.declared.event.What.TheVariants.{Began, Committed, Dist, Keyed, Placed, Ran, Sent}
 use Rattle.sc_model.specs.declared.message.CompileResponse.TheVariants.{CompileStarted}
 use Rattle.sc_model.specs.declared.message.Request.{Request}
 use Rattle.sc_model.specs.declared.message.Response.TheVariants.{Compile as Answered}
@@ -39,6 +39,7 @@ NeedsBy s r own (Keyed first client step) n = n.keys ≡ keys_of s r
 NeedsBy s r own (Placed p) n = (n.key ≡ (job_of own).found.key) × (n.outputs ≡ placed_of (job_of own).found.locally_preprocessed (job_of own).found.outputs) × (n.hit ≡ hit_of own)
 NeedsBy s r own (Ran a) n = (n.key ≡ (job_of own).found.key) × (n.wanted ≡ (job_of own).found.outputs)
 NeedsBy s r own (Dist d) n = (n.key ≡ (job_of own).found.key) × (n.wanted ≡ (job_of own).found.outputs)
+NeedsBy s r own (Committed l k b how) n = n.mark ≡ entry_mark own
 NeedsBy s r own _ n = Unit {0}
 
 -- the hold moved by each of them in turn, from one to another; an event's moment is what it then told
@@ -58,4 +59,4 @@ pub record Compiles (s : Setup) (r : Request) (task : Task) (c : Compiled) : Typ
   pub over : due s r (newest_first c.events ++ begun r task) ≡ ToFinish c.ending.notes c.ending.last
   pub finished : finish s r (newest_first c.events ++ begun r task) ≡ c.ending.last
   pub carries : Carries s r c.ending.last (newest_first c.events ++ begun r task)
-  pub stored : Stores s (newest_first c.events ++ begun r task)
+  pub stored : Stores s r (newest_first c.events ++ begun r task)

@@ -1,7 +1,7 @@
 //! What compiles on other machines.
 
 ghost use Rattle.std.specs.Prelude.{◌≡◌, ◌≤◌, Bool, List, ℕ, Option, IfOk, OnOk, true};
-ghost use Rattle.sc_compile_dist.specs.Clients.{Makes, Says};
+ghost use Rattle.sc_compile_dist.specs.Clients.{Says};
 ghost use Rattle.sc_compile_dist.specs.GoodJobs.{is_good_dist};
 ghost use Rattle.sc_compile_dist.specs.Jobs.{Jobs, told_dist};
 ghost use Rattle.sc_compile_dist.specs.declared.dist_line.DistLine.{DistLine};
@@ -31,8 +31,8 @@ pub trait DistClient {
     /// The lines that it answers by, where it tells them.
     ghost lines: { Self → Option (List DistLine) };
 
-    /// What it says of its scheduler, where it tells that.
-    ghost scheduler: { Self → Option DistInfo };
+    /// What it says of its scheduler, or that it refuses to, where it tells that.
+    ghost scheduler: { Self → Option (Option DistInfo) };
 
     /// How often a job or a status was lost.
     ghost fault_count: { Self → ℕ };

@@ -1,20 +1,20 @@
 //! A distributed client with its maker, and where it stands.
 
 ghost use Rattle.std.specs.Prelude.{◌≡◌, ◌≤◌, IfOk, OnOk, None, true};
-ghost use Rattle.sc_compile_dist.specs.Clients.{Makes, Says, info_of};
+ghost use Rattle.sc_compile_dist.specs.Clients.{Says, info_of};
 ghost use Rattle.sc_compile_dist.specs.Containers.{Contained, GetsClient, GetsStatus, Gives, RenewsContained, retry_text, scheduler};
 ghost use Rattle.sc_compile_dist.specs.GoodJobs.{is_good_dist};
 ghost use Rattle.sc_compile_dist.specs.Jobs.{told_dist};
-ghost use Rattle.sc_compile_dist.specs.Waiting.{is_disabled, is_due, state_of};
+ghost use Rattle.sc_compile_dist.specs.Waiting.{is_disabled};
 ghost use Rattle.sc_entry.specs.Causes.{IfTold};
-ghost use Rattle.sc_model.specs.World.{DistCause, Tells_status, and_one, reset};
+ghost use Rattle.sc_model.specs.World.{DistCause, Tells_status, and_one, is_due, made_state, reset};
 ghost use Rattle.sc_model.specs.declared.level.DistClientState.TheVariants as states;
 ghost use Rattle.sc_stats.specs.declared.counters.DistInfo.TheVariants.{NotConnected};
 
 use crate::client::{DistClient, SchedulerStatus};
-use crate::maker::{DistMaker, Making};
+use crate::maker::DistMaker;
 use sc_entry::{FileObjectSource, NoMemory, Text};
-use sc_model::{DistAnswer, DistClientState, SingleCompileCommand};
+use sc_model::{DistAnswer, DistClientState, Making, SingleCompileCommand};
 use sc_stats::DistInfo;
 use std::alloc::Global;
 use std::marker::Model;
@@ -61,7 +61,7 @@ impl<M: DistMaker> Model for DistClientContainer<M> {
       jobs = M.Client.jobs c.client;
       lines = M.Client.lines c.client;
       status = M.Client.scheduler c.client;
-      is_made = M.makes_each c.maker;
+      makings = M.makings c.maker;
       client_faults = M.Client.fault_count c.client;
       maker_faults = M.fault_count c.maker;
     } };
@@ -80,8 +80,8 @@ fn is_due(state: &DistClientState, now: u64) -> bool
 }
 
 /// Where a client stands after it was made, or wasn't.
-fn state_of(making: Making, now: u64) -> DistClientState
-    ensures { result ≡ state_of now making }
+fn made_state(making: Making, now: u64) -> DistClientState
+    ensures { result ≡ made_state now making }
 {
     match making {
         Making::Made => DistClientState::Made,
@@ -121,7 +121,7 @@ impl<M: DistMaker + Drop> DistClientContainer<M> {
         ensures jobs { result.jobs ≡ M.Client.jobs client }
         ensures lines { result.lines ≡ M.Client.lines client }
         ensures status { result.status ≡ M.Client.scheduler client }
-        ensures made { result.is_made ≡ M.makes_each maker }
+        ensures makings { result.makings ≡ M.makings maker }
         ensures faults { (result.client_faults ≡ M.Client.fault_count client) × (result.maker_faults ≡ M.fault_count maker) }
     {
         DistClientContainer {
@@ -144,7 +144,7 @@ impl<M: DistMaker + Drop> DistClientContainer<M> {
         ensures jobs { result.jobs ≡ M.Client.jobs client }
         ensures lines { result.lines ≡ M.Client.lines client }
         ensures status { result.status ≡ M.Client.scheduler client }
-        ensures made { result.is_made ≡ M.makes_each maker }
+        ensures makings { result.makings ≡ M.makings maker }
         ensures faults { (result.client_faults ≡ M.Client.fault_count client) × (result.maker_faults ≡ M.fault_count maker) }
     {
         DistClientContainer {
@@ -179,7 +179,7 @@ impl<M: DistMaker + Drop> DistClientContainer<M> {
             return Ok(());
         }
         let making = self.maker.make(alloc, &mut self.client, now)?;
-        self.state = state_of(making, now);
+        self.state = made_state(making, now);
         Ok(())
     }
 

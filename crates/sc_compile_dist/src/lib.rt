@@ -12,6 +12,6 @@ mod script_dist;
 pub use client::{DistClient, SchedulerStatus};
 pub use container::{ClientAnswer, DistClientConfig, DistClientContainer};
 pub use dist_line::DistLine;
-pub use maker::{DistMaker, Making};
+pub use maker::DistMaker;
 pub use mem_maker::MemMaker;
 pub use script_dist::ScriptDist;

@@ -1,40 +1,20 @@
 //! What connects a distributed client with its scheduler.
 
-ghost use Rattle.std.specs.Prelude.{◌≡◌, ◌≤◌, Bool, ℕ, IfOk, OnOk};
-ghost use Rattle.sc_compile_dist.specs.Clients.{Makes};
+ghost use Rattle.std.specs.Prelude.{◌≡◌, List, Option, ℕ, IfOk, OnOk};
+ghost use Rattle.sc_model.specs.World.{MakerCause, Makes_next};
+ghost use Rattle.sc_model.specs.declared.level.Making.{Making as Answer};
 
 use crate::client::DistClient;
-use sc_entry::{NoMemory, Text};
-use std::alloc::{AllocError, Global};
-
-/// What comes of making a client.
-#[derive(Drop)]
-pub enum Making {
-    Made,
-    /// The scheduler isn't reached.
-    Unreachable,
-    /// The client may not speak to the scheduler, which is told in this text.
-    NoToken(Text),
-}
-
-impl Clone for Making {
-    ghost is_clone = { λ original copy. copy ≡ original };
-
-    fn clone(&self) -> Result<Making, AllocError> {
-        match self {
-            Making::Made => Ok(Making::Made),
-            Making::Unreachable => Ok(Making::Unreachable),
-            Making::NoToken(text) => Ok(Making::NoToken(text.clone()?)),
-        }
-    }
-}
+use sc_entry::NoMemory;
+use sc_model::Making;
+use std::alloc::Global;
 
 /// What makes a distributed client anew: it connects it with its scheduler.
 pub trait DistMaker {
     type Client: DistClient + Drop;
 
-    /// Whether it is told that each client is made.
-    ghost makes_each: { Self → Bool };
+    /// What it answers next, where it tells that; behind the last each client is made.
+    ghost makings: { Self → Option (List Answer) };
 
     /// How often a client wasn't made.
     ghost fault_count: { Self → ℕ };
@@ -50,11 +30,10 @@ pub trait DistMaker {
         client: &mut Self::Client,
         now: u64,
     ) -> Result<Making, NoMemory>
-        ensures each { OnOk result (makes_each self.new ≡ makes_each self.old) }
         ensures jobs { OnOk result (Self.Client.jobs client.new ≡ Self.Client.jobs client.old) }
         ensures lines { OnOk result (Self.Client.lines client.new ≡ Self.Client.lines client.old) }
         ensures scheduler { OnOk result (Self.Client.scheduler client.new ≡ Self.Client.scheduler client.old) }
         ensures faults { OnOk result (Self.Client.fault_count client.new ≡ Self.Client.fault_count client.old) }
-        ensures later { fault_count self.old ≤ fault_count self.new }
-        ensures makes { IfOk result (Makes (makes_each self.old) (fault_count self.old) (fault_count self.new)) };
+        ensures makes { IfOk result (λ making. Makes_next (makings self.old) making (makings self.new)) }
+        ensures cause { IfOk result (λ making. MakerCause making (fault_count self.old) (fault_count self.new)) };
 }

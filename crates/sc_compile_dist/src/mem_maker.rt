@@ -1,21 +1,20 @@
 //! A maker in memory.
 
-ghost use Rattle.std.specs.Prelude.{◌≡◌, ◌≤◌, IfOk, OnOk, true};
-ghost use Rattle.sc_compile_dist.specs.Clients.{Makes};
-ghost use Rattle.sc_compile_dist.specs.Makings.{is_made, is_unlisted};
+ghost use Rattle.std.specs.Prelude.{◌≡◌, Some};
+ghost use Rattle.sc_compile_dist.specs.Makings.{is_made};
+ghost use Rattle.sc_model.specs.World.{Makes_next};
 
-use crate::maker::{DistMaker, Making};
+use crate::maker::DistMaker;
 use crate::script_dist::ScriptDist;
-use sc_entry::NoMemory;
+use sc_entry::{NoMemory, Queue};
+use sc_model::Making;
 use std::alloc::Global;
 
-/// A maker that takes its answers from a list, in turn; behind its end each client is made. It tells that each is where nothing
-/// was listed.
+/// A maker that takes its answers from a list, in turn; behind its end each client is made. It tells its answers.
 #[derive(Drop)]
 pub struct MemMaker {
-    makings: Vec<Making>,
-    /// How many were taken.
-    taken: usize,
+    /// Those that are left.
+    makings: Queue<Making>,
     faults: u64,
 }
 
@@ -32,32 +31,21 @@ fn is_made(making: &Making) -> bool
 
 impl MemMaker {
     /// A maker that has not been asked.
-    pub fn new(makings: Vec<Making>) -> MemMaker
+    pub fn new(makings: Queue<Making>) -> MemMaker
         ensures makings { result.makings ≡ makings }
         ensures faults { result.faults ≡ 0 }
     {
-        MemMaker {
-            makings,
-            taken: 0,
-            faults: 0,
-        }
-    }
-
-    /// The answer whose turn it is, a copy.
-    fn listed(&self) -> Result<Making, NoMemory> {
-        match self.makings.get(self.taken) {
-            None => Ok(Making::Made),
-            Some(making) => Ok(making.clone()?),
-        }
+        MemMaker { makings, faults: 0 }
     }
 
     /// The next answer.
-    fn next(&self) -> Result<Making, NoMemory>
-        ensures { IfOk result (λ making. is_unlisted self.now.makings.items ≡ true → is_made making ≡ true) }
+    fn next(&mut self) -> Making
+        ensures makes { Makes_next (Some self.old.makings) result (Some self.new.makings) }
+        ensures faults { self.new.faults ≡ self.old.faults }
     {
-        match self.makings.as_slice() {
-            [] => Ok(Making::Made),
-            [_, ..] => self.listed(),
+        match self.makings.pop_front() {
+            None => Making::Made,
+            Some(making) => making,
         }
     }
 }
@@ -65,7 +53,7 @@ impl MemMaker {
 impl DistMaker for MemMaker {
     type Client = ScriptDist;
 
-    ghost makes_each = { λ m. is_unlisted m.makings.items };
+    ghost makings = { λ m. Some m.makings };
 
     ghost fault_count = { λ m. m.faults };
 
@@ -80,8 +68,7 @@ impl DistMaker for MemMaker {
         _client: &mut ScriptDist,
         _now: u64,
     ) -> Result<Making, NoMemory> {
-        let making = self.next()?;
-        self.taken = self.taken.saturating_add(1);
+        let making = self.next();
         if !is_made(&making) {
             self.faults = self.faults.saturating_add(1);
         }

@@ -151,7 +151,7 @@ impl DistClient for ScriptDist {
 
     ghost lines = { λ d. Some d.lines };
 
-    ghost scheduler = { λ _. Some (Told None 0 0 0) };
+    ghost scheduler = { λ _. Some (Some (Told None 0 0 0)) };
 
     ghost fault_count = { λ d. d.faults };
 

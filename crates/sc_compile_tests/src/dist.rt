@@ -1,10 +1,8 @@
 //! What is told of a distributed client, and that it is as its maker answers.
 use crate::silent::{Silent, SilentMaker};
-use sc_compile_dist::{
-    ClientAnswer, DistClientConfig, DistClientContainer, Making, MemMaker, ScriptDist,
-};
-use sc_entry::Text;
-use sc_model::DistClientState;
+use sc_compile_dist::{ClientAnswer, DistClientConfig, DistClientContainer, MemMaker, ScriptDist};
+use sc_entry::{Queue, Text};
+use sc_model::{DistClientState, Making};
 use sc_stats::DistInfo;
 use std::alloc::Global;
 use std::process::Abort;
@@ -41,16 +39,16 @@ fn making(alloc: Global, made: Made) -> Result<Making, Fail> {
     }
 }
 
-fn push_makings(makings: &mut Vec<Making>, alloc: Global, each: &[Made]) -> Result<(), Fail> {
+fn push_makings(makings: &mut Queue<Making>, alloc: Global, each: &[Made]) -> Result<(), Fail> {
     for made in each {
-        makings.push(making(alloc, *made)?)?;
+        makings.push_back(making(alloc, *made)?)?;
     }
     Ok(())
 }
 
 /// A maker that comes to these in turn.
 fn maker(alloc: Global, each: &[Made]) -> Result<MemMaker, Fail> {
-    let mut makings = Vec::new(alloc);
+    let mut makings = Queue::new(alloc);
     push_makings(&mut makings, alloc, each)?;
     Ok(MemMaker::new(makings))
 }

@@ -1,9 +1,9 @@
 //! A distributed client that loses each job and each status.
-ghost use Rattle.std.specs.Prelude.{None, true};
+ghost use Rattle.std.specs.Prelude.{[], None, Some};
 
-use sc_compile_dist::{DistClient, DistMaker, Making, SchedulerStatus};
+use sc_compile_dist::{DistClient, DistMaker, SchedulerStatus};
 use sc_entry::{FileObjectSource, NoMemory, Text};
-use sc_model::{DistAnswer, SingleCompileCommand};
+use sc_model::{DistAnswer, Making, SingleCompileCommand};
 use std::alloc::Global;
 
 /// A client whose scheduler never answers.
@@ -50,7 +50,7 @@ impl DistClient for Silent {
 impl DistMaker for SilentMaker {
     type Client = Silent;
 
-    ghost makes_each = { λ _. true };
+    ghost makings = { λ _. Some [] };
 
     ghost fault_count = { λ _. 0 };
 

@@ -53,9 +53,9 @@ at_there k d (AtEnd a b f) entry r rests = none_there d (AtEnd a b f) entry rest
 at_there k d (AtStore a b f g) entry r rests = none_there d (AtStore a b f g) entry rests.1
 at_there k d (AtWrite a b f g) entry r rests = none_there d (AtWrite a b f g) entry rests.1
 at_there k d (AtFill b l ls f e) None r rests = absurd rests.1
-at_there k d (AtFill b l ls f e) (Some x) r rests = held_there d l (Some x) b [] rests.1
+at_there k d (AtFill b l ls f e) (Some x) r rests = held_there d l (Some x) b [] None rests.1
 at_there k d (AtCommit b l ls f e) None r rests = absurd rests.1
-at_there k d (AtCommit b l ls f e) (Some x) r rests = held_there d l (Some x) b b.bytes rests.1
+at_there k d (AtCommit b l ls f e) (Some x) r rests = held_there d l (Some x) b b.bytes (Some b.run) rests.1
 at_there k d (AtFinish a b) entry r rests = none_there d (AtFinish a b) entry rests.1
 at_there k d (RawAsk a b) entry r rests = none_there d (RawAsk a b) entry rests.1
 at_there k d (PathAsk a) entry r rests = none_there d (PathAsk a) entry rests.1
@@ -72,8 +72,8 @@ rests_there k d p entry (r ∷ w) rests = at_there k d p entry r rests.0
 
 stage_there : (k : Config) (d : ℕ → DiskStore) (stage : Stage) (entry : Option AddEntry) (l : ℕ) (b : Bytes) → IsAtStage k d stage entry l b → IsThere d (hand_at entry l (length b.bytes))
 stage_there k d Fresh entry l b at = subst (λ (e : Option AddEntry). IsThere d (hand_at e l (length b.bytes))) (sym at) tt
-stage_there k d IsReserved entry l b at = held_there d l entry b [] at.1
-stage_there k d IsFilled entry l b at = held_there d l entry b b.bytes at.1
+stage_there k d IsReserved entry l b at = held_there d l entry b [] None at.1
+stage_there k d IsFilled entry l b at = held_there d l entry b b.bytes (Some b.run) at.1
 
 pub pending_there : (k : Config) (d : ℕ → DiskStore) (w : Write) → IsPending k d w → IsThere d (hand_in w)
 pending_there k d w at = stage_there k d w.pending.stage w.entry w.pending.handed.level (bytes_in w.pending.handed) at.1

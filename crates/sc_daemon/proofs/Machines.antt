@@ -9,18 +9,19 @@ use Rattle.sc_daemon.specs.Turns.{IsIdleLine, TakesMore}
 use Rattle.sc_daemon.proofs.Plain.{due_ended, due_takes, ended_due, says_counted, takes_due, ticked_own}
 use Rattle.sc_daemon_job.specs.Setups.{setup}
 use Rattle.sc_model.specs.Follows.{Fits, ToTake}
-use Rattle.sc_model.specs.Machine.{Conn, DoesBack, DoesRead, DoesServe, Machine, Says, advanced, backed, conn, counted_level, current, due_at, free_after, more, need_at, new_conn, pend, pending_after, pending_at, step_pending}
+use Rattle.sc_model.specs.Machine.{Conn, DoesBack, DoesRead, DoesServe, Machine, Says, advanced, backed, conn, counted_level, current, due_at, free_after, more, need_at, need_back, new_conn, pend, pending_after, pending_at, step_pending}
 use Rattle.sc_model.specs.Next.{Ended, at_moment, ticked}
 use Rattle.sc_model.specs.Rows.{Direct, count, level_row, row, zeroes}
 use Rattle.sc_model.specs.Script.{BadFrame, Script, Setup, input}
-use Rattle.sc_model.specs.Trace.{Open, ends_write, hands, no_request, reserved_at, reserved_by}
-use Rattle.sc_model.specs.World.{Moves, Need, World, need_of}
+use Rattle.sc_model.specs.Trace.{Open, ends_write, hands, reserved_at, reserved_by}
+use Rattle.sc_model.specs.World.{Moves, Need, World}
 use Rattle.sc_model.specs.declared.event.Event.{Event}
 use Rattle.sc_model.specs.declared.event.Owner.{Owner}
 use Rattle.sc_model.specs.declared.event.Owner.TheVariants.{Nobody, Request as OfRequest, Write as OfWrite}
 use Rattle.sc_model.specs.declared.event.What.{What}
 use Rattle.sc_model.specs.declared.event.What.TheVariants.{Closed, Idle, Taken}
 use Rattle.sc_model.specs.declared.phase.Pending.{Pending}
+use Rattle.sc_daemon_owned.specs.Moving.{MovesWorld}
 use Rattle.sc_daemon_owned.specs.State.{reserved_in}
 use Rattle.sc_wire.specs.Streams.{served_reader}
 use Rattle.sc_daemon_owned.specs.Facts.{config_of}
@@ -32,6 +33,10 @@ conn_at d lines opens c l lt = get_or-map conn_of lines c l new_conn lt
 -- as much is reserved at each level as the reservations say
 same_reserved : (opens : List Open) (f : ℕ → ℕ) → ((l : ℕ) → reserved_at l opens ≡ f l) → f ≡ (λ l. reserved_at l opens)
 same_reserved opens f same = λ i l. sym (same l) i
+
+-- the world moves whole where the levels tell
+all_moves : (s : Setup) (n : Need) (r : ℕ → ℕ) (told : Bool) (x : What) (w w2 : World) → told ≡ true → MovesWorld s n r told x w w2 → Moves s n r x w w2
+all_moves s n r told x w w2 tells m = record { moment = m.moment; levels = m.levels tells; shop = m.shop; dist = m.dist }
 
 moves_by : (s : Setup) (n : Need) (opens : List Open) (f : ℕ → ℕ) (x : What) (w w2 : World) → ((l : ℕ) → reserved_at l opens ≡ f l) → Moves s n f x w w2 → Moves s n (λ l. reserved_at l opens) x w w2
 moves_by s n opens f x w w2 same moves = subst (λ (r : ℕ → ℕ). Moves s n r x w w2) (same_reserved opens f same) moves
@@ -100,7 +105,7 @@ served_does c e j x d d2 lines opens l new lt told tied same at =
       says_counted s m x at.says,
       (
         d2.state.world,
-        subst (λ (z : ℕ). Moves s n (λ l. reserved_at l opens) x (at_moment d.state.world z) d2.state.world) (sym (ticked_own d.state.world.moment x at.one.own)) (moves_by s n opens (reserved_in d.state) x d.state.world d2.state.world tied (at.moves.1 told)),
+        subst (λ (z : ℕ). Moves s n (λ l. reserved_at l opens) x (at_moment d.state.world z) d2.state.world) (sym (ticked_own d.state.world.moment x at.one.own)) (moves_by s n opens (reserved_in d.state) x d.state.world d2.state.world tied (all_moves s n (reserved_in d.state) d.state.told x d.state.world d2.state.world told at.moves.1)),
         ap (λ (r : List Open). machine_of d2 (set lines c new) r) owner ∙ left_is c j x d d2 lines opens old new at,
       ),
     )
@@ -230,7 +235,7 @@ written_does : (d d2 : Kept) (lines : List Line) (opens : List Open) (i : ℕ) (
     → DoesBack (setup (config_of d.state.config)) (machine_of d lines opens) i e.moment (OfWrite w.pending.number) e.what (machine_of d2 lines (reserved_by (OfWrite w.pending.number) e.what opens))
 written_does d d2 lines opens i w e told tied at backs =
     let s = setup (config_of d.state.config) in
-    let n = need_of s no_request [] in (
+    let n = need_back s w.pending in (
       w.pending,
       pending_at_map i d.background w at,
       refl,
@@ -238,7 +243,7 @@ written_does d d2 lines opens i w e told tied at backs =
       (
         d2.state.world,
         subst (λ (z : ℕ). Moves s n (λ l. reserved_at l opens) e.what (at_moment d.state.world z) d2.state.world) (sym (ticked_own d.state.world.moment e.what backs.advances.own))
-            (moves_by s n opens (reserved_in d.state) e.what d.state.world d2.state.world tied ((backs.moves n).1 told)),
+            (moves_by s n opens (reserved_in d.state) e.what d.state.world d2.state.world tied (all_moves s n (reserved_in d.state) d.state.told e.what d.state.world d2.state.world told backs.moves.1)),
         backed_by d d2 lines opens i w e at backs,
       ),
     )

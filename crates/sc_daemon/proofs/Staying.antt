@@ -22,13 +22,13 @@ use Rattle.sc_model.specs.declared.phase.Phase.TheVariants.{AtAsk, AtBegin, AtCo
 use Rattle.sc_model.specs.declared.phase.Stage.{Stage}
 use Rattle.sc_model.specs.declared.phase.Stage.TheVariants.{Filled as IsFilled, Fresh, Reserved as IsReserved}
 
-holds_stays : (s t : DiskStore) (e : AddEntry) (b : Bytes) (f : List ℕ) (h : Holds s e b f) → t.told ≡ s.told → entry_at t.entries e.number ≡ Some (record { path = entry_path b.key; size = length b.bytes; bytes = h.bytes }) → Holds t e b f
-holds_stays s t e b f h told there = record { good = h.good; key = h.key; divided = h.divided; bytes = h.bytes; entry = there; told = λ is. h.told (sym told ∙ is) }
+holds_stays : (s t : DiskStore) (e : AddEntry) (b : Bytes) (f : List ℕ) (fills : Option Bool) (h : Holds s e b f fills) → t.told ≡ s.told → entry_at t.entries e.number ≡ Some (record { path = entry_path b.key; size = length b.bytes; bytes = h.bytes; fills = fills }) → Holds t e b f fills
+holds_stays s t e b f fills h told there = record { good = h.good; key = h.key; divided = h.divided; bytes = h.bytes; entry = there; told = λ is. h.told (sym told ∙ is) }
 
 -- a held entry is there
-pub held_there : (d : ℕ → DiskStore) (l : ℕ) (entry : Option AddEntry) (b : Bytes) (f : List ℕ) → IsHeld (d l) entry b f → IsThere d (hand_at entry l (length b.bytes))
-held_there d l None b f held = absurd held
-held_there d l (Some e) b f held = (record { path = entry_path b.key; size = length b.bytes; bytes = held.bytes }, held.entry)
+pub held_there : (d : ℕ → DiskStore) (l : ℕ) (entry : Option AddEntry) (b : Bytes) (f : List ℕ) (fills : Option Bool) → IsHeld (d l) entry b f fills → IsThere d (hand_at entry l (length b.bytes))
+held_there d l None b f fills held = absurd held
+held_there d l (Some e) b f fills held = (record { path = entry_path b.key; size = length b.bytes; bytes = held.bytes; fills = fills }, held.entry)
 
 -- of two writes one has a lesser number than the other
 different : (m n : ℕ) → m < n → (n == m) ≡ false
@@ -55,11 +55,11 @@ module _ (owns : Owners) (opens : List Open) (d d2 : ℕ → DiskStore) (o : Own
   pub tie : (p : Owner) (q : Option Hand) → same_owner o p ≡ false → TiesHand owns opens d p q → TiesHand (with_owner owns o h2) (reserved_by o x opens) d2 p q
   tie p q apart theirs = others_tie owns opens d d2 o p x h h2 q apart by keeps ties theirs
 
-  held_stays : (p : Owner) (l : ℕ) (entry : Option AddEntry) (b : Bytes) (f : List ℕ) → same_owner o p ≡ false → TiesHand owns opens d p (hand_at entry l (length b.bytes)) → IsHeld (d l) entry b f → IsHeld (d2 l) entry b f
-  held_stays p l None b f apart theirs held = held
-  held_stays p l (Some e) b f apart theirs held =
-      holds_stays (d l) (d2 l) e b f held (told l)
-      (others_open owns opens d d2 o p h (record { level = l; number = e.number; size = length b.bytes }) (record { path = entry_path b.key; size = length b.bytes; bytes = held.bytes }) apart keeps ties theirs held.entry)
+  held_stays : (p : Owner) (l : ℕ) (entry : Option AddEntry) (b : Bytes) (f : List ℕ) (fills : Option Bool) → same_owner o p ≡ false → TiesHand owns opens d p (hand_at entry l (length b.bytes)) → IsHeld (d l) entry b f fills → IsHeld (d2 l) entry b f fills
+  held_stays p l None b f fills apart theirs held = held
+  held_stays p l (Some e) b f fills apart theirs held =
+      holds_stays (d l) (d2 l) e b f fills held (told l)
+      (others_open owns opens d d2 o p h (record { level = l; number = e.number; size = length b.bytes }) (record { path = entry_path b.key; size = length b.bytes; bytes = held.bytes; fills = fills }) apart keeps ties theirs held.entry)
 
   rests_at : (k : Config) (p : Owner) (phase : Phase) (entry : Option AddEntry) (r : Request) → same_owner o p ≡ false → TiesHand owns opens d p (hand_of entry phase) → RestsAt k d phase entry r → RestsAt k d2 phase entry r
   rests_at k p AtBegin entry r apart theirs rests = rests
@@ -75,9 +75,9 @@ module _ (owns : Owners) (opens : List Open) (d d2 : ℕ → DiskStore) (o : Own
   rests_at k p (AtStore a b f g) entry r apart theirs rests = rests
   rests_at k p (AtWrite a b f g) entry r apart theirs rests = rests
   rests_at k p (AtFill b l ls f e) None r apart theirs rests = absurd rests.1
-  rests_at k p (AtFill b l ls f e) (Some entry) r apart theirs rests = (rests.0, held_stays p l (Some entry) b [] apart theirs rests.1)
+  rests_at k p (AtFill b l ls f e) (Some entry) r apart theirs rests = (rests.0, held_stays p l (Some entry) b [] None apart theirs rests.1)
   rests_at k p (AtCommit b l ls f e) None r apart theirs rests = absurd rests.1
-  rests_at k p (AtCommit b l ls f e) (Some entry) r apart theirs rests = (rests.0, held_stays p l (Some entry) b b.bytes apart theirs rests.1)
+  rests_at k p (AtCommit b l ls f e) (Some entry) r apart theirs rests = (rests.0, held_stays p l (Some entry) b b.bytes (Some b.run) apart theirs rests.1)
   rests_at k p (AtFinish a b) entry r apart theirs rests = rests
   rests_at k p (RawAsk a b) entry r apart theirs rests = rests
   rests_at k p (PathAsk a) entry r apart theirs rests = rests
@@ -94,8 +94,8 @@ module _ (owns : Owners) (opens : List Open) (d d2 : ℕ → DiskStore) (o : Own
 
   stage_stays : (k : Config) (p : Owner) (stage : Stage) (entry : Option AddEntry) (l : ℕ) (b : Bytes) → same_owner o p ≡ false → TiesHand owns opens d p (hand_at entry l (length b.bytes)) → IsAtStage k d stage entry l b → IsAtStage k d2 stage entry l b
   stage_stays k p Fresh entry l b apart theirs at = at
-  stage_stays k p IsReserved entry l b apart theirs at = (at.0, held_stays p l entry b [] apart theirs at.1)
-  stage_stays k p IsFilled entry l b apart theirs at = (at.0, held_stays p l entry b b.bytes apart theirs at.1)
+  stage_stays k p IsReserved entry l b apart theirs at = (at.0, held_stays p l entry b [] None apart theirs at.1)
+  stage_stays k p IsFilled entry l b apart theirs at = (at.0, held_stays p l entry b b.bytes (Some b.run) apart theirs at.1)
 
   -- and so can another handed write
   pending_stays : (k : Config) (w : Write) → same_owner o (OfWrite w.pending.number) ≡ false → TiesHand owns opens d (OfWrite w.pending.number) (hand_in w) → IsPending k d w → IsPending k d2 w

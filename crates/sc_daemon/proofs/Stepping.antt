@@ -20,8 +20,8 @@ use Rattle.sc_model.specs.Machine.{Conn, DoesBack, DoesRead, DoesServe, conn, ne
 use Rattle.sc_model.specs.Next.{ticked}
 use Rattle.sc_model.specs.Plan.{is_disk}
 use Rattle.sc_model.specs.Script.{Script, Setup, input}
-use Rattle.sc_model.specs.Trace.{Open, ends_write, hands, no_request, reserved_at, reserved_by, same_owner}
-use Rattle.sc_model.specs.World.{IsWithinBytes, need_of}
+use Rattle.sc_model.specs.Trace.{Open, ends_write, hands, reserved_at, reserved_by, same_owner}
+use Rattle.sc_model.specs.World.{IsWithinBytes}
 use Rattle.sc_model.specs.declared.event.Event.{Event}
 use Rattle.sc_model.specs.declared.event.Owner.{Owner}
 use Rattle.sc_model.specs.declared.event.Owner.TheVariants.{Nobody, Request as OfRequest, Write as OfWrite}
@@ -286,7 +286,7 @@ backed_tied d d2 lines opens i w e t at backs =
     let b = disk_at d2.state in
     let h = hand_in w in
     let h2 = hand_in backs.then in
-    let moves = backs.moves (need_of (setup k) no_request []) in
+    let moves = backs.moves in
     let told = (λ (m : ℕ). moves.0) in
     let ties = write_ties t.owns opens a i d.background w at t.writes in
     let owns2 = with_owner t.owns o h2 in
@@ -321,7 +321,7 @@ write_steps s d d2 lines opens i w e is_setup t told most at backs =
         within s d.state.config d2.state (reserved_by e.owner e.what opens) is_setup backs.config most tied.reserved,
       );
       config = backs.config;
-      told = (backs.moves (need_of (setup (config_of d.state.config)) no_request [])).0;
+      told = backs.moves.0;
       count = refl;
       free = let same : d2.free ≡ d.free = ap (λ (k : Kept). k.free) backs.same in omega (arith, same);
       tied = tied;

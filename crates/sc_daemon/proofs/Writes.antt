@@ -25,12 +25,12 @@ use Rattle.sc_model.specs.declared.phase.Stage.TheVariants.{Filled as IsFilled, 
 not_false : true ≡ false → ⊥
 not_false e = absurd (cc)
 
-opened_stage : (k : Config) (d : ℕ → DiskStore) (st : Stage) (l : ℕ) (b : Bytes) (e : Option AddEntry) (w : Written) → kind_at k.levels l ≡ Disk → HeldBy w (d l) e b [] → ends_write (Reserved l b.key (length b.bytes) w) ≡ false
+opened_stage : (k : Config) (d : ℕ → DiskStore) (st : Stage) (l : ℕ) (b : Bytes) (e : Option AddEntry) (w : Written) → kind_at k.levels l ≡ Disk → HeldBy w (d l) e b [] None → ends_write (Reserved l b.key (length b.bytes) w) ≡ false
     → IsAtStage k d (stage_after st (Reserved l b.key (length b.bytes) w)) e l b
 opened_stage k d st l b e Done disk held goes = (disk, held)
 opened_stage k d st l b e (Refused c) disk held goes = absurd (cc)
 
-filled_stage : (k : Config) (d : ℕ → DiskStore) (st : Stage) (l : ℕ) (b : Bytes) (e : Option AddEntry) (w : Written) → kind_at k.levels l ≡ Disk → HeldBy w (d l) e b b.bytes → ends_write (Filled l b.key b.bytes b.run w) ≡ false
+filled_stage : (k : Config) (d : ℕ → DiskStore) (st : Stage) (l : ℕ) (b : Bytes) (e : Option AddEntry) (w : Written) → kind_at k.levels l ≡ Disk → HeldBy w (d l) e b b.bytes (Some b.run) → ends_write (Filled l b.key b.bytes b.run w) ≡ false
     → IsAtStage k d (stage_after st (Filled l b.key b.bytes b.run w)) e l b
 filled_stage k d st l b e Done disk held goes = (disk, held)
 filled_stage k d st l b e (Refused c) disk held goes = absurd (cc)
@@ -70,7 +70,7 @@ some_hand w e is = ap (λ (o : Option AddEntry). hand_at o w.pending.handed.leve
 
 -- an entry was opened, or not
 pub opens : (k : Config) (d d2 : ℕ → DiskStore) (was old new : Write) (x : What) (e : Option AddEntry) (w : Written) → was ≡ old → IsPending k d old → old.pending.stage ≡ Fresh → kind_at k.levels old.pending.handed.level ≡ Disk
-    → x ≡ Reserved was.pending.handed.level was.pending.handed.key (length was.pending.handed.bytes) w → HeldBy w (d2 was.pending.handed.level) e (bytes_in was.pending.handed) []
+    → x ≡ Reserved was.pending.handed.level was.pending.handed.key (length was.pending.handed.bytes) w → HeldBy w (d2 was.pending.handed.level) e (bytes_in was.pending.handed) [] None
     → HandsBy d x None (hand_at e was.pending.handed.level (length was.pending.handed.bytes)) → KeepsHands None d d2 → new.pending ≡ was.pending → new.entry ≡ e → Goes k d d2 x old new
 opens k d d2 was old new x e w is pending fresh disk event held hands others same entry =
     let l = was.pending.handed.level in
@@ -92,7 +92,7 @@ disk_of_filled k d w pending at = (subst (λ (s : Stage). IsAtStage k d s w.entr
 
 -- an entry was filled, or not
 pub fills : (k : Config) (d d2 : ℕ → DiskStore) (was old new : Write) (x : What) (e : Option AddEntry) (h : AddEntry) (w : Written) → was ≡ old → IsPending k d old → old.pending.stage ≡ IsReserved → was.entry ≡ Some h
-    → x ≡ Filled was.pending.handed.level was.pending.handed.key was.pending.handed.bytes was.pending.handed.marked w → HeldBy w (d2 was.pending.handed.level) e (bytes_in was.pending.handed) was.pending.handed.bytes
+    → x ≡ Filled was.pending.handed.level was.pending.handed.key was.pending.handed.bytes was.pending.handed.marked w → HeldBy w (d2 was.pending.handed.level) e (bytes_in was.pending.handed) was.pending.handed.bytes (Some was.pending.handed.marked)
     → HandsBy d x (hand_at (Some h) was.pending.handed.level (length was.pending.handed.bytes)) (hand_at e was.pending.handed.level (length was.pending.handed.bytes))
     → KeepsHands (hand_at (Some h) was.pending.handed.level (length was.pending.handed.bytes)) d d2 → new.pending ≡ was.pending → new.entry ≡ e → Goes k d d2 x old new
 fills k d d2 was old new x e h w is pending reserved some event held hands others same entry =

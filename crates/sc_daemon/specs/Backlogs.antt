@@ -7,8 +7,10 @@ use Rattle.sc_store_disk.specs.DiskStores.{DiskStore}
 use Rattle.sc_daemon_hold.specs.Holding.{Hand, HandsBy, IsHeld, KeepsHands, hand_at}
 use Rattle.sc_daemon_job.specs.Setups.{Config, setup}
 use Rattle.sc_model.specs.Follows.{Fits, bytes_in, kind_at}
-use Rattle.sc_model.specs.Machine.{due_pending, reserved_after, stage_after}
+use Rattle.sc_model.specs.Job.{mark_of}
+use Rattle.sc_model.specs.Machine.{due_pending, reserved_after, stage_after, stage_fills}
 use Rattle.sc_model.specs.Trace.{ends_write, no_request}
+use Rattle.sc_model.specs.World.{Need}
 use Rattle.sc_model.specs.contracts.phase.Pending as pending_type
 use Rattle.sc_model.specs.declared.event.What.{What}
 use Rattle.sc_model.specs.declared.level.LevelKind.TheVariants.{Disk}
@@ -48,6 +50,14 @@ write_at i [] = None
 write_at zero (w ∷ ws) = Some w
 write_at (suc i) (w ∷ ws) = write_at i ws
 
+-- the mark that a commit of its entry is to give
+abbrev pub MarksAs : Need → Pending → Type 0
+MarksAs n p = n.mark ≡ mark_of (stage_fills p.stage p.handed.marked)
+
+-- what is needed gives the mark of the write at this place
+abbrev pub MarksAt : ℕ → List Write → Need → Type 0
+MarksAt i ws n = (w : Write) → write_at i ws ≡ Some w → MarksAs n w.pending
+
 -- the write at this place is done, or stands there as this one
 abbrev pub put_write : Bool → Write → List Write → List Write
 put_write true w ws = ws
@@ -65,8 +75,8 @@ stepped m x p = record p { stage = stage_after p.stage x; since = reserved_after
 -- how far a write is, and the entry that it holds then; d are the levels as disk stores
 abbrev pub IsAtStage : Config → (ℕ → DiskStore) → Stage → Option AddEntry → ℕ → Bytes → Type 0
 IsAtStage k d Fresh entry l b = entry ≡ None
-IsAtStage k d IsReserved entry l b = (kind_at k.levels l ≡ Disk) × IsHeld (d l) entry b []
-IsAtStage k d IsFilled entry l b = (kind_at k.levels l ≡ Disk) × IsHeld (d l) entry b b.bytes
+IsAtStage k d IsReserved entry l b = (kind_at k.levels l ≡ Disk) × IsHeld (d l) entry b [] None
+IsAtStage k d IsFilled entry l b = (kind_at k.levels l ≡ Disk) × IsHeld (d l) entry b b.bytes (Some b.run)
 
 -- a write that can be gone on with: its level is there
 abbrev pub IsPending : Config → (ℕ → DiskStore) → Write → Type 0

@@ -7,12 +7,11 @@ use Rattle.sc_daemon.specs.Lines.{Line, conn_of}
 use Rattle.sc_daemon.specs.Turns.{IsIdleLine, Reads, Serves_one}
 use Rattle.sc_daemon.specs.declared.reading.Reading.TheVariants as readings
 use Rattle.sc_daemon_job.specs.Setups.{setup}
-use Rattle.sc_model.specs.Machine.{Machine, counted_level, current, free_after, need_at, pend}
+use Rattle.sc_model.specs.Machine.{Machine, counted_level, current, free_after, need_at, need_back, pend}
 use Rattle.sc_model.specs.Next.{at_moment}
 use Rattle.sc_model.specs.Rows.{Direct, by_backfill, count, level_row, row, zeroes}
 use Rattle.sc_model.specs.Script.{Script}
 use Rattle.sc_model.specs.Trace.{Open, ends_write, hands}
-use Rattle.sc_model.specs.World.{Need}
 use Rattle.sc_model.specs.declared.event.Event.{Event}
 use Rattle.sc_model.specs.declared.event.Owner.{Owner}
 use Rattle.sc_model.specs.declared.event.Owner.TheVariants.{Nobody, Request as OfRequest, Write as OfWrite}
@@ -115,7 +114,7 @@ pub record BacksAt (i : ℕ) (w : Write) (e : Event) (old new : Kept) : Type 0 w
   pub owner : e.owner ≡ OfWrite w.pending.number
   pub then : Write
   pub advances : Advances (config_of old.state.config) old.state.world.moment (disk_at old.state) (disk_at new.state) e.what w then
-  pub moves : (n : Need) → OwnedMoves old.state n e.what new.state
+  pub moves : OwnedMoves old.state (need_back (setup (config_of old.state.config)) w.pending) e.what new.state
   pub config : new.state.config ≡ old.state.config
   pub same : new ≡ record old {
     state = new.state;

@@ -1,7 +1,7 @@
 //! The writes that were handed on and are not done.
 ghost use Rattle.std.specs.Prelude.{◌≡◌, ℕ, ◌+◌, ◌<◌, ◌≤◌, ◌^◌, ◌++◌, [], true, false, Some, length, IsTrue, ◌↔◌, IfNone, IfOk, IfSome, OnOk};
 ghost use Rattle.std.specs.List.{remove};
-ghost use Rattle.sc_daemon.specs.Backlogs.{AdvancesAt, ArePending, fresh_writes, write_at};
+ghost use Rattle.sc_daemon.specs.Backlogs.{AdvancesAt, ArePending, MarksAt, fresh_writes, write_at};
 ghost use Rattle.sc_model.specs.Machine.{pend};
 ghost use Rattle.sc_model.specs.Trace.{hands, numbered};
 ghost use Rattle.sc_model.specs.World.{Need};
@@ -85,7 +85,7 @@ impl Backlog {
         requires place { place < length self.old }
         requires pending { ArePending (H.config hold.old) (H.disk hold.old) self.old }
         ensures advances { IfOk result (λ what. AdvancesAt (H.config hold.old) (H.moment hold.old) (H.disk hold.old) (H.disk hold.new) place what self.old self.new) }
-        ensures moves { IfOk result (λ what. (n : Need) → H.moves hold.old n what hold.new) }
+        ensures moves { IfOk result (λ what. (n : Need) → MarksAt place self.old n → H.moves hold.old n what hold.new) }
         ensures same { IfOk result (λ _. H.config hold.new ≡ H.config hold.old) }
     {
         let Some(write) = self.writes.get_mut(place) else {

@@ -173,8 +173,8 @@ fn all_steps<P: Parts>(
 }
 
 /// Drives a daemon: each step is one atomic step, over these bytes on each connection. What it answers is what happened,
-/// and the headline holds of it. What the daemon is made of stays, it still tells what it holds, and as much is reserved at each
-/// level as what happened says.
+/// and the headline holds of it. What the daemon is made of stays, it still tells what it holds, the writes that are left are its
+/// own, and as much is reserved at each level as what happened says.
 pub fn drive<P: Parts>(
     alloc: Global,
     daemon: &mut Daemon<P>,
@@ -186,6 +186,7 @@ pub fn drive<P: Parts>(
     ensures headline { IfOk result (λ driven. Headline (script_of daemon.old inputs.now) daemon.old.state.world (reverse steps.now) (reverse driven.trace) daemon.new.state.world (result_of daemon.new driven)) }
     ensures config { IfOk result (λ _. daemon.new.state.config ≡ daemon.old.state.config) }
     ensures told { IfOk result (λ _. daemon.new.state.told ≡ true) }
+    ensures background { IfOk result (λ driven. driven.background ≡ map (λ w. w.pending.handed) daemon.new.background) }
     ensures reserved { IfOk result (λ driven. (level : ℕ) → reserved_in daemon.new.state level ≡ reserved_at level (reservations (reverse driven.trace))) }
 {
     every_run();

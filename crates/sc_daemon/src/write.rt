@@ -1,6 +1,6 @@
 //! A write that was handed on and is not done.
 ghost use Rattle.std.specs.Prelude.{◌≡◌, ◌<◌, false, length, None, Some, IfOk};
-ghost use Rattle.sc_daemon.specs.Backlogs.{Advances, Goes, IsPending};
+ghost use Rattle.sc_daemon.specs.Backlogs.{Advances, Goes, IsPending, MarksAs};
 ghost use Rattle.sc_model.specs.Machine.{reserved_after, stage_after};
 ghost use Rattle.sc_model.specs.Follows.{kind_at};
 ghost use Rattle.sc_model.specs.Trace.{ends_write};
@@ -195,7 +195,7 @@ impl Write {
         requires pending { IsPending (H.config hold.old) (H.disk hold.old) self.old }
         requires filled { self.old.pending.stage ≡ IsFilled }
         ensures goes { IfOk result (λ what. Goes (H.config hold.old) (H.disk hold.old) (H.disk hold.new) what self.old self.new) }
-        ensures moves { IfOk result (λ what. (n : Need) → H.moves hold.old n what hold.new) }
+        ensures moves { IfOk result (λ what. (n : Need) → MarksAs n self.old.pending → H.moves hold.old n what hold.new) }
         ensures same { IfOk result (λ _. H.config hold.new ≡ H.config hold.old) }
     {
         let Some(held) = self.entry.take() else {
@@ -209,7 +209,7 @@ impl Write {
     fn act<H: Hold>(&mut self, alloc: Global, hold: &mut H) -> Result<What, NoMemory>
         requires pending { IsPending (H.config hold.old) (H.disk hold.old) self.old }
         ensures goes { IfOk result (λ what. Goes (H.config hold.old) (H.disk hold.old) (H.disk hold.new) what self.old self.new) }
-        ensures moves { IfOk result (λ what. (n : Need) → H.moves hold.old n what hold.new) }
+        ensures moves { IfOk result (λ what. (n : Need) → MarksAs n self.old.pending → H.moves hold.old n what hold.new) }
         ensures same { IfOk result (λ _. H.config hold.new ≡ H.config hold.old) }
     {
         match self.stage {
@@ -226,7 +226,7 @@ impl Write {
     pub fn advance<H: Hold>(&mut self, alloc: Global, hold: &mut H) -> Result<What, NoMemory>
         requires { IsPending (H.config hold.old) (H.disk hold.old) self.old }
         ensures advances { IfOk result (λ what. Advances (H.config hold.old) (H.moment hold.old) (H.disk hold.old) (H.disk hold.new) what self.old self.new) }
-        ensures moves { IfOk result (λ what. (n : Need) → H.moves hold.old n what hold.new) }
+        ensures moves { IfOk result (λ what. (n : Need) → MarksAs n self.old.pending → H.moves hold.old n what hold.new) }
         ensures same { IfOk result (λ _. H.config hold.new ≡ H.config hold.old) }
     {
         let now = hold.now();

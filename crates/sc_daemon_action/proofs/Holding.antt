@@ -1,5 +1,5 @@
 -- Entries that are held, before and after an action.
-use Rattle.std.proofs.Common.{◌≡◌, ◌≢◌, ◌==◌, ℕ, ◌++◌, true, false, List, [], length, Option, Some, None, refl, ap, sym, subst, ◌∙◌, eqb-true, eq-eqb}
+use Rattle.std.proofs.Common.{◌≡◌, ◌≢◌, ◌==◌, ℕ, ◌++◌, Bool, true, false, List, [], length, Option, Some, None, refl, ap, sym, subst, ◌∙◌, eqb-true, eq-eqb}
 use Rattle.sc_daemon_action.specs.Hands.{ActsWith, IsOwn, ServesWith, StandsWith, writes}
 use Rattle.sc_daemon_action.specs.Serves.{Serves, Stands}
 use Rattle.sc_daemon_action.specs.Telling.{ActsFor, IsStill}
@@ -7,6 +7,7 @@ use Rattle.sc_daemon_action.specs.declared.acted.Acted.{Acted}
 use Rattle.sc_disk.specs.Store.{AddEntry}
 use Rattle.sc_store_disk.specs.DiskStores.{DiskStore, OpenEntry, entry_at, entry_path}
 use Rattle.sc_store_disk.specs.Entries.{ClosesEntry, FillsBy}
+use Rattle.sc_store_disk.specs.Marks.{filled_by}
 use Rattle.sc_store_disk.specs.Moving.{OpensBy}
 use Rattle.sc_store_disk.specs.declared.filling.Filling.{Filling}
 use Rattle.sc_store_disk.specs.declared.filling.Filling.TheVariants.{Filled as StillOpen, Refused as NotFilled}
@@ -37,7 +38,7 @@ by_number {P} m l same apart = (elim (m == l) as (λ t. (m == l) ≡ t → P) [
 
 -- needs nothing
 pub no_need : Need
-no_need = record { keys = λ first. None; key = []; wanted = []; outputs = []; hit = [] }
+no_need = record { keys = λ first. None; key = []; wanted = []; outputs = []; hit = []; mark = false }
 
 module _ (l : ℕ) (old new : ℕ → DiskStore) (away : Elsewhere l old new) where
   -- what is open at one level stays by a call there, and at all others
@@ -56,23 +57,23 @@ module _ (l : ℕ) (old new : ℕ → DiskStore) (away : Elsewhere l old new) wh
   pub opens_keep : (path : List ℕ) (size : ℕ) (how : Reservation) → OpensBy path size how (old l) (new l) → KeepsHands None old new
   opens_keep path size how h = keeps_at None (λ n o other at. opens_here path size how h n o at)
 
-  fills_here : (e : AddEntry) (more : List ℕ) (how : Filling) → FillsBy e more how (old l) (new l) → (n : ℕ) (o : OpenEntry) → n ≢ e.number → entry_at (old l).entries n ≡ Some o → entry_at (new l).entries n ≡ Some o
-  fills_here e more (StillOpen same) h n o apart at = h.1.others n apart ∙ at
-  fills_here e more (NotFilled c) h n o apart at = h.2.others n apart ∙ at
+  fills_here : (e : AddEntry) (more : List ℕ) (fills : Option Bool → Option Bool) (how : Filling) → FillsBy e more fills how (old l) (new l) → (n : ℕ) (o : OpenEntry) → n ≢ e.number → entry_at (old l).entries n ≡ Some o → entry_at (new l).entries n ≡ Some o
+  fills_here e more fills (StillOpen same) h n o apart at = h.1.others n apart ∙ at
+  fills_here e more fills (NotFilled c) h n o apart at = h.1.others n apart ∙ at
 
-  pub fills_keep : (e : AddEntry) (more : List ℕ) (size : ℕ) (how : Filling) → FillsBy e more how (old l) (new l) → KeepsHands (hand_at (Some e) l size) old new
-  fills_keep e more size how h = keeps_at (hand_at (Some e) l size) (λ n o other at. fills_here e more how h n o (λ is. other (refl, is)) at)
+  pub fills_keep : (e : AddEntry) (more : List ℕ) (fills : Option Bool → Option Bool) (size : ℕ) (how : Filling) → FillsBy e more fills how (old l) (new l) → KeepsHands (hand_at (Some e) l size) old new
+  fills_keep e more fills size how h = keeps_at (hand_at (Some e) l size) (λ n o other at. fills_here e more fills how h n o (λ is. other (refl, is)) at)
 
   pub closes_keep : (e : AddEntry) (size : ℕ) → ClosesEntry e.number (old l) (new l) → KeepsHands (hand_at (Some e) l size) old new
   closes_keep e size h = keeps_at (hand_at (Some e) l size) (λ n o other at. h.others n (λ is. other (refl, is)) ∙ at)
 
 -- an entry that was opened is held, and is empty
-pub opened_holds : (s t : DiskStore) (e : AddEntry) (b : Bytes) → IsStoreKey b.key → OpensBy (entry_path b.key) (length b.bytes) (Open e) s t → Holds t e b []
+pub opened_holds : (s t : DiskStore) (e : AddEntry) (b : Bytes) → IsStoreKey b.key → OpensBy (entry_path b.key) (length b.bytes) (Open e) s t → Holds t e b [] None
 opened_holds s t e b good h = record { good = good; key = h.key; divided = h.divided; bytes = []; entry = h.opened; told = λ told. refl }
 
-filled_holds : (s t : DiskStore) (e : AddEntry) (b : Bytes) → t.told ≡ s.told → Holds s e b [] → FillsBy e b.bytes (StillOpen e) s t → Holds t e b b.bytes
+filled_holds : (s t : DiskStore) (e : AddEntry) (b : Bytes) → t.told ≡ s.told → Holds s e b [] None → FillsBy e b.bytes (filled_by b.run) (StillOpen e) s t → Holds t e b b.bytes (Some b.run)
 filled_holds s t e b same held h =
-    let now = h.1.entry (record { path = entry_path b.key; size = length b.bytes; bytes = held.bytes }) held.entry in
+    let now = h.1.entry (record { path = entry_path b.key; size = length b.bytes; bytes = held.bytes; fills = None }) held.entry in
     record {
       good = held.good;
       key = held.key;
@@ -83,8 +84,8 @@ filled_holds s t e b same held h =
     }
 
 -- an entry that was filled is held, with its bytes
-pub fills_hold : (s t : DiskStore) (e f : AddEntry) (b : Bytes) → t.told ≡ s.told → Holds s e b [] → FillsBy e b.bytes (StillOpen f) s t → Holds t f b b.bytes
-fills_hold s t e f b same held h = subst (λ (x : AddEntry). Holds t x b b.bytes) (sym h.0) (filled_holds s t e b same held (refl, h.1))
+pub fills_hold : (s t : DiskStore) (e f : AddEntry) (b : Bytes) → t.told ≡ s.told → Holds s e b [] None → FillsBy e b.bytes (filled_by b.run) (StillOpen f) s t → Holds t f b b.bytes (Some b.run)
+fills_hold s t e f b same held h = subst (λ (x : AddEntry). Holds t x b b.bytes (Some b.run)) (sym h.0) (filled_holds s t e b same held (refl, h.1))
 
 -- an event that opens, fills and closes no entry keeps each
 pub still_keeps : (held : Option Hand) (old new : ℕ → DiskStore) → ((l : ℕ) → SameRoom (old l) (new l)) → KeepsHands held old new

@@ -30,14 +30,14 @@ IsWriting k l ls r ending = (l < length k.levels) × (kind_at k.levels l ≡ Dis
 
 -- What can be gone on with, with the entry that is held for it: d are the levels as disk stores.
 abbrev pub ServesWith : Config → (ℕ → DiskStore) → Phase → Option AddEntry → Request → Type 0
-ServesWith k d (AtFill b l ls f ending) entry r = IsWriting k l ls r ending × IsHeld (d l) entry b []
-ServesWith k d (AtCommit b l ls f ending) entry r = IsWriting k l ls r ending × IsHeld (d l) entry b b.bytes
+ServesWith k d (AtFill b l ls f ending) entry r = IsWriting k l ls r ending × IsHeld (d l) entry b [] None
+ServesWith k d (AtCommit b l ls f ending) entry r = IsWriting k l ls r ending × IsHeld (d l) entry b b.bytes (Some b.run)
 ServesWith k d p entry r = Serves k p r × (entry ≡ None)
 
 -- What a connection may stand at: also where a reply was too long.
 abbrev pub StandsWith : Config → (ℕ → DiskStore) → Phase → Option AddEntry → Request → Type 0
-StandsWith k d (AtFill b l ls f ending) entry r = IsWriting k l ls r ending × IsHeld (d l) entry b []
-StandsWith k d (AtCommit b l ls f ending) entry r = IsWriting k l ls r ending × IsHeld (d l) entry b b.bytes
+StandsWith k d (AtFill b l ls f ending) entry r = IsWriting k l ls r ending × IsHeld (d l) entry b [] None
+StandsWith k d (AtCommit b l ls f ending) entry r = IsWriting k l ls r ending × IsHeld (d l) entry b b.bytes (Some b.run)
 StandsWith k d p entry r = Stands k p r × (entry ≡ None)
 
 -- the entry that is held at a phase

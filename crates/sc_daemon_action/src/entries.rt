@@ -24,7 +24,7 @@ pub fn open_entry<H: Hold>(hold: &mut H, level: u64, bytes: &Bytes) -> Result<En
     requires level { level < length (H.config hold.old).levels }
     requires disk { kind_at (H.config hold.old).levels level ≡ Disk }
     ensures what { IfOk result (λ a. a.what ≡ What.Reserved level bytes.now.key (length bytes.now.bytes) a.written) }
-    ensures held { IfOk result (λ a. HeldBy a.written (H.disk hold.new level) a.entry bytes.now []) }
+    ensures held { IfOk result (λ a. HeldBy a.written (H.disk hold.new level) a.entry bytes.now [] None) }
     ensures hands { IfOk result (λ a. HandsBy (H.disk hold.old) a.what None (hand_at a.entry level (length bytes.now.bytes))) }
     ensures others { IfOk result (λ a. KeepsHands None (H.disk hold.old) (H.disk hold.new)) }
     ensures moves { IfOk result (λ a. (n : Need) → H.moves hold.old n a.what hold.new) }
@@ -55,9 +55,9 @@ pub fn fill_entry<H: Hold>(
 ) -> Result<EntryAction, NoMemory>
     requires level { level < length (H.config hold.old).levels }
     requires disk { kind_at (H.config hold.old).levels level ≡ Disk }
-    requires holds { Holds (H.disk hold.old level) entry bytes.now [] }
+    requires holds { Holds (H.disk hold.old level) entry bytes.now [] None }
     ensures what { IfOk result (λ a. a.what ≡ What.Filled level bytes.now.key bytes.now.bytes bytes.now.run a.written) }
-    ensures held { IfOk result (λ a. HeldBy a.written (H.disk hold.new level) a.entry bytes.now bytes.now.bytes) }
+    ensures held { IfOk result (λ a. HeldBy a.written (H.disk hold.new level) a.entry bytes.now bytes.now.bytes (Some bytes.now.run)) }
     ensures hands { IfOk result (λ a. HandsBy (H.disk hold.old) a.what (hand_at (Some entry) level (length bytes.now.bytes)) (hand_at a.entry level (length bytes.now.bytes))) }
     ensures others { IfOk result (λ a. KeepsHands (hand_at (Some entry) level (length bytes.now.bytes)) (H.disk hold.old) (H.disk hold.new)) }
     ensures moves { IfOk result (λ a. (n : Need) → H.moves hold.old n a.what hold.new) }
@@ -90,12 +90,12 @@ pub fn commit_entry<H: Hold>(
 ) -> Result<EntryAction, NoMemory>
     requires level { level < length (H.config hold.old).levels }
     requires disk { kind_at (H.config hold.old).levels level ≡ Disk }
-    requires holds { Holds (H.disk hold.old level) entry bytes.now bytes.now.bytes }
+    requires holds { Holds (H.disk hold.old level) entry bytes.now bytes.now.bytes (Some bytes.now.run) }
     ensures what { IfOk result (λ a. a.what ≡ What.Committed level bytes.now.key bytes.now.bytes a.written) }
     ensures entry { IfOk result (λ a. a.entry ≡ None) }
     ensures hands { IfOk result (λ a. HandsBy (H.disk hold.old) a.what (hand_at (Some entry) level (length bytes.now.bytes)) None) }
     ensures others { IfOk result (λ a. KeepsHands (hand_at (Some entry) level (length bytes.now.bytes)) (H.disk hold.old) (H.disk hold.new)) }
-    ensures moves { IfOk result (λ a. (n : Need) → H.moves hold.old n a.what hold.new) }
+    ensures moves { IfOk result (λ a. (n : Need) → n.mark ≡ bytes.now.run → H.moves hold.old n a.what hold.new) }
     ensures same { IfOk result (λ a. H.config hold.new ≡ H.config hold.old) }
 {
     let written = hold.commit(level, entry, bytes)?;

@@ -16,20 +16,40 @@ fn remote_text(fault: RemoteFault) -> &'static str
     }
 }
 
+/// A text of its own.
+fn owned(alloc: Global, text: &str) -> Result<String, NoMemory>
+    ensures { IfOk result (λ copy. string_bytes copy ≡ text.now) }
+{
+    let copy = String::from_str(alloc, text)?;
+    Ok(copy)
+}
+
+/// That no entry of a number is open.
+fn not_open_text(alloc: Global, number: u64) -> Result<String, NoMemory>
+    ensures { IfOk result (λ text. string_bytes text ≡ codes "entry " ++ decimal number ++ codes " is not open") }
+{
+    let mut text = String::from_str(alloc, "entry ")?;
+    let digits = format!(in alloc; "{number}")?;
+    text.push_str(&digits)?;
+    text.push_str(" is not open")?;
+    Ok(text)
+}
+
 /// The text of a cause.
-fn cause_text(cause: Cause) -> &'static str
-    ensures { result.now ≡ plans.cause_text cause }
+fn cause_text(alloc: Global, cause: Cause) -> Result<String, NoMemory>
+    ensures { IfOk result (λ text. string_bytes text ≡ plans.cause_text cause) }
 {
     match cause {
-        Cause::FileTooLarge => "File too large",
-        Cause::Io => "disk fault",
-        Cause::Reserved => "space is reserved",
-        Cause::BadKey => "bad key",
-        Cause::BadEntry => "Failed to parse cache entry",
-        Cause::ReadOnly(Store::Disk) => "Cannot write to a read-only cache",
-        Cause::ReadOnly(Store::Remote) => "storage is read-only",
-        Cause::ReadOnly(Store::Wrapper) => "Cannot write to read-only storage",
-        Cause::RemoteFault(fault) => remote_text(fault),
+        Cause::FileTooLarge => owned(alloc, "File too large"),
+        Cause::Io => owned(alloc, "disk fault"),
+        Cause::Reserved => owned(alloc, "space is reserved"),
+        Cause::BadKey => owned(alloc, "bad key"),
+        Cause::BadEntry => owned(alloc, "Failed to parse cache entry"),
+        Cause::ReadOnly(Store::Disk) => owned(alloc, "Cannot write to a read-only cache"),
+        Cause::ReadOnly(Store::Remote) => owned(alloc, "storage is read-only"),
+        Cause::ReadOnly(Store::Wrapper) => owned(alloc, "Cannot write to read-only storage"),
+        Cause::RemoteFault(fault) => owned(alloc, remote_text(fault)),
+        Cause::NotOpen(number) => not_open_text(alloc, number),
     }
 }
 
@@ -52,11 +72,12 @@ pub fn put_result(alloc: Global, put: &Put) -> Result<Result<(), Text>, NoMemory
     match put {
         Put::Done => Ok(Ok(())),
         Put::Refused(cause) => {
-            let text = Text::from_str(alloc, cause_text(*cause))?;
-            Ok(Err(text))
+            let text = cause_text(alloc, *cause)?;
+            Ok(Err(Text::from_string(text)))
         }
         Put::Level(level, cause) => {
-            let text = level_text(alloc, *level, cause_text(*cause))?;
+            let cause = cause_text(alloc, *cause)?;
+            let text = level_text(alloc, *level, &cause)?;
             Ok(Err(Text::from_string(text)))
         }
         Put::NoLevels => {

@@ -111,7 +111,7 @@ fn act_fill<H: Hold>(
     requires level { level < length (H.config hold.old).levels }
     requires disk { kind_at (H.config hold.old).levels level ≡ Disk }
     requires rest { AreLevels (length (H.config hold.old).levels) rest }
-    requires holds { Holds (H.disk hold.old level) entry bytes [] }
+    requires holds { Holds (H.disk hold.old level) entry bytes [] None }
     ensures acts { IfOk result (λ a. (r : Asks) → IsWriter r ending → ActsWith (H.config hold.old) (H.disk hold.new) r (Phase.AtFill bytes level rest refusal ending) (H.moment hold.old) a) }
     ensures hands { IfOk result (λ a. HandsBy (H.disk hold.old) a.what (hand_at (Some entry) level (length bytes.bytes)) (hand_of a.entry a.phase)) }
     ensures others { IfOk result (λ a. KeepsHands (hand_at (Some entry) level (length bytes.bytes)) (H.disk hold.old) (H.disk hold.new)) }
@@ -150,7 +150,7 @@ fn act_commit<H: Hold>(
     requires level { level < length (H.config hold.old).levels }
     requires disk { kind_at (H.config hold.old).levels level ≡ Disk }
     requires rest { AreLevels (length (H.config hold.old).levels) rest }
-    requires holds { Holds (H.disk hold.old level) entry bytes bytes.bytes }
+    requires holds { Holds (H.disk hold.old level) entry bytes bytes.bytes (Some bytes.run) }
     ensures acts { IfOk result (λ a. (r : Asks) → IsWriter r ending → ActsWith (H.config hold.old) (H.disk hold.new) r (Phase.AtCommit bytes level rest refusal ending) (H.moment hold.old) a) }
     ensures hands { IfOk result (λ a. HandsBy (H.disk hold.old) a.what (hand_at (Some entry) level (length bytes.bytes)) (hand_of a.entry a.phase)) }
     ensures others { IfOk result (λ a. KeepsHands (hand_at (Some entry) level (length bytes.bytes)) (H.disk hold.old) (H.disk hold.new)) }

@@ -1,5 +1,5 @@
 -- Entries of disk levels that are open, and who holds one.
-use Rattle.std.specs.Prelude.{◌≡◌, ◌≢◌, ℕ, ◌+◌, true, List, length, Option, Some, None}
+use Rattle.std.specs.Prelude.{◌≡◌, ◌≢◌, ℕ, ◌+◌, Bool, true, List, length, Option, Some, None}
 use Rattle.sc_disk.specs.Store.{AddEntry}
 use Rattle.sc_store_disk.specs.DiskStores.{DiskStore, OpenEntry, entry_at, entry_path}
 use Rattle.sc_store_disk.specs.declared.filling.Filling.{Filling}
@@ -13,13 +13,14 @@ use Rattle.sc_model.specs.declared.event.Written.{Written}
 use Rattle.sc_model.specs.declared.event.Written.TheVariants.{Done, Refused}
 use Rattle.sc_model.specs.declared.phase.Bytes.{Bytes}
 
--- The level has an open entry for these bytes under their key. It has declared their length, and was filled with `filled`.
-pub record Holds (s : DiskStore) (e : AddEntry) (b : Bytes) (filled : List ℕ) : Type 0 where
+-- The level has an open entry for these bytes under their key. It has declared their length, and was filled with `filled`; what its
+-- fills came to is nothing before the first, then its mark.
+pub record Holds (s : DiskStore) (e : AddEntry) (b : Bytes) (filled : List ℕ) (fills : Option Bool) : Type 0 where
   pub good : IsStoreKey b.key
   pub key : e.key ≡ entry_path b.key
   pub divided : e.divided ≡ true
   pub bytes : List ℕ
-  pub entry : entry_at s.entries e.number ≡ Some (record { path = entry_path b.key; size = length b.bytes; bytes = bytes })
+  pub entry : entry_at s.entries e.number ≡ Some (record { path = entry_path b.key; size = length b.bytes; bytes = bytes; fills = fills })
   pub told : s.told ≡ true → bytes ≡ filled
 
 -- an entry is opened for a store key alone
@@ -55,14 +56,14 @@ ReservesBy (Committed l k b how) old new = (new l + length b ≡ old l) × ((m :
 ReservesBy _ old new = (m : ℕ) → new m ≡ old m
 
 -- the entry that one holds for these bytes, filled with those
-abbrev pub IsHeld : DiskStore → Option AddEntry → Bytes → List ℕ → Type 0
-IsHeld s None b filled = ⊥
-IsHeld s (Some e) b filled = Holds s e b filled
+abbrev pub IsHeld : DiskStore → Option AddEntry → Bytes → List ℕ → Option Bool → Type 0
+IsHeld s None b filled fills = ⊥
+IsHeld s (Some e) b filled fills = Holds s e b filled fills
 
 -- one holds it where the last event at it was done, and none where that was refused
-abbrev pub HeldBy : Written → DiskStore → Option AddEntry → Bytes → List ℕ → Type 0
-HeldBy Done s entry b filled = IsHeld s entry b filled
-HeldBy (Refused c) s entry b filled = entry ≡ None
+abbrev pub HeldBy : Written → DiskStore → Option AddEntry → Bytes → List ℕ → Option Bool → Type 0
+HeldBy Done s entry b filled fills = IsHeld s entry b filled fills
+HeldBy (Refused c) s entry b filled fills = entry ≡ None
 
 -- An open entry that one holds: its level, its number there, and the bytes that it has declared.
 pub record Hand : Type 0 where

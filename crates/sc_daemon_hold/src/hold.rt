@@ -1,7 +1,8 @@
-ghost use Rattle.std.specs.Prelude.{◌≡◌, ◌≢◌, ◌<◌, ◌&&◌, ℕ, Bool, false, not, [], length, IfOk, List, Option};
+ghost use Rattle.std.specs.Prelude.{◌≡◌, ◌≢◌, ◌<◌, ◌&&◌, ℕ, Bool, false, not, [], length, IfOk, List, None, Option, Some};
 ghost use Rattle.sc_model.specs.There.{AreLevels};
 ghost use Rattle.sc_store_disk.specs.DiskStores.{DiskStore, entry_path};
 ghost use Rattle.sc_store_disk.specs.Entries.{ClosesEntry, FillsBy};
+ghost use Rattle.sc_store_disk.specs.Marks.{filled_by};
 ghost use Rattle.sc_store_disk.specs.Moving.{OpensBy, written_of as reserved_of};
 ghost use Rattle.sc_daemon_hold.specs.Distributing.{GoodDist};
 ghost use Rattle.sc_daemon_hold.specs.Holding.{Elsewhere, Holds, IsGood, OpensNone, ReservesBy, SameRoom, filled_of};
@@ -221,14 +222,14 @@ pub trait Hold {
     ) -> Result<Filling, NoMemory>
         requires level { level < length (config self.old).levels }
         requires disk { kind_at (config self.old).levels level ≡ Disk }
-        requires holds { Holds (disk self.old level) entry bytes.now [] }
+        requires holds { Holds (disk self.old level) entry bytes.now [] None }
         ensures moves { IfOk result (λ how. (n : Need) → moves self.old n (Filled level bytes.now.key bytes.now.bytes bytes.now.run (filled_of how)) self.new) }
-        ensures fills { IfOk result (λ how. FillsBy entry bytes.now.bytes how (disk self.old level) (disk self.new level)) }
+        ensures fills { IfOk result (λ how. FillsBy entry bytes.now.bytes (filled_by bytes.now.run) how (disk self.old level) (disk self.new level)) }
         ensures elsewhere { IfOk result (λ _. Elsewhere level (disk self.old) (disk self.new)) }
         ensures same { IfOk result (λ _. config self.new ≡ config self.old) };
 
-    /// Puts an open entry of a disk level, which was filled with these bytes, in its key's place. It is closed then, also by a
-    /// refusal.
+    /// Puts an open entry of a disk level, which was filled with these bytes and nothing else, in its key's place. It is closed
+    /// then, also by a refusal.
     fn commit(
         &mut self,
         level: u64,
@@ -237,8 +238,8 @@ pub trait Hold {
     ) -> Result<Written, NoMemory>
         requires level { level < length (config self.old).levels }
         requires disk { kind_at (config self.old).levels level ≡ Disk }
-        requires holds { Holds (disk self.old level) entry bytes.now bytes.now.bytes }
-        ensures moves { IfOk result (λ how. (n : Need) → moves self.old n (Committed level bytes.now.key bytes.now.bytes how) self.new) }
+        requires holds { Holds (disk self.old level) entry bytes.now bytes.now.bytes (Some bytes.now.run) }
+        ensures moves { IfOk result (λ how. (n : Need) → n.mark ≡ bytes.now.run → moves self.old n (Committed level bytes.now.key bytes.now.bytes how) self.new) }
         ensures closes { IfOk result (λ _. ClosesEntry entry.number (disk self.old level) (disk self.new level)) }
         ensures elsewhere { IfOk result (λ _. Elsewhere level (disk self.old) (disk self.new)) }
         ensures same { IfOk result (λ _. config self.new ≡ config self.old) };

@@ -2,7 +2,7 @@
 use Rattle.std.proofs.Common.{◌≡◌, ℕ, ◌≤◌, Bool, true, false, List, [], ◌∷◌, Option, refl, ap, sym, subst, ◌∙◌}
 use Rattle.sc_model.proofs.Goods.{good_answer}
 use Rattle.sc_compile.specs.Tools.{told_key}
-use Rattle.sc_compile_dist.specs.Containers.{Contained, GetsClient, GetsStatus, Gives, scheduler}
+use Rattle.sc_compile_dist.specs.Containers.{Contained, GetsClient, GetsStatus, Gives, container_of, scheduler}
 use Rattle.sc_compile_dist.specs.GoodJobs.{is_good_dist}
 use Rattle.sc_compile_dist.specs.Jobs.{told_dist}
 use Rattle.sc_compile_dist.specs.declared.container.ClientAnswer.{ClientAnswer}
@@ -12,7 +12,7 @@ use Rattle.sc_daemon_hold.specs.Distributing.{GoodDist}
 use Rattle.sc_daemon_job.specs.Setups.{setup}
 use Rattle.sc_daemon_owned.specs.Facts.{config_of}
 use Rattle.sc_model.specs.Script.{Scheduler}
-use Rattle.sc_model.specs.World.{DistCause, Need, Tells_client, Tells_status, World, and_one, keys_of, reset}
+use Rattle.sc_model.specs.World.{Container, DistCause, Need, Renews, Tells_client, Tells_status, World, and_one, keys_of, reset}
 use Rattle.sc_model.specs.declared.event.DistAnswer.{DistAnswer}
 use Rattle.sc_model.specs.declared.event.DistAnswer.TheVariants.{Done, Http as HttpAnswer, Other, TooLarge}
 use Rattle.sc_model.specs.declared.event.KeyStep.{KeyStep}
@@ -42,20 +42,22 @@ keyed_of : (o : State) (n : Need) (q : Compile) (first client : Bool) (step : Ke
 keyed_of o n q first client step answer d keys gets steps =
     let e = gets.0 in
     let renews = gets.1 in
-    let same = gets.3 in
-    let jobs : d.jobs ≡ o.world.dists = ap (λ c. c.jobs) same ∙ ap (λ c. c.jobs) renews.2 in
-    let faults : d.client_faults ≡ o.world.dist_faults = ap (λ c. c.client_faults) same ∙ ap (λ c. c.client_faults) renews.2 in
-    let making : d.maker_faults ≡ e.maker_faults = ap (λ c. c.maker_faults) same in (
+    let same = gets.3 in (
       refl,
-      λ told. (
-        e.state,
-        d.state,
-        e.maker_faults,
-        renews.1,
-        renews.0,
-        subst (λ (t : Bool → Option KeyStep). Tells_client o.world.moment e.state (t first) client step d.state) (sym keys) (tells o.world.moment e.state (told_key o.config.keys q) client step answer d.state gets.2 steps),
-        λ i. record o.world { dists = jobs i; dist_faults = faults i; maker_faults = making i; container = d.state },
-      ),
+      record {
+        moment = refl;
+        levels = λ told. refl;
+        shop = (refl, refl, refl);
+        dist = (
+          (
+            container_of e,
+            renews.0,
+            subst (λ (t : Bool → Option KeyStep). Tells_client o.world.moment e.state (t first) client step d.state) (sym keys) (tells o.world.moment e.state (told_key o.config.keys q) client step answer d.state gets.2 steps),
+            ap container_of same,
+          ),
+          (ap (λ c. c.jobs) same ∙ ap (λ c. c.jobs) renews.1, ap (λ c. c.client_faults) same ∙ ap (λ c. c.client_faults) renews.1),
+        );
+      },
     )
 
 -- a key step: it asked for a client first
@@ -69,27 +71,23 @@ told_of : (o : State) (n : Need) (info : DistInfo) (d : Contained) → GetsStatu
 told_of o n info d gets =
     let e = gets.0 in
     let renews = gets.1 in
-    let tells = gets.2 in
-    let later = gets.3 in
-    let same = gets.4 in
-    let whole : scheduler e ≡ scheduler (contained_in o) = ap scheduler renews.2 in
-    let before : e.client_faults ≡ o.world.dist_faults = ap (λ c. c.client_faults) renews.2 in
-    let jobs : d.jobs ≡ o.world.dists = ap (λ c. c.jobs) same ∙ ap (λ c. c.jobs) renews.2 in
-    let making : d.maker_faults ≡ e.maker_faults = ap (λ c. c.maker_faults) same in
+    let same = gets.3 in
+    let whole : scheduler e ≡ scheduler (contained_in o) = ap scheduler renews.1 in
+    let before : e.client_faults ≡ o.world.dist_faults = ap (λ c. c.client_faults) renews.1 in
     let stands : d.state ≡ e.state = ap (λ c. c.state) same in
     let told : Tells_status (scheduler (contained_in o)) o.world.moment e.state info o.world.dist_faults d.client_faults =
-    subst (λ (f : ℕ). Tells_status (scheduler (contained_in o)) o.world.moment e.state info f d.client_faults) before (subst (λ (s : Scheduler). Tells_status s o.world.moment e.state info e.client_faults d.client_faults) whole tells) in (
+    subst (λ (f : ℕ). Tells_status (scheduler (contained_in o)) o.world.moment e.state info f d.client_faults) before (subst (λ (s : Scheduler). Tells_status s o.world.moment e.state info e.client_faults d.client_faults) whole gets.2) in (
       refl,
-      λ _. (
-        e.state,
-        e.maker_faults,
-        d.client_faults,
-        renews.1,
-        subst (λ (f : ℕ). f ≤ d.client_faults) before later,
-        renews.0,
-        told,
-        λ i. record o.world { dists = jobs i; dist_faults = d.client_faults; maker_faults = making i; container = stands i },
-      ),
+      record {
+        moment = refl;
+        levels = λ _. refl;
+        shop = (refl, refl, refl);
+        dist = (
+          subst (λ (c : Container). Renews o.world.moment o.world.container c) (sym (ap container_of same)) renews.0,
+          subst (λ (c : DistClientState). Tells_status (scheduler (contained_in o)) o.world.moment c info o.world.dist_faults d.client_faults) (sym stands) told,
+          ap (λ c. c.jobs) same ∙ ap (λ c. c.jobs) renews.1,
+        );
+      },
     )
 
 -- it was told where the client stands
@@ -99,12 +97,7 @@ told o now n info d is gets = subst (λ (s : State). MovesTo s n (Began DistStat
 distributed_of : (o : State) (n : Need) (a : DistAnswer) (d : Contained) → d ≡ record (contained_in o) { jobs = and_one o.world.dists (n.key, a); client_faults = d.client_faults } → o.world.dist_faults ≤ d.client_faults
     → DistCause a o.world.dist_faults d.client_faults → IfTold (told_dist o.config.dist.lines n.key o.world.dists n.wanted) (λ b. a ≡ b) → MovesTo o n (Dist a) o.told (with_dist o.world d)
 distributed_of o n a d same later cause answer =
-    let jobs : d.jobs ≡ and_one o.world.dists (n.key, a) = ap (λ c. c.jobs) same in
-    let making : d.maker_faults ≡ o.world.maker_faults = ap (λ c. c.maker_faults) same in
-    let stands : d.state ≡ o.world.container = ap (λ c. c.state) same in (
-      refl,
-      λ told. (d.client_faults, later, cause, answer, λ i. record o.world { dists = jobs i; dist_faults = d.client_faults; maker_faults = making i; container = stands i }),
-    )
+    (refl, record { moment = refl; levels = λ told. refl; shop = (refl, refl, refl); dist = (ap container_of same, later, cause, answer, ap (λ c. c.jobs) same) })
 
 -- a job was compiled elsewhere, or wasn't
 pub distributed : (o now : State) (n : Need) (key : List ℕ) (wanted : List FileObjectSource) (a : DistAnswer) (d : Contained) → o ≡ now → n.key ≡ key → n.wanted ≡ wanted
@@ -122,14 +115,10 @@ good_dist (HttpAnswer text) e = tt
 good_dist (TooLarge text) e = tt
 good_dist (Other text) e = tt
 
-reset_of : (o : State) (n : Need) (task : Task) (d : Contained) → d ≡ record (contained_in o) { state = reset o.world.moment o.world.container } → MovesTo o n (Outcome Http task) o.told (with_dist o.world d)
+reset_of : (o : State) (n : Need) (task : Task) (d : Contained) → d ≡ record (contained_in o) { state = reset o.world.moment o.world.container.state } → MovesTo o n (Outcome Http task) o.told (with_dist o.world d)
 reset_of o n task d same =
-    let jobs : d.jobs ≡ o.world.dists = ap (λ c. c.jobs) same in
-    let faults : d.client_faults ≡ o.world.dist_faults = ap (λ c. c.client_faults) same in
-    let making : d.maker_faults ≡ o.world.maker_faults = ap (λ c. c.maker_faults) same in
-    let stands : d.state ≡ reset o.world.moment o.world.container = ap (λ c. c.state) same in
-    (refl, λ told. λ i. record o.world { dists = jobs i; dist_faults = faults i; maker_faults = making i; container = stands i })
+    (refl, record { moment = refl; levels = λ told. refl; shop = (refl, refl, refl); dist = (ap container_of same, (ap (λ c. c.jobs) same, ap (λ c. c.client_faults) same)) })
 
 -- a server refused a job, so the client is made anew at its next use
-pub reset_state : (o now : State) (n : Need) (task : Task) (d : Contained) → o ≡ now → d ≡ record (contained_in o) { state = reset o.world.moment o.world.container } → MovesTo now n (Outcome Http task) o.told (with_dist o.world d)
+pub reset_state : (o now : State) (n : Need) (task : Task) (d : Contained) → o ≡ now → d ≡ record (contained_in o) { state = reset o.world.moment o.world.container.state } → MovesTo now n (Outcome Http task) o.told (with_dist o.world d)
 reset_state o now n task d is same = subst (λ (s : State). MovesTo s n (Outcome Http task) o.told (with_dist o.world d)) is (reset_of o n task d same)

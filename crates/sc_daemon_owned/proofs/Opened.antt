@@ -1,9 +1,10 @@
 -- How a state moves by what opened, filled and closed an entry at one of its disk levels.
-use Rattle.std.proofs.Common.{◌≡◌, ◌≢◌, ◌==◌, ℕ, ◌+◌, ◌≤◌, Bool, true, false, not, List, [], length, slice_set, Option, None, refl, ap, arith, sym, subst, ◌∙◌, eqb-true, eq-eqb}
+use Rattle.std.proofs.Common.{◌≡◌, ◌≢◌, ◌==◌, ℕ, ◌+◌, ◌≤◌, Bool, true, false, not, List, [], length, slice_set, Option, Some, None, refl, ap, arith, sym, subst, ◌∙◌, eqb-true, eq-eqb}
 use Rattle.std.specs.Option.{option_map_or}
 use Rattle.sc_disk.specs.Store.{AddEntry}
 use Rattle.sc_store_disk.specs.DiskStores.{DiskStore, OpenEntry, entry_at, entry_path}
 use Rattle.sc_store_disk.specs.Entries.{ClosesEntry, CommitsEntry, CommitsFile, FillsBy, IsOpenAt}
+use Rattle.sc_store_disk.specs.Marks.{filled_by}
 use Rattle.sc_store_disk.specs.Moving.{OpensBy, ReserveCause, written_of as reserved_of}
 use Rattle.sc_store_disk.specs.declared.filling.Filling.{Filling}
 use Rattle.sc_store_disk.specs.declared.filling.Filling.TheVariants.{Filled as StillOpen, Refused as NotFilled}
@@ -14,7 +15,7 @@ use Rattle.sc_daemon_hold.specs.Holding.{Holds, IsGood, OpensNone, ReservesBy, f
 use Rattle.sc_daemon_job.specs.Setups.{setup}
 use Rattle.sc_daemon_owned.specs.Facts.{config_of}
 use Rattle.sc_model.specs.Follows.{kind_at}
-use Rattle.sc_model.specs.World.{Commits, Fills, Later, Level, Moves, Need, World, causes, or_cause, read_only_store, refuses_writes, room_cause}
+use Rattle.sc_model.specs.World.{Commits, Fills, Later, Level, Need, World, causes, or_cause, read_only_store, refuses_writes, room_cause}
 use Rattle.sc_model.specs.declared.event.What.{What}
 use Rattle.sc_model.specs.declared.event.What.TheVariants.{Committed, Filled, Reserved}
 use Rattle.sc_model.specs.declared.event.Written.{Written}
@@ -26,6 +27,7 @@ use Rattle.sc_model.specs.declared.level.LevelKind.{LevelKind}
 use Rattle.sc_model.specs.declared.level.LevelKind.TheVariants.{Disk}
 use Rattle.sc_model.specs.declared.level.Policy.{Policy}
 use Rattle.sc_model.specs.declared.phase.Bytes.{Bytes}
+use Rattle.sc_daemon_owned.specs.Moving.{MovesWorld}
 use Rattle.sc_daemon_owned.specs.State.{State, disk_at, reserved_in}
 use Rattle.sc_store.proofs.Alone.{other_set}
 use Rattle.sc_store.specs.Asking.{ReservesDisk}
@@ -42,7 +44,7 @@ pub record AtLevel (o : State) (after : Held) (l : ℕ) : Type 0 where
 -- how a state moves to what is told, held and open
 abbrev pub MovesOpen : State → Need → What → Bool → World → List Room → Type 0
 MovesOpen o n x told w rooms =
-    (told ≡ o.told) × (o.told ≡ true → Moves (setup (config_of o.config)) n (reserved_in o) x o.world w) × (OpensNone x → rooms ≡ o.rooms) × ReservesBy x (reserved_in o) (λ l. (room_in rooms l).reserved)
+    (told ≡ o.told) × MovesWorld (setup (config_of o.config)) n (reserved_in o) o.told x o.world w × (OpensNone x → rooms ≡ o.rooms) × ReservesBy x (reserved_in o) (λ l. (room_in rooms l).reserved)
 
 never : false ≡ true → ⊥
 never e = absurd (cc)
@@ -72,7 +74,7 @@ reserved_of_state : (o : State) (after : Held) (l : ℕ) (key : List ℕ) (size 
     → OpensBy (entry_path key) size how (disk_at o l) (disk_in after l) → MovesOpen o n (Reserved l key size (reserved_of how)) after.told (record o.world { levels = after.levels }) after.rooms
 reserved_of_state o after l key size how n at moved opens = (
   at.told,
-  λ told. (level_in after.levels l, (at.later, moved told), ap (λ ls. record o.world { levels = ls }) at.levels),
+  record { moment = refl; levels = λ told. (level_in after.levels l, (at.later, moved told), at.levels); shop = (refl, refl, refl); dist = (refl, (refl, refl)) },
   λ none. absurd none,
   opened_reserves o after l key size how at opens,
 )
@@ -93,69 +95,75 @@ good_key p f r key size (Open e) v w cause = key_good (refuses_writes p f) (is_s
 good_key p f r key size (NotReserved c) v w cause = tt
 
 -- An entry that is held is open.
-pub is_open_held : (s : DiskStore) (e : AddEntry) (b : Bytes) (filled : List ℕ) → Holds s e b filled → IsOpenAt e s
-is_open_held s e b filled h = (h.divided, (record { path = entry_path b.key; size = length b.bytes; bytes = h.bytes }, h.entry, sym h.key))
+pub is_open_held : (s : DiskStore) (e : AddEntry) (b : Bytes) (filled : List ℕ) (fills : Option Bool) → Holds s e b filled fills → IsOpenAt e s
+is_open_held s e b filled fills h = (h.divided, (record { path = entry_path b.key; size = length b.bytes; bytes = h.bytes; fills = fills }, h.entry, sym h.key))
 
-declared_held : (s : DiskStore) (e : AddEntry) (b : Bytes) (filled : List ℕ) → Holds s e b filled → option_map_or (λ (o : OpenEntry). o.size) (entry_at s.entries e.number) 0 ≡ length b.bytes
-declared_held s e b filled h = ap (λ x. option_map_or (λ (o : OpenEntry). o.size) x 0) h.entry
+declared_held : (s : DiskStore) (e : AddEntry) (b : Bytes) (filled : List ℕ) (fills : Option Bool) → Holds s e b filled fills → option_map_or (λ (o : OpenEntry). o.size) (entry_at s.entries e.number) 0 ≡ length b.bytes
+declared_held s e b filled fills h = ap (λ x. option_map_or (λ (o : OpenEntry). o.size) x 0) h.entry
 
-closed_reserves : (o : State) (after : Held) (l : ℕ) (e : AddEntry) (b : Bytes) (filled : List ℕ) → Holds (disk_at o l) e b filled → ClosesEntry e.number (disk_at o l) (disk_in after l) → (room_in after.rooms l).reserved + length b.bytes ≡ reserved_in o l
-closed_reserves o after l e b filled h closes = ap (λ n. (room_in after.rooms l).reserved + n) (sym (declared_held (disk_at o l) e b filled h)) ∙ closes.reserved
+closed_reserves : (o : State) (after : Held) (l : ℕ) (e : AddEntry) (b : Bytes) (filled : List ℕ) (fills : Option Bool) → Holds (disk_at o l) e b filled fills → ClosesEntry e.number (disk_at o l) (disk_in after l) → (room_in after.rooms l).reserved + length b.bytes ≡ reserved_in o l
+closed_reserves o after l e b filled fills h closes = ap (λ n. (room_in after.rooms l).reserved + n) (sym (declared_held (disk_at o l) e b filled fills h)) ∙ closes.reserved
 
 -- An entry was filled, or not.
-fills_in : (s t : DiskStore) (e : AddEntry) (more : List ℕ) (how : Filling) → FillsBy e more how s t → Fills (filled_of how) s.level t.level
-fills_in s t e more (StillOpen same) h = h.1.maps
-fills_in s t e more (NotFilled c) h = (h.0, h.1)
+fills_in : (s t : DiskStore) (e : AddEntry) (more : List ℕ) (fills : Option Bool → Option Bool) (how : Filling) → FillsBy e more fills how s t → Fills (filled_of how) s.level t.level
+fills_in s t e more fills (StillOpen same) h = h.1.level
+fills_in s t e more fills (NotFilled c) h = h.0
 
-filled_reserves : (o : State) (after : Held) (l : ℕ) (e : AddEntry) (b : Bytes) (how : Filling) → AtLevel o after l → Holds (disk_at o l) e b [] → FillsBy e b.bytes how (disk_at o l) (disk_in after l)
+filled_reserves : (o : State) (after : Held) (l : ℕ) (e : AddEntry) (b : Bytes) (how : Filling) → AtLevel o after l → Holds (disk_at o l) e b [] None → FillsBy e b.bytes (filled_by b.run) how (disk_at o l) (disk_in after l)
     → ReservesBy (Filled l b.key b.bytes b.run (filled_of how)) (reserved_in o) (λ m. (room_in after.rooms m).reserved)
 filled_reserves o after l e b (StillOpen same) at held h = every l (reserved_in o) (λ m. (room_in after.rooms m).reserved) h.1.reserved (λ m apart. ap (λ r. r.reserved) (rooms_apart o after l m at apart))
-filled_reserves o after l e b (NotFilled c) at held h = (closed_reserves o after l e b [] held h.2, λ m apart. ap (λ r. r.reserved) (rooms_apart o after l m at apart))
+filled_reserves o after l e b (NotFilled c) at held h = (closed_reserves o after l e b [] None held h.1, λ m apart. ap (λ r. r.reserved) (rooms_apart o after l m at apart))
 
-filled_of_state : (o : State) (after : Held) (l : ℕ) (e : AddEntry) (b : Bytes) (how : Filling) (n : Need) → AtLevel o after l → Holds (disk_at o l) e b [] → FillsBy e b.bytes how (disk_at o l) (disk_in after l)
+filled_of_state : (o : State) (after : Held) (l : ℕ) (e : AddEntry) (b : Bytes) (how : Filling) (n : Need) → AtLevel o after l → Holds (disk_at o l) e b [] None → FillsBy e b.bytes (filled_by b.run) how (disk_at o l) (disk_in after l)
     → MovesOpen o n (Filled l b.key b.bytes b.run (filled_of how)) after.told (record o.world { levels = after.levels }) after.rooms
 filled_of_state o after l e b how n at held h = (
   at.told,
-  λ told. (level_in after.levels l, (at.later, fills_in (disk_at o l) (disk_in after l) e b.bytes how h), ap (λ ls. record o.world { levels = ls }) at.levels),
+  record { moment = refl; levels = λ told. (level_in after.levels l, (at.later, fills_in (disk_at o l) (disk_in after l) e b.bytes (filled_by b.run) how h), at.levels); shop = (refl, refl, refl); dist = (refl, (refl, refl)) },
   λ none. absurd none,
   filled_reserves o after l e b how at held h,
 )
 
-pub filled : (o now : State) (after : Held) (l : ℕ) (e : AddEntry) (b : Bytes) (how : Filling) (n : Need) → o ≡ now → AtLevel o after l → Holds (disk_at now l) e b [] → FillsBy e b.bytes how (disk_at o l) (disk_in after l)
+pub filled : (o now : State) (after : Held) (l : ℕ) (e : AddEntry) (b : Bytes) (how : Filling) (n : Need) → o ≡ now → AtLevel o after l → Holds (disk_at now l) e b [] None → FillsBy e b.bytes (filled_by b.run) how (disk_at o l) (disk_in after l)
     → MovesOpen now n (Filled l b.key b.bytes b.run (filled_of how)) after.told (record o.world { levels = after.levels }) after.rooms
 filled o now after l e b how n is at held h =
     subst (λ (s : State). MovesOpen s n (Filled l b.key b.bytes b.run (filled_of how)) after.told (record o.world { levels = after.levels }) after.rooms) is
-    (filled_of_state o after l e b how n at (subst (λ (s : State). Holds (disk_at s l) e b []) (sym is) held) h)
+    (filled_of_state o after l e b how n at (subst (λ (s : State). Holds (disk_at s l) e b [] None) (sym is) held) h)
 
 -- An entry was committed, or not.
-commits_in : (kind : LevelKind) (key bytes : List ℕ) (how : Written) (v w : Level) → kind ≡ Disk → IsStoreKey key → CommitsFile (make_key_path key) bytes how v w → Commits kind key bytes how v w
-commits_in kind key bytes Done v w disk good h = subst (λ (k : LevelKind). Commits k key bytes Done v w) (sym disk) (good, h.0, h.1)
-commits_in kind key bytes (Refused c) v w disk good h = subst (λ (k : LevelKind). Commits k key bytes (Refused c) v w) (sym disk) (h.0, h.1)
+commits_in : (kind : LevelKind) (key bytes : List ℕ) (mark : Bool) (how : Written) (v w : Level) → kind ≡ Disk → IsStoreKey key → CommitsFile (make_key_path key) bytes mark how v w → Commits kind key bytes mark how v w
+commits_in kind key bytes mark Done v w disk good h = subst (λ (k : LevelKind). Commits k key bytes mark Done v w) (sym disk) ((good, h.file.0, h.file.1, h.file.2), h.calls, h.store)
+commits_in kind key bytes mark (Refused c) v w disk good h = subst (λ (k : LevelKind). Commits k key bytes mark (Refused c) v w) (sym disk) (h.file, h.calls, h.store)
 
 as_long : (a b : List ℕ) → a ≡ b → length a ≤ length b
 as_long a b e = let same : length a ≡ length b = ap length e in omega (arith, same)
 
-committed_of_state : (o : State) (after : Held) (l : ℕ) (e : AddEntry) (b : Bytes) (how : Written) (n : Need) → AtLevel o after l → kind_at o.config.levels l ≡ Disk → Holds (disk_at o l) e b b.bytes → ClosesEntry e.number (disk_at o l) (disk_in after l)
-    → CommitsEntry e.number how (disk_at o l) (disk_in after l) → MovesOpen o n (Committed l b.key b.bytes how) after.told (record o.world { levels = after.levels }) after.rooms
-committed_of_state o after l e b how n at disk held closes commits = (
+committed_of_state : (o : State) (after : Held) (l : ℕ) (e : AddEntry) (b : Bytes) (how : Written) (n : Need) → AtLevel o after l → kind_at o.config.levels l ≡ Disk → Holds (disk_at o l) e b b.bytes (Some b.run) → ClosesEntry e.number (disk_at o l) (disk_in after l)
+    → CommitsEntry e.number how (disk_at o l) (disk_in after l) → n.mark ≡ b.run → MovesOpen o n (Committed l b.key b.bytes how) after.told (record o.world { levels = after.levels }) after.rooms
+committed_of_state o after l e b how n at disk held closes commits marks = (
   at.told,
-  λ told.
-      let same : held.bytes ≡ b.bytes = held.told told in
-      let file : CommitsFile (make_key_path b.key) held.bytes how (level_in o.world.levels l) (level_in after.levels l) = commits told (record { path = entry_path b.key; size = length b.bytes; bytes = held.bytes }) (make_key_path b.key) held.entry (as_long held.bytes b.bytes same) refl in (
-        level_in after.levels l,
-        (
-          at.later,
-          commits_in (kind_at o.config.levels l) b.key b.bytes how (level_in o.world.levels l) (level_in after.levels l) disk held.good
-              (subst (λ (c : List ℕ). CommitsFile (make_key_path b.key) c how (level_in o.world.levels l) (level_in after.levels l)) same file),
-        ),
-        ap (λ ls. record o.world { levels = ls }) at.levels,
-      ),
+  record {
+    moment = refl;
+    levels = λ told.
+        let same : held.bytes ≡ b.bytes = held.told told in
+        let file : CommitsFile (make_key_path b.key) held.bytes b.run how (level_in o.world.levels l) (level_in after.levels l) = commits told (record { path = entry_path b.key; size = length b.bytes; bytes = held.bytes; fills = Some b.run }) (make_key_path b.key) held.entry (as_long held.bytes b.bytes same) refl in (
+          level_in after.levels l,
+          (
+            at.later,
+            subst (λ (m : Bool). Commits (kind_at o.config.levels l) b.key b.bytes m how (level_in o.world.levels l) (level_in after.levels l)) (sym marks)
+                (commits_in (kind_at o.config.levels l) b.key b.bytes b.run how (level_in o.world.levels l) (level_in after.levels l) disk held.good
+                (subst (λ (c : List ℕ). CommitsFile (make_key_path b.key) c b.run how (level_in o.world.levels l) (level_in after.levels l)) same file)),
+          ),
+          at.levels,
+        );
+    shop = (refl, refl, refl);
+    dist = (refl, (refl, refl));
+  },
   λ none. absurd none,
-  (closed_reserves o after l e b b.bytes held closes, λ m apart. ap (λ r. r.reserved) (rooms_apart o after l m at apart)),
+  (closed_reserves o after l e b b.bytes (Some b.run) held closes, λ m apart. ap (λ r. r.reserved) (rooms_apart o after l m at apart)),
 )
 
-pub committed : (o now : State) (after : Held) (l : ℕ) (e : AddEntry) (b : Bytes) (how : Written) (n : Need) → o ≡ now → AtLevel o after l → kind_at now.config.levels l ≡ Disk → Holds (disk_at now l) e b b.bytes → ClosesEntry e.number (disk_at o l) (disk_in after l)
-    → CommitsEntry e.number how (disk_at o l) (disk_in after l) → MovesOpen now n (Committed l b.key b.bytes how) after.told (record o.world { levels = after.levels }) after.rooms
-committed o now after l e b how n is at disk held closes commits =
+pub committed : (o now : State) (after : Held) (l : ℕ) (e : AddEntry) (b : Bytes) (how : Written) (n : Need) → o ≡ now → AtLevel o after l → kind_at now.config.levels l ≡ Disk → Holds (disk_at now l) e b b.bytes (Some b.run) → ClosesEntry e.number (disk_at o l) (disk_in after l)
+    → CommitsEntry e.number how (disk_at o l) (disk_in after l) → n.mark ≡ b.run → MovesOpen now n (Committed l b.key b.bytes how) after.told (record o.world { levels = after.levels }) after.rooms
+committed o now after l e b how n is at disk held closes commits marks =
     subst (λ (s : State). MovesOpen s n (Committed l b.key b.bytes how) after.told (record o.world { levels = after.levels }) after.rooms) is
-    (committed_of_state o after l e b how n at (subst (λ (s : State). kind_at s.config.levels l ≡ Disk) (sym is) disk) (subst (λ (s : State). Holds (disk_at s l) e b b.bytes) (sym is) held) closes commits)
+    (committed_of_state o after l e b how n at (subst (λ (s : State). kind_at s.config.levels l ≡ Disk) (sym is) disk) (subst (λ (s : State). Holds (disk_at s l) e b b.bytes (Some b.run)) (sym is) held) closes commits marks)

@@ -36,7 +36,7 @@ pub config_stays : (o now : State) (f : DaemonFacts) → o ≡ now → f ≡ o.c
 config_stays o now f is same = same ∙ ap (λ (s : State). s.config) is
 
 pub told_client : (moment : ℕ) (c d : Contained) (answer : ClientAnswer) → GetsClient moment c answer d → told_by d ≡ told_by c
-told_client moment c d answer gets = ap told_by gets.3 ∙ ap told_by gets.1.2
+told_client moment c d answer gets = ap told_by gets.3 ∙ ap told_by gets.1.1
 
 pub told_status : (moment : ℕ) (c d : Contained) (info : DistInfo) → GetsStatus moment c info d → told_by d ≡ told_by c
-told_status moment c d info gets = ap told_by gets.4 ∙ ap told_by gets.1.2
+told_status moment c d info gets = ap told_by gets.3 ∙ ap told_by gets.1.1

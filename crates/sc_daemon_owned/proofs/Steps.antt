@@ -8,7 +8,7 @@ use Rattle.sc_entry.specs.declared.object.FileObjectSource.{FileObjectSource}
 use Rattle.sc_model.specs.Follows.{kind_at}
 use Rattle.sc_daemon_hold.specs.Holding.{OpensNone, ReservesBy}
 use Rattle.sc_model.specs.Plan.{level_facts}
-use Rattle.sc_model.specs.World.{Asks, Level, Moves, Opens_by, Need, Place, RunCause, World, and_one, first_missing}
+use Rattle.sc_model.specs.World.{Asks, Level, Opens_by, Need, Place, RunCause, World, and_one, first_missing, Asks_calls, CallsOf}
 use Rattle.sc_model.specs.declared.event.Answer.{Answer}
 use Rattle.sc_model.specs.declared.event.Answer.TheVariants.{Found as FoundAt, Hit, Miss, Refused, Size as SizeIs}
 use Rattle.sc_model.specs.declared.event.Mode.{Mode}
@@ -22,7 +22,7 @@ use Rattle.sc_model.specs.declared.event.Written.{Written}
 use Rattle.sc_model.specs.declared.level.Handed.{Handed}
 use Rattle.sc_model.specs.declared.level.LevelKind.{LevelKind}
 use Rattle.sc_model.specs.declared.level.LevelKind.TheVariants.{Disk, Remote}
-use Rattle.sc_daemon_owned.specs.Moving.{placing_of, size_in}
+use Rattle.sc_daemon_owned.specs.Moving.{MovesWorld, placing_of, size_in}
 use Rattle.sc_daemon_owned.specs.State.{State, reserved_in}
 use Rattle.sc_store.specs.Asking.{AsksAt, PutsAt, has_mode}
 use Rattle.sc_stats.specs.declared.counters.LevelStats.{LevelStats}
@@ -38,7 +38,7 @@ any_mode Remote Size h = refl
 
 -- how a state moves to what is told and held
 abbrev pub MovesTo : State → Need → What → Bool → World → Type 0
-MovesTo o n x told w = (told ≡ o.told) × (o.told ≡ true → Moves (setup (config_of o.config)) n (reserved_in o) x o.world w)
+MovesTo o n x told w = (told ≡ o.told) × MovesWorld (setup (config_of o.config)) n (reserved_in o) o.told x o.world w
 
 -- what the levels of a state hold
 abbrev pub held_in : State → Held
@@ -48,9 +48,7 @@ asked_of : (o : State) (after : Held) (l : ℕ) (key : List ℕ) (mode : Mode) (
     → MovesTo o n (Asked l key mode a hs) after.told (record o.world { levels = after.levels })
 asked_of o after l key mode a hs n path same asks = (
   same,
-  λ told.
-      let h = asks told (any_mode (kind_at o.config.levels l) mode path) in
-      (h.0, h.1, ap (λ ls. record o.world { levels = ls }) h.2),
+  record { moment = refl; levels = λ told. asks told (any_mode (kind_at o.config.levels l) mode path); shop = (refl, refl, refl); dist = (refl, (refl, refl)) },
 )
 
 -- a level was asked
@@ -67,9 +65,13 @@ opens_any : (kind : LevelKind) (z : Option ℕ) (c d : Option LevelStats) (v w :
 opens_any Disk z c d v w h = h
 opens_any Remote z c d v w h = h
 
+calls_any : (kind : LevelKind) (z : Option ℕ) (c d : Option LevelStats) (v w : Level) → CallsOf kind (Asks_calls kind Size [] (SizeIs z c) v w) v w → CallsOf kind (Asks_calls kind Size [] (SizeIs z d) v w) v w
+calls_any Disk z c d v w h = h
+calls_any Remote z c d v w h = h
+
 sizes_of : (o : State) (v : Level) (l : ℕ) (a : Answer) (d : Option LevelStats) → Asks objects (level_facts o.config.levels l) (reserved_in o l) [] Size a (level_in o.world.levels l) v
     → Asks objects (level_facts o.config.levels l) (reserved_in o l) [] Size (SizeIs (size_in a) d) (level_in o.world.levels l) v
-sizes_of o v l (SizeIs z c) d e = record { later = e.later; keeps = e.keeps; answers = e.answers; opens = opens_any (kind_at o.config.levels l) z c d (level_in o.world.levels l) v e.opens }
+sizes_of o v l (SizeIs z c) d e = record { later = e.later; keeps = e.keeps; answers = e.answers; opens = opens_any (kind_at o.config.levels l) z c d (level_in o.world.levels l) v e.opens; marks = e.marks; tells_mark = tt; calls = calls_any (kind_at o.config.levels l) z c d (level_in o.world.levels l) v e.calls; written = e.written }
 sizes_of o v l (Hit b m) d e = absurd e.answers
 sizes_of o v l Miss d e = absurd e.answers
 sizes_of o v l (Refused c) d e = absurd e.answers
@@ -79,7 +81,12 @@ sized_of : (o : State) (after : Held) (l : ℕ) (a : Answer) (d : Option LevelSt
     → MovesTo o n (Asked l [] Size (SizeIs (size_in a) d) []) after.told (record o.world { levels = after.levels })
 sized_of o after l a d n same asks = (
   same,
-  λ told. let h = asks told (any_mode (kind_at o.config.levels l) Size size_no_path) in (h.0, sizes_of o h.0 l a d h.1, ap (λ ls. record o.world { levels = ls }) h.2),
+  record {
+    moment = refl;
+    levels = λ told. let h = asks told (any_mode (kind_at o.config.levels l) Size size_no_path) in (h.0, sizes_of o h.0 l a d h.1, h.2);
+    shop = (refl, refl, refl);
+    dist = (refl, (refl, refl));
+  },
 )
 
 -- a level was asked for its size
@@ -89,15 +96,15 @@ sized o now after l key a d n is none same asks =
     subst (λ (s : State). MovesTo s n (Asked l [] Size (SizeIs (size_in a) d) []) after.told (record o.world { levels = after.levels })) is
     (sized_of o after l a d n same (subst (λ (k : List ℕ). AsksAt l k Size a (held_in o) after) none asks))
 
-wrote_of : (o : State) (after : Held) (l : ℕ) (key bytes : List ℕ) (run : Bool) (how : Written) (n : Need) → after.told ≡ o.told → PutsAt l key bytes how (held_in o) after
+wrote_of : (o : State) (after : Held) (l : ℕ) (key bytes : List ℕ) (run : Bool) (how : Written) (n : Need) → after.told ≡ o.told → PutsAt l key bytes run how (held_in o) after
     → MovesTo o n (Wrote l key bytes Whole run how) after.told (record o.world { levels = after.levels })
 wrote_of o after l key bytes run how n same puts = (
   same,
-  λ told. let h = puts told (reserved_in o l) in (h.0, (h.1, h.2), ap (λ ls. record o.world { levels = ls }) h.3),
+  record { moment = refl; levels = λ told. let h = puts told (reserved_in o l) in (h.0, (h.1, h.2), h.3); shop = (refl, refl, refl); dist = (refl, (refl, refl)) },
 )
 
 -- an entry was put at a level
-pub wrote : (o now : State) (after : Held) (l : ℕ) (key bytes : List ℕ) (run : Bool) (how : Written) (n : Need) → o ≡ now → after.told ≡ o.told → PutsAt l key bytes how (held_in o) after
+pub wrote : (o now : State) (after : Held) (l : ℕ) (key bytes : List ℕ) (run : Bool) (how : Written) (n : Need) → o ≡ now → after.told ≡ o.told → PutsAt l key bytes run how (held_in o) after
     → MovesTo now n (Wrote l key bytes Whole run how) after.told (record o.world { levels = after.levels })
 wrote o now after l key bytes run how n is same puts =
     subst (λ (s : State). MovesTo s n (Wrote l key bytes Whole run how) after.told (record o.world { levels = after.levels })) is (wrote_of o after l key bytes run how n same puts)
@@ -110,7 +117,7 @@ ran_of : (o : State) (n : Need) (a : RunAnswer) (runs : Option Runs) (placings :
     → IfTold (told_answer o.config.lines n.key o.world.runs n.wanted) (λ b. a ≡ b) → MovesTo o n (Ran a) o.told (with_shop o.world runs placings g)
 ran_of o n a runs placings g ran placed later cause answer = (
   refl,
-  λ told. (g, later, cause, answer, rw (ran, placed) refl),
+  record { moment = refl; levels = λ told. refl; shop = (later, cause, answer, ran, placed); dist = (refl, (refl, refl)) },
 )
 
 -- a compile was run
@@ -125,8 +132,8 @@ ran o now n key wanted a runs placings g is keyed wants added placed later cause
 placed_of : (o : State) (n : Need) (failed : Option (List (List ℕ))) (runs : Option Runs) (placings : Option (List Place)) (g : ℕ) → first_missing (objects n.hit) n.outputs ≡ None → runs ≡ o.world.runs → o.world.shop_faults ≤ g
     → Places (record { outputs = n.outputs; bytes = n.hit }) o.world.placings placings o.world.shop_faults g failed → IfTold (told_refusal o.config.refusals n.key) (λ refusal. failed ≡ refusal)
     → MovesTo o n (Placed (placing_of failed)) o.told (with_shop o.world runs placings g)
-placed_of o n None runs placings g none same later places answer = (refl, λ told. (none, answer, rw (same, places.0, places.1) refl))
-placed_of o n (Some chain) runs placings g none same later places answer = (refl, λ told. (none, answer, (g, places.1, later, rw (same, places.0) refl)))
+placed_of o n None runs placings g none same later places answer = (refl, record { moment = refl; levels = λ told. refl; shop = (none, answer, same, places.0, places.1); dist = (refl, (refl, refl)) })
+placed_of o n (Some chain) runs placings g none same later places answer = (refl, record { moment = refl; levels = λ told. refl; shop = (none, answer, same, places.0, places.1, later); dist = (refl, (refl, refl)) })
 
 -- a hit's outputs were placed, or a fault is told
 pub placed : (o now : State) (n : Need) (key : List ℕ) (outputs : List FileObjectSource) (hit : List ℕ) (failed : Option (List (List ℕ))) (runs : Option Runs) (placings : Option (List Place)) (g : ℕ)

@@ -16,16 +16,18 @@ use Rattle.sc_entry.specs.contracts.object.FileObjectSource as output_type
 use Rattle.sc_entry.specs.declared.object.FileObjectSource.{FileObjectSource}
 use Rattle.sc_daemon_job.specs.Setups.{StoreTold}
 use Rattle.sc_daemon_owned.specs.Facts.{DaemonFacts, DistTold}
-use Rattle.sc_model.specs.World.{Level, Place, World}
+use Rattle.sc_model.specs.World.{Container, Level, Place, World}
 use Rattle.sc_model.specs.contracts.event.DistAnswer as dist_type
 use Rattle.sc_model.specs.contracts.event.RunAnswer as answer_type
 use Rattle.sc_model.specs.contracts.level.DistClientState as container_type
 use Rattle.sc_model.specs.contracts.level.LevelFacts as facts_type
+use Rattle.sc_model.specs.contracts.level.Making as making_type
 use Rattle.sc_model.specs.contracts.level.Policy as policy_type
 use Rattle.sc_model.specs.declared.event.DistAnswer.{DistAnswer}
 use Rattle.sc_model.specs.declared.event.RunAnswer.{RunAnswer}
 use Rattle.sc_model.specs.declared.level.DistClientState.{DistClientState}
 use Rattle.sc_model.specs.declared.level.LevelFacts.{LevelFacts}
+use Rattle.sc_model.specs.declared.level.Making.{Making}
 use Rattle.sc_model.specs.declared.level.Policy.{Policy}
 use Rattle.sc_daemon_owned.specs.State.{State, is_made}
 use Rattle.sc_stats.specs.contracts.counters.DistInfo as info_type
@@ -44,10 +46,10 @@ told_code = code_by (List ℕ × (List ℕ × (List (List ℕ) × (Bool × Optio
     (λ _. refl)
 
 abbrev pub dist_code : Coded DistTold
-dist_code = code_by (Option (List ℕ) × (Option DistInfo × (Bool × Option (List DistLine))))
-    (coded× (coded_option (coded_list coded_ℕ)) (coded× (coded_option info_type.the_row.coded) (coded× coded_bool (coded_option (coded_list job_type.the_row.coded)))))
-    (λ d. (d.url, (d.status, (d.is_made, d.lines))))
-    (λ p. record { url = p.0; status = p.1.0; is_made = p.1.1.0; lines = p.1.1.1 })
+dist_code = code_by (Option (List ℕ) × (Option (Option DistInfo) × Option (List DistLine)))
+    (coded× (coded_option (coded_list coded_ℕ)) (coded× (coded_option (coded_option info_type.the_row.coded)) (coded_option (coded_list job_type.the_row.coded))))
+    (λ d. (d.url, (d.status, d.lines)))
+    (λ p. record { url = p.0; status = p.1.0; lines = p.1.1 })
     (λ _. refl)
 
 abbrev pub facts_code : Coded DaemonFacts
@@ -65,13 +67,20 @@ place_code = code_by (List FileObjectSource × List ℕ)
     (λ p. record { outputs = p.0; bytes = p.1 })
     (λ _. refl)
 
+abbrev pub container_code : Coded Container
+container_code = code_by (DistClientState × (ℕ × Option (List Making)))
+    (coded× container_type.the_row.coded (coded× coded_ℕ (coded_option (coded_list making_type.the_row.coded))))
+    (λ c. (c.state, (c.faults, c.makings)))
+    (λ p. record { state = p.0; faults = p.1.0; makings = p.1.1 })
+    (λ _. refl)
+
 abbrev pub world_code : Coded World
-world_code = code_by (ℕ × (List Level × (Option (List (List ℕ × RunAnswer)) × (Option (List Place) × (Option (List (List ℕ × DistAnswer)) × (ℕ × (ℕ × (ℕ × DistClientState))))))))
+world_code = code_by (ℕ × (List Level × (Option (List (List ℕ × RunAnswer)) × (Option (List Place) × (Option (List (List ℕ × DistAnswer)) × (ℕ × (ℕ × Container)))))))
     (coded× coded_ℕ (coded× (coded_list level_code) (coded× (coded_option (coded_list (coded× (coded_list coded_ℕ) answer_type.the_row.coded)))
     (coded× (coded_option (coded_list place_code)) (coded× (coded_option (coded_list (coded× (coded_list coded_ℕ) dist_type.the_row.coded)))
-    (coded× coded_ℕ (coded× coded_ℕ (coded× coded_ℕ container_type.the_row.coded))))))))
-    (λ w. (w.moment, (w.levels, (w.runs, (w.placings, (w.dists, (w.shop_faults, (w.dist_faults, (w.maker_faults, w.container)))))))))
-    (λ p. record { moment = p.0; levels = p.1.0; runs = p.1.1.0; placings = p.1.1.1.0; dists = p.1.1.1.1.0; shop_faults = p.1.1.1.1.1.0; dist_faults = p.1.1.1.1.1.1.0; maker_faults = p.1.1.1.1.1.1.1.0; container = p.1.1.1.1.1.1.1.1 })
+    (coded× coded_ℕ (coded× coded_ℕ container_code)))))))
+    (λ w. (w.moment, (w.levels, (w.runs, (w.placings, (w.dists, (w.shop_faults, (w.dist_faults, w.container))))))))
+    (λ p. record { moment = p.0; levels = p.1.0; runs = p.1.1.0; placings = p.1.1.1.0; dists = p.1.1.1.1.0; shop_faults = p.1.1.1.1.1.0; dist_faults = p.1.1.1.1.1.1.0; container = p.1.1.1.1.1.1.1 })
     (λ _. refl)
 
 -- states that are made of the same and hold the same are one

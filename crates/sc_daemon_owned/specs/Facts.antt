@@ -1,5 +1,5 @@
 -- What a daemon that one owner holds is made of, as plain data, and the daemon that this is.
-use Rattle.std.specs.Prelude.{ℕ, Bool, List, Option}
+use Rattle.std.specs.Prelude.{ℕ, List, Option}
 use Rattle.sc_compile.specs.Answers.{told_answer}
 use Rattle.sc_compile.specs.Placings.{told_refusal}
 use Rattle.sc_compile.specs.Plain.{plain_pretty}
@@ -18,12 +18,11 @@ use Rattle.sc_stats.specs.declared.counters.DistInfo.{DistInfo}
 use Rattle.sc_stats.specs.declared.counters.LevelStats.{LevelStats}
 use Rattle.sc_wire.specs.Responses.{payload}
 
--- what a distributed client and its maker tell: the scheduler's address, and, where these are told, what it says of itself, that
--- each client is made, and the lines by which jobs are answered
+-- what a distributed client tells: the scheduler's address, and, where these are told, what it says of itself or that it refuses to,
+-- and the lines by which jobs are answered
 pub record DistTold : Type 0 where
   pub url : Option (List ℕ)
-  pub status : Option DistInfo
-  pub is_made : Bool
+  pub status : Option (Option DistInfo)
   pub lines : Option (List DistLine)
 
 -- what a daemon is made of, as plain data: what its store tells of itself, the counters that its levels begin with, its
@@ -55,7 +54,7 @@ config_of f = record {
   reads = λ c. reading f.table c;
   keys = λ c control. told_key f.keys c;
   pretty = λ c. plain_pretty c;
-  scheduler = scheduler_of f.dist.url f.dist.status f.dist.is_made;
+  scheduler = scheduler_of f.dist.url f.dist.status;
   workshop = told_answer f.lines;
   placing = told_refusal f.refusals;
   dist = told_dist f.dist.lines;

@@ -6,8 +6,8 @@ use Rattle.sc_daemon_hold.specs.Holding.{OpensNone, ReservesBy, SameRoom}
 use Rattle.sc_daemon_hold.specs.Quiet.{IsQuiet}
 use Rattle.sc_model.proofs.There.{levels_there}
 use Rattle.sc_model.specs.Plan.{is_required, plan}
-use Rattle.sc_model.specs.Script.{is_single}
-use Rattle.sc_model.specs.World.{Need}
+use Rattle.sc_model.specs.Script.{Setup, is_single}
+use Rattle.sc_model.specs.World.{Need, World}
 use Rattle.sc_model.specs.declared.event.Told.TheVariants.{Compile as TellsCompile, Dist as TellsDist, Handshake as TellsHandshake, Nothing as TellsNothing, Stats as TellsStats, Valid as TellsValid}
 use Rattle.sc_model.specs.declared.event.Verdict.TheVariants.{CacheHit, CacheMiss, CompileFailed, Error, Fault, Http, NotCacheable, NotCached, ProcessError}
 use Rattle.sc_model.specs.declared.event.What.{What}
@@ -15,8 +15,10 @@ use Rattle.sc_model.specs.declared.event.What.TheVariants.{Asked, Began, Closed,
 use Rattle.sc_model.specs.declared.level.LevelFacts.{LevelFacts}
 use Rattle.sc_model.specs.declared.level.Policy.{Policy}
 use Rattle.sc_model.specs.declared.level.Policy.TheVariants.{Levels, Single}
-use Rattle.sc_daemon_owned.specs.Moving.{OwnedMoves}
-use Rattle.sc_daemon_owned.specs.State.{State, disk_at, is_count, is_good, is_one, is_within}
+use Rattle.sc_daemon_job.specs.Setups.{setup}
+use Rattle.sc_daemon_owned.specs.Facts.{config_of}
+use Rattle.sc_daemon_owned.specs.Moving.{MovesWorld, OwnedMoves}
+use Rattle.sc_daemon_owned.specs.State.{State, disk_at, is_count, is_good, is_one, is_within, reserved_in}
 use Rattle.sc_store.specs.Held.{room_in}
 
 pub never : false ≡ true → ⊥
@@ -66,39 +68,76 @@ pub planned_levels : (o : State) → AreLevels (length o.config.levels) (plan o.
 planned_levels o = planned_there o.config.policy o.config.levels (good_of o)
 
 -- events that move nothing leave the state as it is
+still : (s : Setup) (n : Need) (r : ℕ → ℕ) (told : Bool) (x : What) (w : World) → IsQuiet x → MovesWorld s n r told x w w
+still s n r told (Began q (TellsCompile p)) w is = record { moment = refl; levels = λ h. refl; shop = (refl, refl, refl); dist = (refl, (refl, refl)) }
+still s n r told (Began q (TellsStats stats)) w is = record { moment = refl; levels = λ h. refl; shop = (refl, refl, refl); dist = (refl, (refl, refl)) }
+still s n r told (Began q (TellsDist info)) w is = absurd is
+still s n r told (Began q (TellsHandshake info)) w is = record { moment = refl; levels = λ h. refl; shop = (refl, refl, refl); dist = (refl, (refl, refl)) }
+still s n r told (Began q (TellsValid v)) w is = record { moment = refl; levels = λ h. refl; shop = (refl, refl, refl); dist = (refl, (refl, refl)) }
+still s n r told (Began q TellsNothing) w is = record { moment = refl; levels = λ h. refl; shop = (refl, refl, refl); dist = (refl, (refl, refl)) }
+still s n r told (Outcome Http task) w is = absurd is
+still s n r told (Outcome Error task) w is = record { moment = refl; levels = λ h. refl; shop = (refl, refl, refl); dist = (refl, (refl, refl)) }
+still s n r told (Outcome (CacheHit d) task) w is = record { moment = refl; levels = λ h. refl; shop = (refl, refl, refl); dist = (refl, (refl, refl)) }
+still s n r told (Outcome (CacheMiss miss dist d) task) w is = record { moment = refl; levels = λ h. refl; shop = (refl, refl, refl); dist = (refl, (refl, refl)) }
+still s n r told (Outcome (NotCached dist d) task) w is = record { moment = refl; levels = λ h. refl; shop = (refl, refl, refl); dist = (refl, (refl, refl)) }
+still s n r told (Outcome (NotCacheable dist d) task) w is = record { moment = refl; levels = λ h. refl; shop = (refl, refl, refl); dist = (refl, (refl, refl)) }
+still s n r told (Outcome (CompileFailed dist d) task) w is = record { moment = refl; levels = λ h. refl; shop = (refl, refl, refl); dist = (refl, (refl, refl)) }
+still s n r told (Outcome ProcessError task) w is = record { moment = refl; levels = λ h. refl; shop = (refl, refl, refl); dist = (refl, (refl, refl)) }
+still s n r told (Outcome Fault task) w is = record { moment = refl; levels = λ h. refl; shop = (refl, refl, refl); dist = (refl, (refl, refl)) }
+still s n r told (Sent g) w is = record { moment = refl; levels = λ h. refl; shop = (refl, refl, refl); dist = (refl, (refl, refl)) }
+still s n r told (TooLong z) w is = record { moment = refl; levels = λ h. refl; shop = (refl, refl, refl); dist = (refl, (refl, refl)) }
+still s n r told TokenTaken w is = record { moment = refl; levels = λ h. refl; shop = (refl, refl, refl); dist = (refl, (refl, refl)) }
+still s n r told (WriteEnded put hs) w is = record { moment = refl; levels = λ h. refl; shop = (refl, refl, refl); dist = (refl, (refl, refl)) }
+still s n r told Idle w is = absurd is
+still s n r told (Passed k) w is = absurd is
+still s n r told (Taken c b) w is = absurd is
+still s n r told (Closed c) w is = absurd is
+still s n r told (Keyed first client step) w is = absurd is
+still s n r told (Asked l k mode a hs) w is = absurd is
+still s n r told (Placed p) w is = absurd is
+still s n r told (Ran a) w is = absurd is
+still s n r told (Dist d) w is = absurd is
+still s n r told (Reserved l k z how) w is = absurd is
+still s n r told (Filled l k b mark how) w is = absurd is
+still s n r told (Committed l k b how) w is = absurd is
+still s n r told (Wrote l k b mode mark how) w is = absurd is
+
+still_rooms_of : (x : What) (r : ℕ → ℕ) → IsQuiet x → ReservesBy x r r
+still_rooms_of (Began q (TellsCompile p)) r is = λ l. refl
+still_rooms_of (Began q (TellsStats stats)) r is = λ l. refl
+still_rooms_of (Began q (TellsDist info)) r is = absurd is
+still_rooms_of (Began q (TellsHandshake info)) r is = λ l. refl
+still_rooms_of (Began q (TellsValid v)) r is = λ l. refl
+still_rooms_of (Began q TellsNothing) r is = λ l. refl
+still_rooms_of (Outcome Http task) r is = absurd is
+still_rooms_of (Outcome Error task) r is = λ l. refl
+still_rooms_of (Outcome (CacheHit d) task) r is = λ l. refl
+still_rooms_of (Outcome (CacheMiss miss dist d) task) r is = λ l. refl
+still_rooms_of (Outcome (NotCached dist d) task) r is = λ l. refl
+still_rooms_of (Outcome (NotCacheable dist d) task) r is = λ l. refl
+still_rooms_of (Outcome (CompileFailed dist d) task) r is = λ l. refl
+still_rooms_of (Outcome ProcessError task) r is = λ l. refl
+still_rooms_of (Outcome Fault task) r is = λ l. refl
+still_rooms_of (Sent g) r is = λ l. refl
+still_rooms_of (TooLong z) r is = λ l. refl
+still_rooms_of TokenTaken r is = λ l. refl
+still_rooms_of (WriteEnded put hs) r is = λ l. refl
+still_rooms_of Idle r is = absurd is
+still_rooms_of (Passed k) r is = absurd is
+still_rooms_of (Taken c b) r is = absurd is
+still_rooms_of (Closed c) r is = absurd is
+still_rooms_of (Keyed first client step) r is = absurd is
+still_rooms_of (Asked l k mode a hs) r is = absurd is
+still_rooms_of (Placed p) r is = absurd is
+still_rooms_of (Ran a) r is = absurd is
+still_rooms_of (Dist d) r is = absurd is
+still_rooms_of (Reserved l k z how) r is = absurd is
+still_rooms_of (Filled l k b mark how) r is = absurd is
+still_rooms_of (Committed l k b how) r is = absurd is
+still_rooms_of (Wrote l k b mode mark how) r is = absurd is
+
 pub quiet_moves : (o : State) (n : Need) (x : What) → IsQuiet x → OwnedMoves o n x o
-quiet_moves o n (Began q (TellsCompile p)) is = (refl, λ told. refl, λ none. refl, λ l. refl, refl)
-quiet_moves o n (Began q (TellsStats stats)) is = (refl, λ told. refl, λ none. refl, λ l. refl, refl)
-quiet_moves o n (Began q (TellsDist info)) is = absurd is
-quiet_moves o n (Began q (TellsHandshake info)) is = (refl, λ told. refl, λ none. refl, λ l. refl, refl)
-quiet_moves o n (Began q (TellsValid v)) is = (refl, λ told. refl, λ none. refl, λ l. refl, refl)
-quiet_moves o n (Began q TellsNothing) is = (refl, λ told. refl, λ none. refl, λ l. refl, refl)
-quiet_moves o n (Outcome Http task) is = absurd is
-quiet_moves o n (Outcome Error task) is = (refl, λ told. refl, λ none. refl, λ l. refl, refl)
-quiet_moves o n (Outcome (CacheHit d) task) is = (refl, λ told. refl, λ none. refl, λ l. refl, refl)
-quiet_moves o n (Outcome (CacheMiss miss dist d) task) is = (refl, λ told. refl, λ none. refl, λ l. refl, refl)
-quiet_moves o n (Outcome (NotCached dist d) task) is = (refl, λ told. refl, λ none. refl, λ l. refl, refl)
-quiet_moves o n (Outcome (NotCacheable dist d) task) is = (refl, λ told. refl, λ none. refl, λ l. refl, refl)
-quiet_moves o n (Outcome (CompileFailed dist d) task) is = (refl, λ told. refl, λ none. refl, λ l. refl, refl)
-quiet_moves o n (Outcome ProcessError task) is = (refl, λ told. refl, λ none. refl, λ l. refl, refl)
-quiet_moves o n (Outcome Fault task) is = (refl, λ told. refl, λ none. refl, λ l. refl, refl)
-quiet_moves o n (Sent g) is = (refl, λ told. refl, λ none. refl, λ l. refl, refl)
-quiet_moves o n (TooLong z) is = (refl, λ told. refl, λ none. refl, λ l. refl, refl)
-quiet_moves o n TokenTaken is = (refl, λ told. refl, λ none. refl, λ l. refl, refl)
-quiet_moves o n (WriteEnded put hs) is = (refl, λ told. refl, λ none. refl, λ l. refl, refl)
-quiet_moves o n Idle is = absurd is
-quiet_moves o n (Passed k) is = absurd is
-quiet_moves o n (Taken c b) is = absurd is
-quiet_moves o n (Closed c) is = absurd is
-quiet_moves o n (Keyed first client step) is = absurd is
-quiet_moves o n (Asked l k mode a hs) is = absurd is
-quiet_moves o n (Placed p) is = absurd is
-quiet_moves o n (Ran a) is = absurd is
-quiet_moves o n (Dist d) is = absurd is
-quiet_moves o n (Reserved l k z how) is = absurd is
-quiet_moves o n (Filled l k b mark how) is = absurd is
-quiet_moves o n (Committed l k b how) is = absurd is
-quiet_moves o n (Wrote l k b mode mark how) is = absurd is
+quiet_moves o n x is = (refl, still (setup (config_of o.config)) n (reserved_in o) o.told x o.world is, λ none. refl, still_rooms_of x (reserved_in o) is, refl)
 
 -- an event that opens, fills and closes no entry leaves what is open
 pub still_rooms : (a : State) (n : Need) (x : What) (b : State) → OwnedMoves a n x b → OpensNone x → (l : ℕ) → SameRoom (disk_at a l) (disk_at b l)

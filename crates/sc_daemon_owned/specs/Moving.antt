@@ -1,9 +1,10 @@
 -- How a daemon that one owner holds moves.
-use Rattle.std.specs.Prelude.{◌≡◌, ℕ, true, List, Option, Some, None}
+use Rattle.std.specs.Prelude.{◌≡◌, ℕ, Bool, true, List, Option, Some, None}
 use Rattle.sc_daemon_hold.specs.Holding.{OpensNone, ReservesBy}
 use Rattle.sc_daemon_job.specs.Setups.{setup}
 use Rattle.sc_daemon_owned.specs.Facts.{config_of}
-use Rattle.sc_model.specs.World.{Moves, Need}
+use Rattle.sc_model.specs.Script.{Setup}
+use Rattle.sc_model.specs.World.{MovesDist, MovesLevels, MovesShop, Need, World}
 use Rattle.sc_model.specs.declared.event.Answer.{Answer}
 use Rattle.sc_model.specs.declared.event.Answer.TheVariants.{Size as SizeIs}
 use Rattle.sc_model.specs.declared.event.Placing.{Placing}
@@ -11,11 +12,19 @@ use Rattle.sc_model.specs.declared.event.Placing.TheVariants.{Done, Fault}
 use Rattle.sc_model.specs.declared.event.What.{What}
 use Rattle.sc_daemon_owned.specs.State.{State, reserved_in}
 
--- What the daemon is made of and whether its levels tell does not change. Where they tell, what the parts hold moves by the event. What is open at the levels
--- stays but by an event that opens, fills or closes an entry, and the bytes that are reserved are those of the event.
+-- What an event of the parts moves: the levels, where they tell what they hold; the workshop, the distributed client and its container
+-- whether or not they do.
+pub record MovesWorld (s : Setup) (n : Need) (r : ℕ → ℕ) (told : Bool) (x : What) (w w2 : World) : Type 0 where
+  pub moment : w2.moment ≡ w.moment
+  pub levels : told ≡ true → MovesLevels s n r x w w2
+  pub shop : MovesShop s n x w w2
+  pub dist : MovesDist s n x w w2
+
+-- What the daemon is made of and whether its levels tell does not change. What the parts hold moves by the event. What is open at the
+-- levels stays but by an event that opens, fills or closes an entry, and the bytes that are reserved are those of the event.
 abbrev pub OwnedMoves : State → Need → What → State → Type 0
 OwnedMoves old n x new =
-    (new.told ≡ old.told) × (old.told ≡ true → Moves (setup (config_of old.config)) n (reserved_in old) x old.world new.world)
+    (new.told ≡ old.told) × MovesWorld (setup (config_of old.config)) n (reserved_in old) old.told x old.world new.world
     × (OpensNone x → new.rooms ≡ old.rooms) × ReservesBy x (reserved_in old) (reserved_in new) × (new.config ≡ old.config)
 
 -- what a workshop's placing comes to: done, or a fault's chain of texts

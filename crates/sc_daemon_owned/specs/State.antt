@@ -5,7 +5,7 @@ use Rattle.sc_compile.specs.declared.key_line.KeyLine.{KeyLine}
 use Rattle.sc_compile.specs.declared.place_line.PlaceLine.{PlaceLine}
 use Rattle.sc_compile.specs.declared.run_line.RunLine.{RunLine}
 use Rattle.sc_compile.specs.declared.tool.Tool.{Tool}
-use Rattle.sc_compile_dist.specs.Containers.{Contained}
+use Rattle.sc_compile_dist.specs.Containers.{Contained, container_of}
 use Rattle.sc_daemon_job.specs.Setups.{StoreTold}
 use Rattle.sc_daemon_owned.specs.Facts.{DaemonFacts, DistTold}
 use Rattle.sc_store_disk.specs.DiskStores.{DiskStore}
@@ -54,9 +54,9 @@ pub record State : Type 0 where
 abbrev pub store_of : Held → StoreTold
 store_of held = record { location = store_location held.policy held.titles; type_name = store_type held.policy held.titles; basedirs = store_basedirs held.policy held.titles; flag = first_flag held.titles; max_size = store_max held.policy held.facts }
 
--- what a distributed client and its maker tell
+-- what a distributed client tells
 abbrev pub told_by : Contained → DistTold
-told_by d = record { url = d.url; status = d.status; is_made = d.is_made; lines = d.lines }
+told_by d = record { url = d.url; status = d.status; lines = d.lines }
 
 -- what a daemon over these levels is made of
 abbrev pub facts_of : Held → (tokens limit : ℕ) → Option (List Tool) → Option (List KeyLine) → Option (List RunLine) → Option (List PlaceLine) → Contained → DaemonFacts
@@ -84,8 +84,7 @@ world_of moment held runs placings faults d = record {
   dists = d.jobs;
   shop_faults = faults;
   dist_faults = d.client_faults;
-  maker_faults = d.maker_faults;
-  container = d.state;
+  container = container_of d;
 }
 
 -- the bytes that are reserved at a level

@@ -7,12 +7,13 @@ use Rattle.sc_disk.specs.Memory.{outside_of}
 use Rattle.sc_disk.specs.declared.change.Change.{Change}
 use Rattle.sc_disk.specs.declared.change.Change.TheVariants.{Added, Made}
 use Rattle.sc_store_disk.specs.DiskStores.{unopened_store}
+use Rattle.sc_store_disk.specs.Marks.{no_marks}
 use Rattle.sc_compile_dist.specs.declared.dist_line.DistLine.{DistLine}
 use Rattle.sc_entry.specs.declared.calls.Calls.{Calls as Counted}
 use Rattle.sc_entry.specs.Keys.{make_key_path, normalize_key}
 use Rattle.sc_daemon_owned.specs.Facts.{DistTold}
 use Rattle.sc_model.specs.Devices.{calls_failing}
-use Rattle.sc_model.specs.World.{Files, World, no_files}
+use Rattle.sc_model.specs.World.{Container, Files, World, no_files}
 use Rattle.sc_model.specs.declared.event.DistAnswer.{DistAnswer}
 use Rattle.sc_model.specs.declared.event.RunAnswer.{RunAnswer}
 use Rattle.sc_model.specs.declared.level.DistClientState.{DistClientState}
@@ -63,7 +64,7 @@ failing_at numbers h = record h { level = record h.level { calls = Some (calls_f
 -- of the disk of its other entries.
 abbrev pub held_as : LevelKind → ℕ → LevelRule → HeldLevel
 held_as Disk level rule = failing_at rule.fails (of_disk nothing_given (unopened_store rule.mode rule.capacity (joined_state (joins (first_disk (main_root level) rule.holds None) (first_disk (pre_root level) [] None)))))
-held_as Remote level rule = held_remote memory_names nothing_given (as_configured rule.mode) (Some (first_files rule.holds)) 0 0 (Some (calls_failing rule.fails))
+held_as Remote level rule = held_remote memory_names nothing_given (as_configured rule.mode) (Some (first_files rule.holds)) 0 0 (Some (calls_failing rule.fails)) None no_marks
 
 abbrev pub first_held : ℕ → LevelRule → HeldLevel
 first_held level rule = held_as rule.kind level rule
@@ -116,15 +117,18 @@ abbrev pub AreJobs : Option (List DistLine) → List JobRule → Type 0
 AreJobs None jobs = ⊥
 AreJobs (Some lines) jobs = told_jobs lines ≡ told_answers jobs
 
--- A distributed client that answers by the rules: its scheduler has no address and no servers, and it is made whenever that is
--- due.
+-- A distributed client that answers by the rules: its scheduler has no address and no servers.
 abbrev pub IsDist : DistTold → List JobRule → Type 0
-IsDist d jobs = (d.url ≡ None) × (d.status ≡ Some (SchedulerStatus None 0 0 0)) × (d.is_made ≡ true) × AreJobs d.lines jobs
+IsDist d jobs = (d.url ≡ None) × (d.status ≡ Some (Some (SchedulerStatus None 0 0 0))) × AreJobs d.lines jobs
 
 -- there is one where a rule is on its jobs
 abbrev pub first_container : List JobRule → DistClientState
 first_container [] = Disabled
 first_container (r ∷ jobs) = RetryCreateAt 0
+
+-- where it stands, and that it is made whenever that is due
+abbrev pub container_first : List JobRule → Container
+container_first jobs = record { state = first_container jobs; faults = 0; makings = Some [] }
 
 -- nothing was run, placed or refused
 abbrev pub first_world : Script → World
@@ -136,6 +140,5 @@ first_world script = record {
   dists = Some [];
   shop_faults = 0;
   dist_faults = 0;
-  maker_faults = 0;
-  container = first_container script.jobs;
+  container = container_first script.jobs;
 }

@@ -16,7 +16,7 @@ use sc_compile::{PlaceLine, RunLine, ScriptWorkshop, ToolTable};
 use sc_compile_dist::{DistClientConfig, DistClientContainer, DistLine, MemMaker, ScriptDist};
 use sc_daemon_owned::Owned;
 use sc_disk::{MemDisk, make_key_path, normalize_key};
-use sc_entry::{ByteText, Calls, Items, NoMemory, Text};
+use sc_entry::{ByteText, Calls, Items, NoMemory, Queue, Text};
 use sc_main_script::{JobRule, LevelRule, PlaceRule, RunRule, Script};
 use sc_model::{DistClientState, LevelKind, Step};
 use sc_store::{DiskCache, Layered, Level, MemRemote, RemoteStorage, Unvouched};
@@ -244,10 +244,11 @@ fn dist(alloc: Global, jobs: Items<JobRule>) -> Result<DistClientContainer<MemMa
     ensures jobs { IfOk result (λ dist. dist.jobs ≡ Some []) }
     ensures state { IfOk result (λ dist. dist.state ≡ first_container jobs) }
     ensures faults { IfOk result (λ dist. (dist.client_faults ≡ 0) × (dist.maker_faults ≡ 0)) }
+    ensures makings { IfOk result (λ dist. dist.makings ≡ Some []) }
 {
     let state = first_state(&jobs);
     let client = ScriptDist::new(alloc, jobs_of(alloc, jobs)?)?;
-    let maker = MemMaker::new(Vec::new(alloc));
+    let maker = MemMaker::new(Queue::new(alloc));
     let config = DistClientConfig {
         scheduler_url: None,
     };

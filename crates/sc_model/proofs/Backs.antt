@@ -1,8 +1,8 @@
 -- Handed writes: the queue that the code keeps is what the trace leaves.
 use Rattle.std.proofs.Common.{◌≡◌, ℕ, zero, suc, ◌+◌, ◌<◌, ◌≤◌, Bool, true, false, cond, List, [], ◌∷◌, ◌++◌, length, map, Some, refl, sym, ap, ◌∙◌, subst, arith, length-append}
 use Rattle.sc_model.specs.Follows.{Fits, bytes_in, due_back, kind_at}
-use Rattle.sc_model.specs.Job.{At, Own}
-use Rattle.sc_model.specs.Machine.{due_pending, due_stage, given_of, pend, pending_after, pending_at, reserved_after, stage_after}
+use Rattle.sc_model.specs.Job.{At, Own, after_fill, fills_of}
+use Rattle.sc_model.specs.Machine.{due_pending, due_stage, given_of, pend, pending_after, pending_at, reserved_after, stage_after, stage_fills}
 use Rattle.sc_model.specs.Next.{nth}
 use Rattle.sc_model.specs.Rows.{reserved_since}
 use Rattle.sc_model.specs.Script.{Setup}
@@ -157,7 +157,8 @@ module _ (s : Setup) where
   -- each write's stage is what its events tell
   abbrev pub Stages : List Event → List Pending → Type 0
   Stages t [] = Unit {0}
-  Stages t (p ∷ ps) = (due_back s.levels p.handed (written p.number t) ≡ due_pending s.levels p) × (reserved_since (written p.number t) ≡ p.since) × Stages t ps
+  Stages t (p ∷ ps) =
+      (due_back s.levels p.handed (written p.number t) ≡ due_pending s.levels p) × (reserved_since (written p.number t) ≡ p.since) × (fills_of (written p.number t) ≡ stage_fills p.stage p.handed.marked) × Stages t ps
 
   pub record BackTie (t : List Event) (ps : List Pending) (n : ℕ) : Type 0 where
     pub same : map given_of ps ≡ left_writes t
@@ -174,11 +175,11 @@ module _ (s : Setup) where
   stages_from t n [] f h = tt
   stages_from t n (g ∷ gs) f h =
       let e : written g.number t ≡ [] = h g.number (omega (arith, f.0)) in
-      (ap (due_back s.levels g.handed) e, ap reserved_since e, stages_from t (suc n) gs f.1 (λ i l. h i (omega arith)))
+      (ap (due_back s.levels g.handed) e, ap reserved_since e, ap fills_of e, stages_from t (suc n) gs f.1 (λ i l. h i (omega arith)))
 
   stages_append : (t : List Event) (n : ℕ) (ps : List Pending) (gs : List Given) → Stages t ps → From n gs → ((i : ℕ) → n ≤ i → written i t ≡ []) → Stages t (ps ++ pend gs)
   stages_append t n [] gs h f k = stages_from t n gs f k
-  stages_append t n (p ∷ ps) gs h f k = (h.0, h.1, stages_append t n ps gs h.2 f k)
+  stages_append t n (p ∷ ps) gs h f k = (h.0, h.1, h.2, stages_append t n ps gs h.3 f k)
 
   -- an event that is no handed write's, where left_writes and written are as here
   pub back_more : (t : List Event) (e : Event) (ps : List Pending) (n : ℕ) → ((i : ℕ) → written i (e ∷ t) ≡ written i t) → left_writes (e ∷ t) ≡ left_writes t ++ hands (length (given t)) e.moment e.what → Stages (e ∷ t) ps
@@ -218,6 +219,19 @@ module _ (s : Setup) where
   stage_step h st kind m (Wrote l k b mode mark v) own w e = (cc)
   stage_step h st kind m _ own w e = absurd w
 
+  fills_step : (h : Handed) (st : Stage) (kind : LevelKind) (m : ℕ) (x : What) (own : List Own) → Fits s no_request (due_stage st kind h.level (bytes_in h)) x → IsWrite x → ends_write x ≡ false → fills_of own ≡ stage_fills st h.marked
+      → fills_of (At m x ∷ own) ≡ stage_fills (stage_after st x) h.marked
+  fills_step h st kind m (Reserved l k n WriteDone) own f w e g = refl
+  fills_step h IsReserved kind m (Filled l k b mark WriteDone) own f w e g = ap (λ v. Some (after_fill v mark)) g ∙ ap Some f.3
+  fills_step h Fresh Disk m (Filled l k b mark WriteDone) own f w e g = absurd f
+  fills_step h Fresh Remote m (Filled l k b mark WriteDone) own f w e g = absurd f
+  fills_step h IsFilled kind m (Filled l k b mark WriteDone) own f w e g = absurd f
+  fills_step h st kind m (Reserved l k n (WriteRefused c)) own f w e g = (cc)
+  fills_step h st kind m (Filled l k b mark (WriteRefused c)) own f w e g = (cc)
+  fills_step h st kind m (Committed l k b v) own f w e g = (cc)
+  fills_step h st kind m (Wrote l k b mode mark v) own f w e g = (cc)
+  fills_step h st kind m _ own f w e g = absurd w
+
   since_same : (m : ℕ) (x : What) (own : List Own) → reserved_since (At m x ∷ own) ≡ reserved_after (reserved_since own) m x
   since_same m (Reserved l k n WriteDone) own = refl
   since_same m (Reserved l k n (WriteRefused c)) own = refl
@@ -227,33 +241,34 @@ module _ (s : Setup) where
   stages_other t n m x [] h st = tt
   stages_other t n m x (p ∷ ps) h st =
       let e = written_other p.number n m x (written p.number t) (λ z. let l = h.0 in omega (arith, l, z)) in
-      (ap (due_back s.levels p.handed) e ∙ st.0, ap reserved_since e ∙ st.1, stages_other t n m x ps h.1 st.2)
+      (ap (due_back s.levels p.handed) e ∙ st.0, ap reserved_since e ∙ st.1, ap fills_of e ∙ st.2, stages_other t n m x ps h.1 st.3)
 
-  stages_after : (t : List Event) (n : ℕ) (b : Bool) (i m : ℕ) (x : What) (ps : List Pending) (p : Pending) → pending_at i ps ≡ Some p → n ≡ p.number → IsWrite x → ends_write x ≡ b → Apart ps → Stages t ps
+  stages_after : (t : List Event) (n : ℕ) (b : Bool) (i m : ℕ) (x : What) (ps : List Pending) (p : Pending) → pending_at i ps ≡ Some p → n ≡ p.number → IsWrite x → Fits s no_request (due_pending s.levels p) x → ends_write x ≡ b → Apart ps → Stages t ps
       → Stages (record { moment = m; owner = OfWrite n; what = x } ∷ t) (pending_after b i m x ps)
-  stages_after t n b i m x [] p e q w eb h st = tt
-  stages_after t n true zero m x (r ∷ rs) p e q w eb h st =
+  stages_after t n b i m x [] p e q w f eb h st = tt
+  stages_after t n true zero m x (r ∷ rs) p e q w f eb h st =
       let d : r ≡ p = (cc) in
       let j : r.number ≡ n = ap (λ v. v.number) d ∙ sym q in
-      stages_other t n m x rs (subst (λ v. AllAbove v rs) j h.0) st.2
-  stages_after t n false zero m x (r ∷ rs) p e q w eb h st =
+      stages_other t n m x rs (subst (λ v. AllAbove v rs) j h.0) st.3
+  stages_after t n false zero m x (r ∷ rs) p e q w f eb h st =
       let d : r ≡ p = (cc) in
       let j : n ≡ r.number = q ∙ ap (λ v. v.number) (sym d) in
       let own = written r.number t in
       let g : written r.number (record { moment = m; owner = OfWrite n; what = x } ∷ t) ≡ At m x ∷ own = subst (λ v. written_by r.number (OfWrite v) m x own ≡ At m x ∷ own) (sym j) (written_same r.number m x own) in (
         ap (due_back s.levels r.handed) g ∙ stage_step r.handed r.stage (kind_at s.levels r.handed.level) m x own w eb,
         ap reserved_since g ∙ since_same m x own ∙ ap (λ v. reserved_after v m x) st.1,
-        stages_other t n m x rs (subst (λ v. AllAbove v rs) (sym j) h.0) st.2,
+        ap fills_of g ∙ fills_step r.handed r.stage (kind_at s.levels r.handed.level) m x own (subst (λ v. Fits s no_request (due_pending s.levels v) x) (sym d) f) w eb st.2,
+        stages_other t n m x rs (subst (λ v. AllAbove v rs) (sym j) h.0) st.3,
       )
-  stages_after t n b (suc i) m x (r ∷ rs) p e q w eb h st =
+  stages_after t n b (suc i) m x (r ∷ rs) p e q w f eb h st =
       let a = above_at r.number i rs p h.0 e in
       let g = written_other r.number n m x (written r.number t) (λ z. omega (arith, a, q, z)) in
-      (ap (due_back s.levels r.handed) g ∙ st.0, ap reserved_since g ∙ st.1, stages_after t n b i m x rs p e q w eb h.1 st.2)
+      (ap (due_back s.levels r.handed) g ∙ st.0, ap reserved_since g ∙ st.1, ap fills_of g ∙ st.2, stages_after t n b i m x rs p e q w f eb h.1 st.3)
 
   -- an event of the ith handed write that is left
-  pub back_step : (t : List Event) (ps : List Pending) (n i m : ℕ) (x : What) (p : Pending) → pending_at i ps ≡ Some p → IsWrite x → BackTie t ps n
+  pub back_step : (t : List Event) (ps : List Pending) (n i m : ℕ) (x : What) (p : Pending) → pending_at i ps ≡ Some p → IsWrite x → Fits s no_request (due_pending s.levels p) x → BackTie t ps n
       → BackTie (record { moment = m; owner = OfWrite p.number; what = x } ∷ t) (pending_after (ends_write x) i m x ps) n
-  back_step t ps n i m x p e w h =
+  back_step t ps n i m x p e w f h =
       let k = length (given t) in
       let none = hands_none k m x w in
       record {
@@ -262,7 +277,7 @@ module _ (s : Setup) where
         handed = h.handed ∙ sym (ap length (ap (λ v. given t ++ v) none ∙ append-nil (given t)));
         below = below_after n (ends_write x) i m x ps h.below;
         apart = apart_after (ends_write x) i m x ps h.apart;
-        stages = stages_after t p.number (ends_write x) i m x ps p e refl w refl h.apart h.stages;
+        stages = stages_after t p.number (ends_write x) i m x ps p e refl w f refl h.apart h.stages;
         none = λ j l. let b = below_at n i ps p h.below e in written_other j p.number m x (written j t) (λ z. omega (arith, b, z)) ∙ h.none j l;
       }
 
@@ -272,10 +287,10 @@ module _ (s : Setup) where
   pub back_length : (t : List Event) (ps : List Pending) (n : ℕ) → BackTie t ps n → length (left_writes t) ≡ length ps
   back_length t ps n h = ap length (sym h.same) ∙ length_map ps
 
-  stages_at : (t : List Event) (i : ℕ) (ps : List Pending) (p : Pending) → pending_at i ps ≡ Some p → Stages t ps → (due_back s.levels p.handed (written p.number t) ≡ due_pending s.levels p) × (reserved_since (written p.number t) ≡ p.since)
+  stages_at : (t : List Event) (i : ℕ) (ps : List Pending) (p : Pending) → pending_at i ps ≡ Some p → Stages t ps → (due_back s.levels p.handed (written p.number t) ≡ due_pending s.levels p) × (reserved_since (written p.number t) ≡ p.since) × (fills_of (written p.number t) ≡ stage_fills p.stage p.handed.marked)
   stages_at t i [] p e h = (cc)
-  stages_at t zero (q ∷ qs) p e h = let d : q ≡ p = (cc) in subst (λ v. (due_back s.levels v.handed (written v.number t) ≡ due_pending s.levels v) × (reserved_since (written v.number t) ≡ v.since)) d (h.0, h.1)
-  stages_at t (suc i) (q ∷ qs) p e h = stages_at t i qs p e h.2
+  stages_at t zero (q ∷ qs) p e h = let d : q ≡ p = (cc) in subst (λ v. (due_back s.levels v.handed (written v.number t) ≡ due_pending s.levels v) × (reserved_since (written v.number t) ≡ v.since) × (fills_of (written v.number t) ≡ stage_fills v.stage v.handed.marked)) d (h.0, h.1, h.2)
+  stages_at t (suc i) (q ∷ qs) p e h = stages_at t i qs p e h.3
 
-  pub back_due : (t : List Event) (ps : List Pending) (n i : ℕ) (p : Pending) → BackTie t ps n → pending_at i ps ≡ Some p → (due_back s.levels p.handed (written p.number t) ≡ due_pending s.levels p) × (reserved_since (written p.number t) ≡ p.since)
+  pub back_due : (t : List Event) (ps : List Pending) (n i : ℕ) (p : Pending) → BackTie t ps n → pending_at i ps ≡ Some p → (due_back s.levels p.handed (written p.number t) ≡ due_pending s.levels p) × (reserved_since (written p.number t) ≡ p.since) × (fills_of (written p.number t) ≡ stage_fills p.stage p.handed.marked)
   back_due t ps n i p h e = stages_at t i ps p e h.stages

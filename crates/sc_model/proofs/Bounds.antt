@@ -50,7 +50,7 @@ use Rattle.sc_model.specs.declared.phase.Work.{Work}
 use Rattle.sc_stats.specs.declared.counters.ServerStats.{ServerStats}
 
 -- how many events can still come at a phase, notifications aside, where there are n levels
-abbrev weight : ℕ → Phase → ℕ
+abbrev pub weight : ℕ → Phase → ℕ
 weight n AtBegin = 11 + 4 * n
 weight n (AtSend f) = 1
 weight n (AtStarted task) = 10 + 4 * n
@@ -271,7 +271,7 @@ module _ (s : Setup) (one : IsOneWhereSingle s) where
   step_few r (SizeAsk l stats zs) m (Asked j k mode a hs) f = omega (arith, size_few r stats (with_size zs a) l)
   step_few _ _ _ _ f = absurd f
 
-  all_few : (r : Request) (own : List Own) → Lawful s r own → length own + weight n (phase_of s r own) ≤ 11 + 4 * n + notes_sent own
+  pub all_few : (r : Request) (own : List Own) → Lawful s r own → length own + weight n (phase_of s r own) ≤ 11 + 4 * n + notes_sent own
   all_few r [] l = omega arith
   all_few r (At m x ∷ own) l =
       let t = lawful_ties s r own l.1 in

@@ -33,7 +33,7 @@ get_map f (x ∷ xs) (suc i) d e h = get_map f xs i d e (omega arith)
 
 module _ (s : Script) where
   -- a finished compile carries its own, and was stored before
-  finishes : (r : Request) (own : List Own) (p : Phase) (f : CompileFinished) → Keeps s.setup r own p → Fits s.setup r (due_at s.setup r p) (Sent (Finished f)) → (f ≡ finish s.setup r own) × Carries s.setup r f own × Stores s.setup own
+  finishes : (r : Request) (own : List Own) (p : Phase) (f : CompileFinished) → Keeps s.setup r own p → Fits s.setup r (due_at s.setup r p) (Sent (Finished f)) → (f ≡ finish s.setup r own) × Carries s.setup r f own × Stores s.setup r own
   finishes r own (AtFinish ns last) f kp h =
       let e = (last_is_none ns last f h.0).1 in
       (e ∙ sym kp.last_is, subst (λ v. Carries s.setup r v own) (sym e) kp.carries, kp.stores)
@@ -45,7 +45,7 @@ module _ (s : Script) where
   finishes r own (PrePut b (l ∷ ls) g) f kp h = absurd h
   finishes r own _ f kp h = absurd h
 
-  notes_stored : (r : Request) (own : List Own) (p : Phase) (line : List ℕ) → Keeps s.setup r own p → Fits s.setup r (due_at s.setup r p) (Sent (Note line)) → Stores s.setup own
+  notes_stored : (r : Request) (own : List Own) (p : Phase) (line : List ℕ) → Keeps s.setup r own p → Fits s.setup r (due_at s.setup r p) (Sent (Note line)) → Stores s.setup r own
   notes_stored r own (AtFinish ns last) line kp h = kp.stores
   notes_stored r own (AtSend g) line kp h = absurd (subst IsPlain (sym h.0) kp)
   notes_stored r own (AtStarted task) line kp h = let e = h.0 in (cc)
@@ -55,10 +55,10 @@ module _ (s : Script) where
   notes_stored r own (PrePut b (l ∷ ls) g) line kp h = absurd h
   notes_stored r own _ line kp h = absurd h
 
-  pub lawful_finishes : (r : Request) (own : List Own) (f : CompileFinished) → Fits s.setup r (due s.setup r own) (Sent (Finished f)) → Lawful s.setup r own → (f ≡ finish s.setup r own) × Carries s.setup r f own × Stores s.setup own
+  pub lawful_finishes : (r : Request) (own : List Own) (f : CompileFinished) → Fits s.setup r (due s.setup r own) (Sent (Finished f)) → Lawful s.setup r own → (f ≡ finish s.setup r own) × Carries s.setup r f own × Stores s.setup r own
   lawful_finishes r own f h l = let t = lawful_ties s.setup r own l in finishes r own (phase_of s.setup r own) f t.keeps (subst (λ v. Fits s.setup r v (Sent (Finished f))) t.is_due h)
 
-  pub lawful_notes : (r : Request) (own : List Own) (line : List ℕ) → Fits s.setup r (due s.setup r own) (Sent (Note line)) → Lawful s.setup r own → Stores s.setup own
+  pub lawful_notes : (r : Request) (own : List Own) (line : List ℕ) → Fits s.setup r (due s.setup r own) (Sent (Note line)) → Lawful s.setup r own → Stores s.setup r own
   lawful_notes r own line h l = let t = lawful_ties s.setup r own l in notes_stored r own (phase_of s.setup r own) line t.keeps (subst (λ v. Fits s.setup r v (Sent (Note line))) t.is_due h)
 
   -- an event of a request fits, whoever's step it is

@@ -1,11 +1,15 @@
 -- Worked rows, event by event, computed.
-use Rattle.std.proofs.Common.{◌≡◌, ℕ, zero, suc, Bool, true, false, List, [], ◌∷◌, length, Option, Some, None, refl, arith, pos, codes}
-use Rattle.sc_model.specs.Follows.{Lawful, Over, ToDist, ToEnd, ToFinish, ToKey, ToPlace, ToTake, due}
-use Rattle.sc_model.specs.Job.{At, Own}
-use Rattle.sc_model.specs.Plan.{backfilled, background, goes_on, plan}
-use Rattle.sc_model.specs.Rows.{total}
+use Rattle.std.proofs.Common.{◌≡◌, ℕ, zero, suc, Bool, true, false, List, [], ◌∷◌, length, inr, Option, Some, None, refl, arith, pos, codes}
+use Rattle.sc_model.specs.Devices.{Passed}
+use Rattle.sc_model.specs.Follows.{Lawful, Over, ToDist, ToEnd, ToFinish, ToKey, ToPlace, ToTake, due, notes_then}
+use Rattle.sc_model.specs.Job.{At, Own, entry_mark, put_bytes}
+use Rattle.sc_model.specs.Ledgers.{direct_row, numbers}
+use Rattle.sc_model.specs.Plain.{plain_finish}
+use Rattle.sc_model.specs.Plan.{backfilled, background, goes_on, plan, pre_plan}
+use Rattle.sc_model.specs.Rows.{Backfill, Direct, level_row, row, total}
 use Rattle.sc_model.specs.Script.{IsOpen, Script, Setup, no_task}
-use Rattle.sc_model.specs.World.{first_missing, placed_of}
+use Rattle.sc_model.specs.Through.{IsThrough}
+use Rattle.sc_model.specs.World.{Asks_remote_calls, Level, Makes_next, Puts_mark, Reaches, SetsMark, early_cause, first_missing, placed_of}
 use Rattle.sc_model.specs.declared.event.Answer.{Answer}
 use Rattle.sc_model.specs.declared.event.Answer.TheVariants.{Hit, Miss, Refused}
 use Rattle.sc_model.specs.declared.event.DistAnswer.TheVariants.{Done as DistDone, Http as DistHttp, Other as DistOther}
@@ -16,7 +20,7 @@ use Rattle.sc_entry.specs.declared.object.FileObjectSource.{FileObjectSource}
 use Rattle.sc_model.specs.declared.event.KeyStep.TheVariants.{Key}
 use Rattle.sc_model.specs.declared.event.MissType.{MissType}
 use Rattle.sc_model.specs.declared.event.MissType.TheVariants.{CacheReadError, ForcedRecache, Normal, TimedOut}
-use Rattle.sc_model.specs.declared.event.Mode.TheVariants.{Whole}
+use Rattle.sc_model.specs.declared.event.Mode.TheVariants.{Raw, Whole}
 use Rattle.sc_entry.specs.declared.object.Object.{Object}
 use Rattle.sc_model.specs.declared.event.Objects.TheVariants.{Collected}
 use Rattle.sc_model.specs.declared.event.Owner.TheVariants.{Request as OfRequest}
@@ -26,24 +30,28 @@ use Rattle.sc_model.specs.declared.event.RunAnswer.TheVariants.{Output as RanOut
 use Rattle.sc_model.specs.declared.event.Status.{Status}
 use Rattle.sc_model.specs.declared.event.Status.TheVariants.{Code}
 use Rattle.sc_model.specs.declared.event.Task.{Task}
-use Rattle.sc_model.specs.declared.event.Told.TheVariants.{Compile as TellsCompile}
+use Rattle.sc_model.specs.declared.event.Told.TheVariants.{Compile as TellsCompile, Nothing as TellsNothing}
 use Rattle.sc_model.specs.declared.event.Verdict.TheVariants.{CacheHit, CacheMiss, CompileFailed, Http as HttpError, NotCached}
 use Rattle.sc_model.specs.declared.event.What.{What}
-use Rattle.sc_model.specs.declared.event.What.TheVariants.{Asked, Began, Dist, Keyed, Outcome, Placed, Ran, Sent, TokenTaken, WriteEnded, Wrote}
-use Rattle.sc_model.specs.declared.event.Written.TheVariants.{Done as WriteDone}
-use Rattle.sc_model.specs.declared.level.Cause.TheVariants.{BadEntry, Io}
+use Rattle.sc_model.specs.declared.event.What.TheVariants.{Asked, Began, Dist, Filled, Keyed, Outcome, Placed, Ran, Reserved, Sent, TokenTaken, WriteEnded, Wrote}
+use Rattle.sc_model.specs.declared.event.Written.TheVariants.{Done as WriteDone, Refused as WriteRefused}
+use Rattle.sc_model.specs.declared.level.Cause.TheVariants.{BadEntry, BadKey, Io, ReadOnly as ForReading, RemoteFault as RemoteRefused}
 use Rattle.sc_model.specs.declared.level.LevelFacts.{LevelFacts}
 use Rattle.sc_model.specs.declared.level.LevelKind.TheVariants.{Remote}
 use Rattle.sc_model.specs.declared.level.LevelPolicy.TheVariants.{Background, Off, Required}
+use Rattle.sc_model.specs.declared.level.Making.TheVariants.{Made as IsMade, Unreachable}
 use Rattle.sc_model.specs.declared.level.Policy.TheVariants.{Levels, Single}
 use Rattle.sc_model.specs.declared.level.Put.TheVariants.{Done as PutDone}
+use Rattle.sc_model.specs.declared.level.RemoteFault.TheVariants.{Other as OtherFault}
+use Rattle.sc_model.specs.declared.level.Store.TheVariants.{Remote as RemoteStore}
 use Rattle.sc_entry.specs.declared.cache_mode.CacheMode.TheVariants.{ReadOnly as ModeReadOnly, ReadWrite as ModeReadWrite}
 use Rattle.sc_model.specs.declared.message.ColorMode.TheVariants.{Auto as ColorAuto}
+use Rattle.sc_model.specs.declared.message.CompileFinished.{CompileFinished}
 use Rattle.sc_model.specs.declared.message.CompileResponse.TheVariants.{CompileStarted}
 use Rattle.sc_model.specs.declared.message.Request.{Request}
-use Rattle.sc_model.specs.declared.message.Request.TheVariants.{Compile}
+use Rattle.sc_model.specs.declared.message.Request.TheVariants.{Compile, RecordStats, StoragePutRaw as PutRaw}
 use Rattle.sc_model.specs.declared.message.Response.{Response}
-use Rattle.sc_model.specs.declared.message.Response.TheVariants.{Compile as Answered, CompileFinished as Finished}
+use Rattle.sc_model.specs.declared.message.Response.TheVariants.{ArtifactNotification as Note, Compile as Answered, CompileFinished as Finished}
 use Rattle.sc_model.specs.declared.message.Variable.{Variable}
 use Rattle.sc_model.specs.declared.phase.Refusal.TheVariants.{At as RefusedAt}
 use Rattle.sc_stats.specs.Sums.{no_level_stats, no_stats}
@@ -80,7 +88,7 @@ setup = record {
   workshop = λ k rs os. None;
   placing = λ k. None;
   dist = λ k ds os. None;
-  scheduler = record { url = None; retry_text = λ n. []; status = None; is_made = false };
+  scheduler = record { url = None; retry_text = λ n. []; status = None };
   store = record { location = []; type_name = []; basedirs = []; basedir_texts = []; flag = false; max_size = None };
   levels = remote ∷ [];
   policy = Single;
@@ -251,3 +259,83 @@ stored_miss_compilations = refl
 stored_miss_write_errors : (total (script (compile [])) (trace_of (stored_after (compile []) Normal NoDist 0 (asked (compile []) 0 Miss)))).cache_write_errors ≡ 0
 unfolding trace_of
 stored_miss_write_errors = refl
+
+-- a row of each table of what is counted
+lost_job_counts : (row setup (compile []) 0 0 (Outcome (CacheMiss ForcedRecache DistError 0) task)).dist_errors ≡ 1
+lost_job_counts = refl
+
+lost_job_forces : (row setup (compile []) 0 0 (Outcome (CacheMiss ForcedRecache DistError 0) task)).forced_recaches ≡ 1
+lost_job_forces = refl
+
+third_level_hit_counts : (level_row Direct 0 0 0 (Asked 2 key Raw (Hit (1 ∷ []) false) [])).backfills_from ≡ 2
+third_level_hit_counts = refl
+
+backfill_counts : (level_row Backfill 0 0 0 (Wrote 0 key (1 ∷ []) Whole false WriteDone)).backfills_to ≡ 1
+backfill_counts = refl
+
+record_sets_all : numbers setup (RecordStats no_stats) 0 0 (Began (RecordStats no_stats) TellsNothing) ≡ 0 ∷ 0 ∷ 0 ∷ 0 ∷ 0 ∷ 0 ∷ 0 ∷ 0 ∷ 0 ∷ 0 ∷ 0 ∷ 0 ∷ 0 ∷ 0 ∷ 1 ∷ []
+record_sets_all = refl
+
+compile_is_a_request : (row setup (compile []) 0 0 (Began (compile []) (TellsCompile (Started task)))).compile_requests ≡ 1
+compile_is_a_request = refl
+
+direct_compile_is_none : (direct_row setup (compile []) 0 0 (Began (compile []) (TellsCompile (Started task)))).compile_requests ≡ 0
+direct_compile_is_none = refl
+
+-- why a write is refused before its device is called
+read_only_first : early_cause Single (record remote { configured = ModeReadOnly; mode = ModeReadOnly }) (codes "a") ≡ Some (ForReading RemoteStore)
+read_only_first = refl
+
+bad_key_next : early_cause Single remote (codes "a") ≡ Some BadKey
+bad_key_next = refl
+
+-- a put of a request says of its bytes that no run made them, and a run that it did
+raw_put_unmarked : (put_bytes (PutRaw key (1 ∷ []))).run ≡ false
+raw_put_unmarked = refl
+
+refused_put_unmarked : (v w : Level) → Puts_mark (WriteRefused (RemoteRefused OtherFault)) key true v w ≡ SetsMark key false v w
+refused_put_unmarked v w = refl
+
+second_fill_unmarks : entry_mark (At 0 (Filled 0 key (1 ∷ []) true WriteDone) ∷ At 0 (Filled 0 key (1 ∷ []) true WriteDone) ∷ At 0 (Reserved 0 key 1 WriteDone) ∷ []) ≡ false
+second_fill_unmarks = refl
+
+first_fill_marks : entry_mark (At 0 (Filled 0 key (1 ∷ []) true WriteDone) ∷ At 0 (Reserved 0 key 1 WriteDone) ∷ []) ≡ true
+first_fill_marks = refl
+
+-- levels that are off take no preprocessor entry and no backfill
+off_level_takes_none : pre_plan (Levels (Required ∷ Off ∷ Background ∷ [])) three ≡ 0 ∷ 2 ∷ []
+off_level_takes_none = refl
+
+off_level_has_no_backfill : backfilled (Levels (Off ∷ Required ∷ Required ∷ [])) three 2 ≡ 1 ∷ []
+off_level_has_no_backfill = refl
+
+-- notifications before the last reply
+notes_come_first : (last : CompileFinished) → notes_then (codes "a" ∷ codes "b" ∷ []) last ≡ Note (codes "a") ∷ Note (codes "b") ∷ Finished last ∷ []
+notes_come_first last = refl
+
+-- what reached what is behind a remote, once
+done_write_reaches : Reaches WriteDone key (1 ∷ []) (Some []) (Some ((key, 1 ∷ []) ∷ []))
+done_write_reaches = refl
+
+-- which calls were made: one of a remote's device, and none for a bad key
+remote_read_calls : Asks_remote_calls Whole Miss (Passed 1)
+remote_read_calls = refl
+
+bad_key_calls_none : Asks_remote_calls Whole (Refused BadKey) (Passed 0)
+bad_key_calls_none = refl
+
+-- a maker's answers in turn, and behind the last each client is made
+makes_the_next : Makes_next (Some (Unreachable ∷ [])) Unreachable (Some [])
+makes_the_next = (refl, refl)
+
+makes_each_then : Makes_next (Some []) IsMade (Some [])
+makes_each_then = (refl, refl)
+
+-- what a compile gets with no store
+plain_stdout : (plain_finish setup (compile []) task (Key (record { key = key; outputs = outputs; locally_preprocessed = true; cacheable = true })) (RanOutput (record { output = record { status = Code 0; stdout = 104 ∷ 105 ∷ []; stderr = [] }; objects = Collected (obj ∷ []) }))).stdout ≡ 104 ∷ 105 ∷ []
+plain_stdout = refl
+
+-- what a level writes is what is put behind it
+writes_through : IsThrough (trace_of (At 0 (Wrote 1 key (1 ∷ []) Whole false WriteDone) ∷ At 0 (Wrote 1 key (2 ∷ []) Whole false (WriteRefused Io)) ∷ [])) (trace_of (At 0 (Began (PutRaw key (1 ∷ [])) TellsNothing) ∷ [])) 1
+unfolding trace_of
+writes_through = inr (refl, refl)

@@ -1,12 +1,12 @@
 -- One step of a request: the phase keeps what the events tell.
 use Rattle.std.proofs.Common.{◌≡◌, ℕ, zero, suc, ◌-◌, ◌⊎◌, ⊎_elim, inl, inr, Bool, true, false, ◌&&◌, List, [], ◌∷◌, length, drop, Option, Some, None, refl, sym, ap, ◌∙◌, subst, not, nat_lt, Ok}
-use Rattle.sc_model.proofs.Requests.{Ends, EndsBy, HasJob, HasWork, IsCompile, IsPlain, Keeps, NotMiss, keeps_cond}
+use Rattle.sc_model.proofs.Requests.{Ends, EndsBy, HasJob, HasWork, IsCompile, IsPlain, Keeps, keeps_cond}
 use Rattle.sc_model.proofs.Steps.{committed_refused, drop_one, due_step, goes_same, left_next, note_is, reserve_is, start_is, wrote_is, wrote_refused}
 use Rattle.sc_model.specs.Follows.{Begins, Fits, Lawful, due, is_disk_alone, kind_at, left, left_pre, server_info, stats_reply, with_size}
-use Rattle.sc_model.specs.Headline.{Carries, HasHit, IsStorable}
-use Rattle.sc_model.specs.Job.{At, IsBroken, IsFailed, IsNotCacheable, IsNotCached, IsStored, Judged, Own, by_answer, bytes_of, dist_of, entry_of, finish, finish_dist, finish_fatal, finish_hit, finish_judged, finish_output, finish_run, forced, hit_of, if_late, is_late, job_of, judge, judge_status, judged_verdict, miss_of, notes_of, over, refused, run_bytes, run_notes, sized, stats_of, task_of, work_from}
+use Rattle.sc_model.specs.Headline.{Carries, HasHit, IsKept, IsStorable, asks_store}
+use Rattle.sc_model.specs.Job.{after_fill, At, IsBroken, IsFailed, IsNotCacheable, IsNotCached, IsStored, Judged, Own, by_answer, bytes_of, dist_of, entry_of, finish, finish_dist, finish_fatal, finish_hit, finish_judged, finish_output, finish_run, forced, hit_of, if_late, is_late, job_of, judge, judge_cacheable, judge_status, judged_verdict, miss_of, notes_of, over, refused, run_bytes, run_notes, sized, stats_of, task_of, work_from}
 use Rattle.sc_model.specs.Machine.{after, asked_miss, begin_phase, control_phase, dist_phase, due_at, end_write_phase, ending_of, judged_phase, key_phase, missed_phase, noted, path_phase, placed_phase, pre_phase, ran_phase, raw_phase, size_phase, whole_phase, work_of, work_phase}
-use Rattle.sc_model.specs.Origin.{HasRun, PutBy}
+use Rattle.sc_model.specs.Origin.{HasRun, IsCollected, PutBy}
 use Rattle.sc_model.specs.Plan.{note, plan, pre_plan}
 use Rattle.sc_model.specs.Script.{Control, Default, ForceNoCache, ForceRecache, Setup, control}
 use Rattle.sc_model.specs.declared.event.Answer.{Answer}
@@ -18,7 +18,7 @@ use Rattle.sc_model.specs.declared.event.DistType.TheVariants.{NoDist, Ok as Dis
 use Rattle.sc_model.specs.declared.event.KeyStep.{KeyStep}
 use Rattle.sc_model.specs.declared.event.KeyStep.TheVariants.{Fault as KeyFault, Key, ProcessError as KeyError}
 use Rattle.sc_model.specs.declared.event.MissType.{MissType}
-use Rattle.sc_model.specs.declared.event.MissType.TheVariants.{CacheReadError, ForcedNoCache, ForcedRecache, Normal}
+use Rattle.sc_model.specs.declared.event.MissType.TheVariants.{CacheReadError, ForcedNoCache, ForcedRecache, Normal, TimedOut}
 use Rattle.sc_model.specs.declared.event.Mode.{Mode}
 use Rattle.sc_model.specs.declared.event.Mode.TheVariants.{Whole}
 use Rattle.sc_entry.specs.declared.object.Object.{Object}
@@ -29,18 +29,19 @@ use Rattle.sc_model.specs.declared.event.Parsed.TheVariants.{CannotCache, NotCom
 use Rattle.sc_model.specs.declared.event.Placing.{Placing}
 use Rattle.sc_model.specs.declared.event.Placing.TheVariants.{Done as PlaceDone, Fault as PlaceFault, Missing}
 use Rattle.sc_model.specs.declared.event.RunAnswer.{RunAnswer}
+use Rattle.sc_model.specs.declared.event.RunOutput.{RunOutput}
 use Rattle.sc_model.specs.declared.event.RunAnswer.TheVariants.{Fault as RanFault, Output as RanOutput, ProcessError as RanError}
 use Rattle.sc_model.specs.declared.event.Status.{Status}
 use Rattle.sc_model.specs.declared.event.Status.TheVariants.{Code, Neither, Signal}
 use Rattle.sc_model.specs.declared.event.Task.{Task}
 use Rattle.sc_model.specs.declared.event.Told.{Told}
 use Rattle.sc_model.specs.declared.event.Told.TheVariants.{Compile as TellsCompile, Dist as TellsDist, Handshake as TellsHandshake, Nothing as TellsNothing, Stats as TellsStats, Valid as TellsValid}
-use Rattle.sc_model.specs.declared.event.Verdict.{Verdict}
-use Rattle.sc_model.specs.declared.event.Verdict.TheVariants.{CacheMiss}
 use Rattle.sc_model.specs.declared.event.What.{What}
 use Rattle.sc_model.specs.declared.event.What.TheVariants.{Asked, Began, Committed, Dist, Filled, Keyed, Outcome, Placed, Ran, Reserved, Sent, TokenTaken, TooLong, WriteEnded, Wrote}
 use Rattle.sc_model.specs.declared.event.Written.TheVariants.{Done as WriteDone, Refused as WriteRefused}
 use Rattle.sc_model.specs.declared.level.Handed.{Handed}
+use Rattle.sc_model.specs.declared.level.Policy.{Policy}
+use Rattle.sc_model.specs.declared.level.Policy.TheVariants.{Levels, Single}
 use Rattle.sc_model.specs.declared.level.Put.{Put}
 use Rattle.sc_model.specs.declared.message.CompileFinished.{CompileFinished}
 use Rattle.sc_entry.specs.declared.get_path_result.GetPathResult.TheVariants.{Unsupported as PathUnsupported}
@@ -66,6 +67,40 @@ broken_is (Code (suc n)) miss c os chain e = (cc)
 broken_is (Signal n) miss c os chain e = (cc)
 broken_is Neither miss c os chain e = (cc)
 
+collected_is : (st : Status) (miss : MissType) (c : Bool) (os : Objects) (xs : List Object) → judge_status st miss c os ≡ IsStored xs → IsCollected os
+collected_is st miss c (Collected ys) xs e = tt
+collected_is (Code zero) ForcedNoCache c (Broken chain) xs e = (cc)
+collected_is (Code zero) _ false (Broken chain) xs e = (cc)
+collected_is (Code zero) _ true (Broken chain) xs e = (cc)
+collected_is (Code (suc n)) miss c (Broken chain) xs e = (cc)
+collected_is (Signal n) miss c (Broken chain) xs e = (cc)
+collected_is Neither miss c (Broken chain) xs e = (cc)
+
+-- what is to be stored is judged so
+cacheable_stored : (miss : MissType) (c : Bool) (xs : List Object) → c ≡ true → (miss ≡ ForcedNoCache → ⊥) → judge_status (Code 0) miss c (Collected xs) ≡ IsStored xs
+cacheable_stored ForcedNoCache c xs e f = absurd (f refl)
+cacheable_stored Normal c xs e f = ap (λ v. judge_cacheable v (Collected xs)) e
+cacheable_stored ForcedRecache c xs e f = ap (λ v. judge_cacheable v (Collected xs)) e
+cacheable_stored TimedOut c xs e f = ap (λ v. judge_cacheable v (Collected xs)) e
+cacheable_stored CacheReadError c xs e f = ap (λ v. judge_cacheable v (Collected xs)) e
+
+judged_stored : (st : Status) (miss : MissType) (c : Bool) (os : Objects) → st ≡ Code 0 → c ≡ true → IsCollected os → (miss ≡ ForcedNoCache → ⊥) → (xs : List Object) × (judge_status st miss c os ≡ IsStored xs)
+judged_stored st miss c (Collected xs) e f h g = (xs, ap (λ v. judge_status v miss c (Collected xs)) e ∙ cacheable_stored miss c xs f g)
+judged_stored st miss c (Broken chain) e f h g = absurd h
+
+-- a lookup makes no miss of the control
+late_not : (late : Bool) (miss : MissType) → (miss ≡ ForcedNoCache → ⊥) → if_late late miss ≡ ForcedNoCache → ⊥
+late_not true miss h e = (cc)
+late_not false miss h e = h e
+
+by_not : (p : Policy) (a : Answer) → by_answer p a ≡ ForcedNoCache → ⊥
+by_not Single (Refused c) e = (cc)
+by_not Single (Hit b mark) e = (cc)
+by_not Single Miss e = (cc)
+by_not Single (FoundAt p) e = (cc)
+by_not Single (SizeIs n c) e = (cc)
+by_not (Levels ps) a e = (cc)
+
 stored_is : (st : Status) (miss : MissType) (c : Bool) (os : Objects) (xs : List Object) → judge_status st miss c os ≡ IsStored xs → st ≡ Code 0
 stored_is (Code zero) miss c os xs e = refl
 stored_is (Code (suc n)) miss c os xs e = (cc)
@@ -79,10 +114,6 @@ stats_over _ info = tt
 sized_is : (own : List Own) (m j : ℕ) (k : List ℕ) (mode : Mode) (a : Answer) (hs : List Handed) → sized (At m (Asked j k mode a hs) ∷ own) ≡ with_size (sized own) a
 sized_is own m j k mode (SizeIs n c) hs = refl
 sized_is own m j k mode _ hs = refl
-
-not_storable : (own : List Own) (m : ℕ) (v : Verdict) (t : Task) → NotMiss v → IsStorable (At m (Outcome v t) ∷ own) → ⊥
-not_storable own m (CacheMiss miss dist d) t h i = h
-not_storable own m _ t h i = i
 
 module _ (s : Setup) where
   put_compile : (r : Request) (own : List Own) (k b : List ℕ) → IsCompile r → (job_of own).found.key ≡ k → HasRun s b own → PutBy s r own k b
@@ -98,26 +129,31 @@ module _ (s : Setup) where
   ends_same r own own2 None e n i h = h
   ends_same r own own2 (Some ending) e n i h = record { compile = h.compile; last_is = e ∙ h.last_is; notes_are = n ∙ h.notes_are; carries = i ending.last h.carries }
 
-  work_keeps : (r : Request) (own : List Own) (job : Job) (miss : MissType) (m : ℕ) → HasJob r own job → miss_of s r own ≡ miss → work_from own ≡ m → dist_of own ≡ NoDist → Keeps s r own (work_phase job miss m)
-  work_keeps r own job miss m h e f d =
-      keeps_cond s r own job.client (AtDist (work_of job miss m)) (AtTake (work_of job miss m)) (record { has = h; miss_is = e; from_is = f; dist_is = d }) (record { has = h; miss_is = e; from_is = f; dist_is = d })
+  work_keeps : (r : Request) (own : List Own) (job : Job) (miss : MissType) (m : ℕ) → HasJob r own job → miss_of s r own ≡ miss → work_from own ≡ m → dist_of own ≡ NoDist → (miss ≡ ForcedNoCache → asks_store (control r job.first) ≡ false)
+      → Keeps s r own (work_phase job miss m)
+  work_keeps r own job miss m h e f d g =
+      keeps_cond s r own job.client (AtDist (work_of job miss m)) (AtTake (work_of job miss m)) (record { has = h; miss_is = e; from_is = f; dist_is = d; forced = g }) (record { has = h; miss_is = e; from_is = f; dist_is = d; forced = g })
 
-  missed_keeps : (r : Request) (own : List Own) (job : Job) (miss : MissType) (m : ℕ) → HasJob r own job → miss_of s r own ≡ miss → work_from own ≡ m → dist_of own ≡ NoDist → Keeps s r own (missed_phase job miss m)
-  missed_keeps r own job miss m h e f d =
-      keeps_cond s r own (not job.found.locally_preprocessed && job.client) (AtKey job.task false) (work_phase job miss m) (h.compile, h.task_is) (work_keeps r own job miss m h e f d)
+  missed_keeps : (r : Request) (own : List Own) (job : Job) (miss : MissType) (m : ℕ) → HasJob r own job → miss_of s r own ≡ miss → work_from own ≡ m → dist_of own ≡ NoDist → (miss ≡ ForcedNoCache → ⊥)
+      → Keeps s r own (missed_phase job miss m)
+  missed_keeps r own job miss m h e f d g =
+      keeps_cond s r own (not job.found.locally_preprocessed && job.client) (AtKey job.task false) (work_phase job miss m) (h.compile, h.task_is) (work_keeps r own job miss m h e f d (λ z. absurd (g z)))
 
-  control_keeps : (r : Request) (own : List Own) (c : Control) (job : Job) (m : ℕ) → HasJob r own job → miss_of s r own ≡ forced c → work_from own ≡ m → dist_of own ≡ NoDist → Keeps s r own (control_phase s c job m)
-  control_keeps r own Default job m h e f d = keeps_cond s r own (nat_lt 0 (length s.levels)) (AtAsk job 0) (missed_phase job Normal m) h (missed_keeps r own job Normal m h e f d)
-  control_keeps r own ForceNoCache job m h e f d = work_keeps r own job ForcedNoCache m h e f d
-  control_keeps r own ForceRecache job m h e f d = work_keeps r own job ForcedRecache m h e f d
+  control_keeps : (r : Request) (own : List Own) (c : Control) (job : Job) (m : ℕ) → HasJob r own job → miss_of s r own ≡ forced c → work_from own ≡ m → dist_of own ≡ NoDist → control r job.first ≡ c → Keeps s r own (control_phase s c job m)
+  control_keeps r own Default job m h e f d g = keeps_cond s r own (nat_lt 0 (length s.levels)) (AtAsk job 0) (missed_phase job Normal m) h (missed_keeps r own job Normal m h e f d (λ z. (cc)))
+  control_keeps r own ForceNoCache job m h e f d g = work_keeps r own job ForcedNoCache m h e f d (λ z. ap asks_store g)
+  control_keeps r own ForceRecache job m h e f d g = work_keeps r own job ForcedRecache m h e f d (λ z. (cc))
 
   key_keeps : (r : Request) (own : List Own) (task : Task) (m : ℕ) (first client : Bool) (step : KeyStep) → IsCompile r → task_of own ≡ task → Keeps s r (At m (Keyed first client step) ∷ own) (key_phase s r task m first client step)
   key_keeps r own task m first client (Key found) h e =
       let own2 = At m (Keyed first client (Key found)) ∷ own in
       let job : Job = record { task = task; found = found; at = m; client = client; first = first } in
-      control_keeps r own2 (control r first) job m (record { compile = h; job_is = ap (λ (v : Task). record { task = v; found = found; at = m; client = client; first = first }) e; task_is = e }) refl refl refl
-  key_keeps r own task m first client (KeyError out) h e = (tt, record { compile = h; last_is = refl; notes_are = refl; carries = inl (inl (inl refl)) })
-  key_keeps r own task m first client (KeyFault chain) h e = (tt, record { compile = h; last_is = refl; notes_are = refl; carries = inr (inl refl) })
+      control_keeps r own2 (control r first) job m (record { compile = h; job_is = ap (λ (v : Task). record { task = v; found = found; at = m; client = client; first = first }) e; task_is = e }) refl refl refl refl
+  key_keeps r own task m first client (KeyError out) h e = (tt, record { compile = h; last_is = refl; notes_are = refl; carries = inl (inl (inl refl)) }, λ i. i)
+  key_keeps r own task m first client (KeyFault chain) h e = (tt, record { compile = h; last_is = refl; notes_are = refl; carries = inr (inl refl) }, λ i. i)
+
+  asked_not : (job : Job) (m : ℕ) (a : Answer) → asked_miss s job m a ≡ ForcedNoCache → ⊥
+  asked_not job m a e = late_not (is_late job m) (by_answer s.policy a) (by_not s.policy a) e
 
   whole_keeps : (r : Request) (own : List Own) (job : Job) (m l j : ℕ) (k : List ℕ) (mode : Mode) (a : Answer) (hs : List Handed) → HasJob r own job → k ≡ job.found.key → mode ≡ Whole → Keeps s r (At m (Asked j k mode a hs) ∷ own) (whole_phase s job m l a)
   whole_keeps r own job m l j k mode a hs h ek em =
@@ -130,34 +166,41 @@ module _ (s : Setup) where
       pick_one (Hit b mark) has miss =
           let own2 = At m (Asked j k mode (Hit b mark) hs) ∷ own in
           keeps_cond s r own2 (is_late job m) (missed_phase job (asked_miss s job m (Hit b mark)) m) (AtPlace job b (m - job.at))
-          (missed_keeps r own2 job (asked_miss s job m (Hit b mark)) m has miss refl refl)
-          (has, refl, ap (λ v. m - v.at) h.job_is, subst (λ v. HasHit job.found.key b (At m (Asked j k v (Hit b mark) hs) ∷ own)) (sym em) (inl (ek, refl)))
+          (missed_keeps r own2 job (asked_miss s job m (Hit b mark)) m has miss refl refl (asked_not job m (Hit b mark)))
+          (has, refl, ap (λ v. m - v.at) h.job_is, subst (λ v. HasHit job.found.key b (At m (Asked j k v (Hit b mark) hs) ∷ own)) (sym em) (ek, refl))
       pick_one Miss has miss =
           let own2 = At m (Asked j k mode Miss hs) ∷ own in
-          keeps_cond s r own2 (nat_lt (suc l) (length s.levels)) (AtAsk job (suc l)) (missed_phase job (asked_miss s job m Miss) m) has (missed_keeps r own2 job (asked_miss s job m Miss) m has miss refl refl)
+          keeps_cond s r own2 (nat_lt (suc l) (length s.levels)) (AtAsk job (suc l)) (missed_phase job (asked_miss s job m Miss) m) has (missed_keeps r own2 job (asked_miss s job m Miss) m has miss refl refl (asked_not job m Miss))
       pick_one (Refused c) has miss =
           let own2 = At m (Asked j k mode (Refused c) hs) ∷ own in
-          keeps_cond s r own2 (nat_lt (suc l) (length s.levels)) (AtAsk job (suc l)) (missed_phase job (asked_miss s job m (Refused c)) m) has (missed_keeps r own2 job (asked_miss s job m (Refused c)) m has miss refl refl)
+          keeps_cond s r own2 (nat_lt (suc l) (length s.levels)) (AtAsk job (suc l)) (missed_phase job (asked_miss s job m (Refused c)) m) has (missed_keeps r own2 job (asked_miss s job m (Refused c)) m has miss refl refl (asked_not job m (Refused c)))
       pick_one (FoundAt p) has miss =
           let own2 = At m (Asked j k mode (FoundAt p) hs) ∷ own in
-          keeps_cond s r own2 (nat_lt (suc l) (length s.levels)) (AtAsk job (suc l)) (missed_phase job (asked_miss s job m (FoundAt p)) m) has (missed_keeps r own2 job (asked_miss s job m (FoundAt p)) m has miss refl refl)
+          keeps_cond s r own2 (nat_lt (suc l) (length s.levels)) (AtAsk job (suc l)) (missed_phase job (asked_miss s job m (FoundAt p)) m) has (missed_keeps r own2 job (asked_miss s job m (FoundAt p)) m has miss refl refl (asked_not job m (FoundAt p)))
       pick_one (SizeIs n c) has miss =
           let own2 = At m (Asked j k mode (SizeIs n c) hs) ∷ own in
-          keeps_cond s r own2 (nat_lt (suc l) (length s.levels)) (AtAsk job (suc l)) (missed_phase job (asked_miss s job m (SizeIs n c)) m) has (missed_keeps r own2 job (asked_miss s job m (SizeIs n c)) m has miss refl refl)
+          keeps_cond s r own2 (nat_lt (suc l) (length s.levels)) (AtAsk job (suc l)) (missed_phase job (asked_miss s job m (SizeIs n c)) m) has (missed_keeps r own2 job (asked_miss s job m (SizeIs n c)) m has miss refl refl (asked_not job m (SizeIs n c)))
 
   placed_keeps : (r : Request) (own : List Own) (job : Job) (b : List ℕ) (d m : ℕ) (p : Placing) → HasJob r own job → hit_of own ≡ b → HasHit job.found.key b own → Keeps s r (At m (Placed p) ∷ own) (placed_phase s r job b d m p)
   placed_keeps r own job b d m PlaceDone h e hit =
-      (tt, record { compile = h.compile; last_is = ap (finish_hit s r) e; notes_are = refl; carries = inl (inr (b, subst (λ v. HasHit v.found.key b own) (sym h.job_is) hit, refl)) })
+      (tt, record { compile = h.compile; last_is = ap (finish_hit s r) e; notes_are = refl; carries = inl (inr (b, subst (λ v. HasHit v.found.key b own) (sym h.job_is) hit, refl)) }, λ i. i)
   placed_keeps r own job b d m (Missing name) h e hit =
-      missed_keeps r (At m (Placed (Missing name)) ∷ own) job CacheReadError m (record { compile = h.compile; job_is = h.job_is; task_is = h.task_is }) refl refl refl
-  placed_keeps r own job b d m (PlaceFault chain) h e hit = (tt, record { compile = h.compile; last_is = refl; notes_are = refl; carries = inr (inl refl) })
+      missed_keeps r (At m (Placed (Missing name)) ∷ own) job CacheReadError m (record { compile = h.compile; job_is = h.job_is; task_is = h.task_is }) refl refl refl (λ z. (cc))
+  placed_keeps r own job b d m (PlaceFault chain) h e hit = (tt, record { compile = h.compile; last_is = refl; notes_are = refl; carries = inr (inl refl) }, λ i. i)
 
-  judged_keeps : (r : Request) (own : List Own) (j : Judged) (miss : MissType) (dist : DistType) (d : ℕ) (task : Task) (b : Bytes) (ending : Ending) → Ends s r own ending → ((xs : List Object) → j ≡ IsStored xs → (bytes_of s r own ≡ b) × PutBy s r own b.key b.bytes) → Keeps s r own (judged_phase j (judged_verdict j miss dist d) task b ending)
-  judged_keeps r own (IsStored xs) miss dist d task b ending e h = let p = h xs refl in (tt, e, p.0, p.1)
-  judged_keeps r own IsFailed miss dist d task b ending e h = (tt, e)
-  judged_keeps r own IsNotCached miss dist d task b ending e h = (tt, e)
-  judged_keeps r own IsNotCacheable miss dist d task b ending e h = (tt, e)
-  judged_keeps r own (IsBroken chain) miss dist d task b ending e h = (tt, e)
+  judged_keeps : (r : Request) (own : List Own) (j : Judged) (miss : MissType) (dist : DistType) (d : ℕ) (task : Task) (b : Bytes) (ending : Ending) → Ends s r own ending → ((xs : List Object) → j ≡ IsStored xs → (bytes_of s r own ≡ b) × PutBy s r own b.key b.bytes)
+      → (IsStorable r own → (xs : List Object) × (j ≡ IsStored xs)) → Keeps s r own (judged_phase j (judged_verdict j miss dist d) task b ending)
+  judged_keeps r own (IsStored xs) miss dist d task b ending e h k = let p = h xs refl in (tt, e, p.0, p.1)
+  judged_keeps r own IsFailed miss dist d task b ending e h k = (tt, e, λ i. let q = (k i).1 in (cc))
+  judged_keeps r own IsNotCached miss dist d task b ending e h k = (tt, e, λ i. let q = (k i).1 in (cc))
+  judged_keeps r own IsNotCacheable miss dist d task b ending e h k = (tt, e, λ i. let q = (k i).1 in (cc))
+  judged_keeps r own (IsBroken chain) miss dist d task b ending e h k = (tt, e, λ i. let q = (k i).1 in (cc))
+
+  -- a run that is to be stored is judged so
+  kept_stored : (r : Request) (own : List Own) (work : Work) (out : RunOutput) → HasWork s r own work → IsKept r (job_of own) out → (xs : List Object) × (judge work.job work.miss out ≡ IsStored xs)
+  kept_stored r own work out h i =
+      let k = subst (λ v. IsKept r v out) h.has.job_is i in
+      judged_stored out.output.status work.miss work.job.found.cacheable out.objects k.0 k.1 k.2 (λ z. let a = h.forced z in let b = k.3 in (cc))
 
   judged_carries : (r : Request) (j : Judged) (out : Output) (os : Objects) → ((chain : List (List ℕ)) → j ≡ IsBroken chain → os ≡ Broken chain) → (finish_judged s r j out ≡ finish_output s r out) ⊎ ((chain : List (List ℕ)) × (os ≡ Broken chain) × (finish_judged s r j out ≡ finish_fatal s r chain))
   judged_carries r (IsBroken chain) out os h = inr (chain, h chain refl, refl)
@@ -181,9 +224,10 @@ module _ (s : Setup) where
             (λ (e : (chain : List (List ℕ)) × (out.objects ≡ Broken chain) × (finish_judged s r j out.output ≡ finish_fatal s r chain)). inr (inl e))
             (judged_carries r j out.output out.objects (λ chain e. broken_is out.output.status work.miss work.job.found.cacheable out.objects chain e));
       })
-      (λ xs e. (ap (λ v. run_bytes s v true out) job, put_compile r own2 work.job.found.key (entry_of s out) h.has.compile (ap (λ v. v.found.key) job) (inl (stored_is out.output.status work.miss work.job.found.cacheable out.objects xs e, refl))))
-  ran_keeps r own work m (RanError out) h = (tt, record { compile = h.has.compile; last_is = refl; notes_are = ap (λ v. run_notes s r v (RanError out)) h.has.task_is; carries = inl (inl (inl refl)) })
-  ran_keeps r own work m (RanFault chain) h = (tt, record { compile = h.has.compile; last_is = refl; notes_are = ap (λ v. run_notes s r v (RanFault chain)) h.has.task_is; carries = inr (inl refl) })
+      (λ xs e. (ap (λ v. run_bytes s v true out) job, put_compile r own2 work.job.found.key (entry_of s out) h.has.compile (ap (λ v. v.found.key) job) (inl (stored_is out.output.status work.miss work.job.found.cacheable out.objects xs e, collected_is out.output.status work.miss work.job.found.cacheable out.objects xs e, refl))))
+      (kept_stored r own work out h)
+  ran_keeps r own work m (RanError out) h = (tt, record { compile = h.has.compile; last_is = refl; notes_are = ap (λ v. run_notes s r v (RanError out)) h.has.task_is; carries = inl (inl (inl refl)) }, λ i. i)
+  ran_keeps r own work m (RanFault chain) h = (tt, record { compile = h.has.compile; last_is = refl; notes_are = ap (λ v. run_notes s r v (RanFault chain)) h.has.task_is; carries = inr (inl refl) }, λ i. i)
 
   dist_keeps : (r : Request) (own : List Own) (work : Work) (m : ℕ) (d : DistAnswer) → HasWork s r own work → Keeps s r (At m (Dist d) ∷ own) (dist_phase s r work m d)
   dist_keeps r own work m (DistDone server out) h =
@@ -200,10 +244,11 @@ module _ (s : Setup) where
             (λ (e : (chain : List (List ℕ)) × (out.objects ≡ Broken chain) × (finish_judged s r j out.output ≡ finish_fatal s r chain)). inr (inl e))
             (judged_carries r j out.output out.objects (λ chain e. broken_is out.output.status work.miss work.job.found.cacheable out.objects chain e));
       })
-      (λ xs e. (ap (λ v. run_bytes s v false out) job, put_compile r own2 work.job.found.key (entry_of s out) h.has.compile (ap (λ v. v.found.key) job) (inl (stored_is out.output.status work.miss work.job.found.cacheable out.objects xs e, refl))))
-  dist_keeps r own work m (DistHttp text) h = (tt, record { compile = h.has.compile; last_is = refl; notes_are = refl; carries = inr (inl refl) })
-  dist_keeps r own work m (DistTooLarge text) h = (tt, record { compile = h.has.compile; last_is = refl; notes_are = refl; carries = inr (inl refl) })
-  dist_keeps r own work m (DistOther text) h = record { has = record { compile = h.has.compile; job_is = h.has.job_is; task_is = h.has.task_is }; miss_is = h.miss_is; from_is = h.from_is; dist_is = refl }
+      (λ xs e. (ap (λ v. run_bytes s v false out) job, put_compile r own2 work.job.found.key (entry_of s out) h.has.compile (ap (λ v. v.found.key) job) (inl (stored_is out.output.status work.miss work.job.found.cacheable out.objects xs e, collected_is out.output.status work.miss work.job.found.cacheable out.objects xs e, refl))))
+      (kept_stored r own work out h)
+  dist_keeps r own work m (DistHttp text) h = (tt, record { compile = h.has.compile; last_is = refl; notes_are = refl; carries = inr (inl refl) }, λ i. i)
+  dist_keeps r own work m (DistTooLarge text) h = (tt, record { compile = h.has.compile; last_is = refl; notes_are = refl; carries = inr (inl refl) }, λ i. i)
+  dist_keeps r own work m (DistOther text) h = record { has = record { compile = h.has.compile; job_is = h.has.job_is; task_is = h.has.task_is }; miss_is = h.miss_is; from_is = h.from_is; dist_is = refl; forced = h.forced }
 
   begin_keeps : (r : Request) (q : Request) (told : Told) (own : List Own) (m : ℕ) → own ≡ [] → Begins s r told → Keeps s r (At m (Began q told) ∷ own) (begin_phase s r told)
   begin_keeps (Compile c) q (TellsCompile (Started task)) own m e b = (tt, refl)
@@ -255,10 +300,10 @@ module _ (s : Setup) where
   keeps_step r own (AtAsk job l) m (Asked j k mode a hs) kp f = whole_keeps r own job m l j k mode a hs kp f.1 f.2
   keeps_step r own (AtPlace job b d) m (Placed p) kp f = placed_keeps r own job b d m p kp.0 kp.1 kp.3
   keeps_step r own (AtDist work) m (Dist d) kp f = dist_keeps r own work m d kp
-  keeps_step r own (AtTake work) m TokenTaken kp f = record { has = record { compile = kp.has.compile; job_is = kp.has.job_is; task_is = kp.has.task_is }; miss_is = kp.miss_is; from_is = kp.from_is; dist_is = kp.dist_is }
+  keeps_step r own (AtTake work) m TokenTaken kp f = record { has = record { compile = kp.has.compile; job_is = kp.has.job_is; task_is = kp.has.task_is }; miss_is = kp.miss_is; from_is = kp.from_is; dist_is = kp.dist_is; forced = kp.forced }
   keeps_step r own (AtRun work) m (Ran a) kp f = ran_keeps r own work m a kp
   keeps_step r own (AtEnd v task ending) m (Outcome w t) kp f =
-      record { compile = kp.1.compile; last_is = kp.1.last_is; carries = kp.1.carries; stores = λ i. absurd (not_storable own m w t (subst NotMiss (sym f.0) kp.0) i) }
+      record { compile = kp.1.compile; last_is = kp.1.last_is; carries = kp.1.carries; stores = λ i. absurd (kp.2 i) }
   keeps_step r own (AtStore v task b ending) m (Outcome w t) kp f =
       (refl, refl, kp.2, put_same r own (At m (Outcome w t) ∷ own) b.key b.bytes refl (λ h. h) kp.3, record { compile = kp.1.compile; last_is = kp.1.last_is; notes_are = kp.1.notes_are; carries = kp.1.carries })
   keeps_step r own (AtWrite b (l ∷ ls) g ending) m (Reserved j k n WriteDone) kp f = (
@@ -267,6 +312,7 @@ module _ (s : Setup) where
     kp.2,
     put_same r own (At m (Reserved j k n WriteDone) ∷ own) b.key b.bytes refl (λ h. h) kp.3,
     ends_same r own (At m (Reserved j k n WriteDone) ∷ own) ending refl refl (λ v h. h) kp.4,
+    refl,
   )
   keeps_step r own (AtWrite b (l ∷ ls) g ending) m (Reserved j k n (WriteRefused c)) kp f =
       let own2 = At m (Reserved j k n (WriteRefused c)) ∷ own in
@@ -289,7 +335,7 @@ module _ (s : Setup) where
   keeps_step r own (AtWrite b (l ∷ ls) g ending) m x kp f = absurd (start_is s r (kind_at s.levels l) l b x f)
   keeps_step r own (AtWrite b [] g ending) m (WriteEnded put hs) kp f = finish_keeps r own ending m put hs kp.0 kp.4
   keeps_step r own (AtFill b l ls g ending) m (Filled j k d mark WriteDone) kp f =
-      (kp.0, kp.1, kp.2, put_same r own (At m (Filled j k d mark WriteDone) ∷ own) b.key b.bytes refl (λ h. h) kp.3, ends_same r own (At m (Filled j k d mark WriteDone) ∷ own) ending refl refl (λ v h. h) kp.4)
+      (kp.0, kp.1, kp.2, put_same r own (At m (Filled j k d mark WriteDone) ∷ own) b.key b.bytes refl (λ h. h) kp.3, ends_same r own (At m (Filled j k d mark WriteDone) ∷ own) ending refl refl (λ v h. h) kp.4, ap (λ v. after_fill v mark) kp.5 ∙ f.3)
   keeps_step r own (AtFill b l ls g ending) m (Filled j k d mark (WriteRefused c)) kp f =
       let own2 = At m (Filled j k d mark (WriteRefused c)) ∷ own in
       let e = note_is s own g j l c kp.1 f.0 in

@@ -5,8 +5,8 @@ use Rattle.sc_model.proofs.Conns.{ConnTie, conn_came, conn_did, conn_shut, curre
 use Rattle.sc_model.proofs.Counters.{length_set, policy_length, policy_row, row_back}
 use Rattle.sc_model.proofs.Tokens.{Opens, opened_keeps, opened_own, tokens_step}
 use Rattle.sc_model.specs.Follows.{Fits, ToRun, ToTake, due, due_back}
-use Rattle.sc_model.specs.Job.{At}
-use Rattle.sc_model.specs.Machine.{Conn, DoesBack, DoesPass, DoesRead, DoesServe, DoesStep, IsStopped, Machine, NoMore, Says, advanced, backed, conn, counters_at, current, due_at, given_of, more, new_conn, pending_at, served, shut}
+use Rattle.sc_model.specs.Job.{At, fills_of}
+use Rattle.sc_model.specs.Machine.{Conn, DoesBack, DoesPass, DoesRead, DoesServe, DoesStep, IsStopped, Machine, NoMore, Says, advanced, backed, conn, counters_at, current, due_at, due_pending, given_of, more, new_conn, pending_at, served, shut}
 use Rattle.sc_model.specs.Next.{Ended, HasEnded, IsDone, IsFirst, NextBack, NextPass, NextRead, NextServe, NextStep, Tells, Waits, at_moment, due_of}
 use Rattle.sc_model.specs.Rows.{Direct, by_backfill, count, find_given, is_at, last_at, level_named, level_row, level_total, outcome_at, put_origin, reserved_since, row, total, zeroes}
 use Rattle.sc_model.specs.Script.{BadFrame, ReadsOn, Script, Setup, input, is_single}
@@ -78,7 +78,7 @@ pub record Tie (s : Script) (t : List Event) (m : Machine) : Type 0 where
 
 stages_same : (s : Setup) (t : List Event) (e : Event) (ps : List Pending) → ((i : ℕ) → written i (e ∷ t) ≡ written i t) → Stages s t ps → Stages s (e ∷ t) ps
 stages_same s t e [] w h = tt
-stages_same s t e (p ∷ ps) w h = (ap (due_back s.levels p.handed) (w p.number) ∙ h.0, ap reserved_since (w p.number) ∙ h.1, stages_same s t e ps w h.2)
+stages_same s t e (p ∷ ps) w h = (ap (due_back s.levels p.handed) (w p.number) ∙ h.0, ap reserved_since (w p.number) ∙ h.1, ap fills_of (w p.number) ∙ h.2, stages_same s t e ps w h.3)
 
 -- nothing is handed, and nothing done
 back_quiet : (s : Setup) (t : List Event) (e : Event) (ps : List Pending) (n : ℕ) → ((i : ℕ) → written i (e ∷ t) ≡ written i t) → left_writes (e ∷ t) ≡ left_writes t → given (e ∷ t) ≡ given t → BackTie s t ps n → BackTie s (e ∷ t) ps n
@@ -206,9 +206,9 @@ module _ (s : Script) (t : List Event) (m : Machine) (h : Tie s t m) where
       let l = above_at q.number i qs p a.0 e in
       ap (λ b. cond b (by_backfill q.backfill q.at) (find_given p.number (map given_of qs))) (ne_eqb q.number p.number (λ z. omega (arith, l, z))) ∙ find_at i qs p e a.1
 
-  tie_backed : (i z : ℕ) (p : Pending) (x : What) (w : World) → pending_at i m.background ≡ Some p → IsWrite x
+  tie_backed : (i z : ℕ) (p : Pending) (x : What) (w : World) → pending_at i m.background ≡ Some p → IsWrite x → Fits s.setup no_request (due_pending s.setup.levels p) x
       → Tie s (record { moment = z; owner = OfWrite p.number; what = x } ∷ t) (backed s.setup m i p z x w)
-  tie_backed i z p x w e iw =
+  tie_backed i z p x w e iw f =
       let origin : put_origin (OfWrite p.number) t ≡ by_backfill p.backfill p.at = ap (find_given p.number) (sym h.back.same) ∙ find_at i m.background p e h.back.apart in
       let since = (back_due s.setup t m.background m.handed i p h.back e).1 in
       record {
@@ -218,7 +218,7 @@ module _ (s : Script) (t : List Event) (m : Machine) (h : Tie s t m) where
         stats = h.stats;
         opens = h.opens;
         reserved = ap (reserved_by (OfWrite p.number) x) h.reserved;
-        back = back_step s.setup t m.background m.handed i z x p e iw h.back;
+        back = back_step s.setup t m.background m.handed i z x p e iw f h.back;
         levels = record {
           same_length = policy_length s.setup.policy (level_row (by_backfill p.backfill p.at) 0 p.since z x) x m.level_stats ∙ h.levels.same_length;
           is = λ q l. policy_row s.setup.policy x m.level_stats (length s.setup.levels) l (level_row (by_backfill p.backfill p.at) 0 p.since z x) (level_total s t l) q h.levels.same_length (h.levels.is q l)
@@ -323,7 +323,7 @@ module _ (s : Script) (t : List Event) (m : Machine) (h : Tie s t m) where
       let d = (back_due s.setup t m.background m.handed i p h.back g.1).0 in
       let f : Fits s.setup no_request (due_back s.setup.levels p.handed (written p.number t)) x = subst (λ v. Fits s.setup no_request v x) (sym d) g.3 in (
         (given_of p, back_nth s.setup t m.background m.handed i p h.back g.1, g.2, subst (λ v. Fits s.setup no_request (due_back s.setup.levels p.handed (written v t)) x) (sym g.2) f),
-        subst (λ v. Tie s (record { moment = z; owner = OfWrite v; what = x } ∷ t) m2) (sym g.2) (subst (λ v. Tie s (record { moment = z; owner = OfWrite p.number; what = x } ∷ t) v) (sym g.4.2) (tie_backed i z p x g.4.0 g.1 (pending_writes s.setup p x g.3))),
+        subst (λ v. Tie s (record { moment = z; owner = OfWrite v; what = x } ∷ t) m2) (sym g.2) (subst (λ v. Tie s (record { moment = z; owner = OfWrite p.number; what = x } ∷ t) v) (sym g.4.2) (tie_backed i z p x g.4.0 g.1 (pending_writes s.setup p x g.3) g.3)),
       )
   back_does i z _ x m2 g = absurd g
 

@@ -15,7 +15,7 @@ use Rattle.sc_model.specs.Plan.{backfilled, backfills, background, goes_on, hand
 use Rattle.sc_model.specs.Rows.{level_named}
 use Rattle.sc_model.specs.Script.{Script}
 use Rattle.sc_model.specs.Trace.{Given, about, all, drop_done, drop_given, ends_write, given, hands, left_writes, no_request, numbered, owned, request, written}
-use Rattle.sc_model.specs.World.{Answers, Answers_raw, Answers_whole, Level, Moves, MovesAt, MovesBegan, MovesLevel, MovesOutcome, MovesPlaced, Need, World, held, level_at, no_level_held}
+use Rattle.sc_model.specs.World.{Answers, Answers_raw, Answers_whole, Level, Moves, MovesAt, MovesLevel, Need, World, held, level_at, no_level_held, MovesLevels}
 use Rattle.sc_model.specs.declared.event.Answer.{Answer}
 use Rattle.sc_model.specs.declared.event.Answer.TheVariants.{Hit}
 use Rattle.sc_model.specs.declared.event.Event.{Event}
@@ -23,16 +23,10 @@ use Rattle.sc_model.specs.declared.event.Mode.{Mode}
 use Rattle.sc_model.specs.declared.event.Mode.TheVariants.{Raw, Whole}
 use Rattle.sc_model.specs.declared.event.Owner.{Owner}
 use Rattle.sc_model.specs.declared.event.Owner.TheVariants.{Nobody, Request as OfRequest, Write as OfWrite}
-use Rattle.sc_model.specs.declared.event.Placing.{Placing}
-use Rattle.sc_model.specs.declared.event.Placing.TheVariants.{Done as PlaceDone, Fault as PlaceFault, Missing}
 use Rattle.sc_model.specs.declared.event.Step.{Step}
 use Rattle.sc_model.specs.declared.event.Step.TheVariants.{Back, Pass, Read, Serve}
-use Rattle.sc_model.specs.declared.event.Told.{Told}
-use Rattle.sc_model.specs.declared.event.Told.TheVariants.{Dist as TellsDist}
-use Rattle.sc_model.specs.declared.event.Verdict.{Verdict}
-use Rattle.sc_model.specs.declared.event.Verdict.TheVariants.{Http as HttpError}
 use Rattle.sc_model.specs.declared.event.What.{What}
-use Rattle.sc_model.specs.declared.event.What.TheVariants.{Asked, Began, Committed, Dist, Filled, Keyed, Outcome, Placed, Ran, Reserved, WriteEnded, Wrote}
+use Rattle.sc_model.specs.declared.event.What.TheVariants.{Asked, Committed, Filled, Reserved, WriteEnded, Wrote}
 use Rattle.sc_model.specs.declared.event.Written.TheVariants.{Done as WriteDone}
 use Rattle.sc_model.specs.declared.level.Handed.{Handed}
 use Rattle.sc_model.specs.declared.level.Put.{Put}
@@ -149,48 +143,29 @@ module _ (s : Script) where
 
   -- what levels held after an event they held before, or it put it there
   world_held : (n : Need) (z : ℕ → ℕ) (x : What) (w w2 : World) (l : ℕ) (k b : List ℕ) → IsStoreKey k → Moves s.setup n z x w w2 → held (kind_at s.setup.levels l) (level_at w2 l) k ≡ Some b → (held (kind_at s.setup.levels l) (level_at w l) k ≡ Some b) ⊎ ((level_named x ≡ Some l) × PutsAt x k b)
-  world_held n z x w w2 l k b st m e = by_kind x m
+  world_held n z x w w2 l k b st m e = by_kind x m.levels
     where
-      at_level : (j : ℕ) (x : What) → level_named x ≡ Some j → MovesAt s.setup j (z j) x w w2 → (held (kind_at s.setup.levels l) (level_at w l) k ≡ Some b) ⊎ ((level_named x ≡ Some l) × PutsAt x k b)
+      at_level : (j : ℕ) (x : What) → level_named x ≡ Some j → MovesAt s.setup j (z j) n.mark x w w2 → (held (kind_at s.setup.levels l) (level_at w l) k ≡ Some b) ⊎ ((level_named x ≡ Some l) × PutsAt x k b)
       at_level j x nm h =
-          let e2 : held (kind_at s.setup.levels l) (get_or (set w.levels j h.0) l no_level_held) k ≡ Some b = subst (λ v. held (kind_at s.setup.levels l) (level_at v l) k ≡ Some b) h.2 e in
+          let e2 : held (kind_at s.setup.levels l) (get_or (set w.levels j h.0) l no_level_held) k ≡ Some b = subst (λ v. held (kind_at s.setup.levels l) (get_or v l no_level_held) k ≡ Some b) h.2 e in
           ⊎_elim (λ (y : get_or (set w.levels j h.0) l no_level_held ≡ get_or w.levels l no_level_held). inl (subst (λ v. held (kind_at s.setup.levels l) v k ≡ Some b) y e2))
           (λ (y : (j ≡ l) × (get_or (set w.levels j h.0) l no_level_held ≡ h.0)).
           let e3 : held (kind_at s.setup.levels l) h.0 k ≡ Some b = subst (λ v. held (kind_at s.setup.levels l) v k ≡ Some b) y.1 e2 in
-          let mv : MovesLevel s.setup (level_facts s.setup.levels l) (z j) x (level_at w l) h.0 = subst (λ v. MovesLevel s.setup (level_facts s.setup.levels v) (z j) x (level_at w v) h.0) y.0 h.1 in
+          let mv : MovesLevel s.setup (level_facts s.setup.levels l) (z j) n.mark x (level_at w l) h.0 = subst (λ v. MovesLevel s.setup (level_facts s.setup.levels v) (z j) n.mark x (level_at w v) h.0) y.0 h.1 in
           ⊎_elim (λ (q : held (kind_at s.setup.levels l) (level_at w l) k ≡ Some b). inl q) (λ (q : PutsAt x k b). inr (nm ∙ ap Some y.0, q))
-          (level_held s.setup (level_facts s.setup.levels l) (z j) x (level_at w l) h.0 k b st mv e3))
+          (level_held s.setup (level_facts s.setup.levels l) (z j) n.mark x (level_at w l) h.0 k b st mv e3))
           (set_cases w.levels j h.0 no_level_held l)
 
       stays : w2.levels ≡ w.levels → held (kind_at s.setup.levels l) (level_at w l) k ≡ Some b
       stays q = subst (λ v. held (kind_at s.setup.levels l) (get_or v l no_level_held) k ≡ Some b) q e
 
-      began : (told : Told) → MovesBegan s.setup told w w2 → w2.levels ≡ w.levels
-      began (TellsDist info) h = ap (λ v. v.levels) h.7
-      began _ h = ap (λ v. v.levels) h
-
-      ended : (v : Verdict) → MovesOutcome v w w2 → w2.levels ≡ w.levels
-      ended HttpError h = ap (λ v. v.levels) h
-      ended _ h = ap (λ v. v.levels) h
-
-      placed : (p : Placing) → MovesPlaced s.setup n p w w2 → w2.levels ≡ w.levels
-      placed (Missing name) h = ap (λ v. v.levels) h.1
-      placed PlaceDone h = ap (λ v. v.levels) h.2
-      placed (PlaceFault chain) h = ap (λ v. v.levels) h.2.3
-
-      by_kind : (x : What) → Moves s.setup n z x w w2 → (held (kind_at s.setup.levels l) (level_at w l) k ≡ Some b) ⊎ ((level_named x ≡ Some l) × PutsAt x k b)
+      by_kind : (x : What) → MovesLevels s.setup n z x w w2 → (held (kind_at s.setup.levels l) (level_at w l) k ≡ Some b) ⊎ ((level_named x ≡ Some l) × PutsAt x k b)
       by_kind (Asked j i mode a hs) h = at_level j (Asked j i mode a hs) refl h
       by_kind (Reserved j i y how) h = at_level j (Reserved j i y how) refl h
       by_kind (Filled j i d mark how) h = at_level j (Filled j i d mark how) refl h
       by_kind (Committed j i d how) h = at_level j (Committed j i d how) refl h
       by_kind (Wrote j i d mode mark how) h = at_level j (Wrote j i d mode mark how) refl h
-      by_kind (Began q told) h = inl (stays (began told h))
-      by_kind (Keyed first client step) h = inl (stays (ap (λ v. v.levels) h.6))
-      by_kind (Placed p) h = inl (stays (placed p h))
-      by_kind (Ran a) h = inl (stays (ap (λ v. v.levels) h.4))
-      by_kind (Dist d) h = inl (stays (ap (λ v. v.levels) h.4))
-      by_kind (Outcome v task) h = inl (stays (ended v h))
-      by_kind _ h = inl (stays (ap (λ v. v.levels) h))
+      by_kind _ h = inl (stays h)
 
   module _ (start : World) (t : List Event) where
     -- what levels hold is rightful, and so is what is handed on and not done
@@ -248,7 +223,7 @@ module _ (s : Script) where
             (world_held n z x w w2 l k b st mv e)
 
         -- a hit was there before, rightfully
-        hit_entry : (j : ℕ) (i : List ℕ) (mode : Mode) (d : List ℕ) (mark : Bool) (hs : List Handed) → MovesAt s.setup j (z j) (Asked j i mode (Hit d mark) hs) w w2 → (mode ≡ Whole) ⊎ (mode ≡ Raw) → (origins s start t).entry j i d
+        hit_entry : (j : ℕ) (i : List ℕ) (mode : Mode) (d : List ℕ) (mark : Bool) (hs : List Handed) → MovesAt s.setup j (z j) n.mark (Asked j i mode (Hit d mark) hs) w w2 → (mode ≡ Whole) ⊎ (mode ≡ Raw) → (origins s start t).entry j i d
         hit_entry j i mode d mark hs h y =
             let f = level_facts s.setup.levels j in
             let v = level_at w j in
@@ -258,15 +233,15 @@ module _ (s : Script) where
             holds j i d a.0 (keeps_held f.kind v h.0 i d h.1.keeps a.1)
 
         pub rightful_step : (x : What) → Moves s.setup n z x w w2 → Hits s start t x
-        rightful_step (Asked l k Whole (Hit b mark) hs) mv = hit_entry l k Whole b mark hs mv (inl refl)
-        rightful_step (Asked l k Raw (Hit b mark) hs) mv = hit_entry l k Raw b mark hs mv (inr refl)
+        rightful_step (Asked l k Whole (Hit b mark) hs) mv = hit_entry l k Whole b mark hs mv.levels (inl refl)
+        rightful_step (Asked l k Raw (Hit b mark) hs) mv = hit_entry l k Raw b mark hs mv.levels (inr refl)
         rightful_step (Asked l k Whole _ hs) mv = tt
         rightful_step (Asked l k Raw _ hs) mv = tt
         rightful_step (Asked l k _ a hs) mv = tt
         rightful_step _ mv = tt
 
         -- what a lookup hands on is its hit's
-        asked_hands : (o : Owner) (j : ℕ) (i : List ℕ) (mode : Mode) (a : Answer) (hs : List Handed) → hs ≡ backfills s.setup.policy s.setup.levels j i mode a → MovesAt s.setup j (z j) (Asked j i mode a hs) w w2
+        asked_hands : (o : Owner) (j : ℕ) (i : List ℕ) (mode : Mode) (a : Answer) (hs : List Handed) → hs ≡ backfills s.setup.policy s.setup.levels j i mode a → MovesAt s.setup j (z j) n.mark (Asked j i mode a hs) w w2
             → (g : ℕ) (k b : List ℕ) → Gives (numbered (length (given t)) m true hs) g k b → write_by s t (origins s start t) o m (Asked j i mode a hs) g k b
         asked_hands o j i Whole (Hit d mark) hs e mv g k b y =
             let q = gives_handed (record { key = i; bytes = d; run = mark }) (backfilled s.setup.policy s.setup.levels j) (length (given t)) m true g k b (subst (λ v. Gives (numbered (length (given t)) m true v) g k b) e y) in
@@ -295,7 +270,7 @@ module _ (s : Script) where
         new_hands : (o : Owner) (x : What) → NextStep s t p o x → Moves s.setup n z x w w2 → (g : ℕ) (k b : List ℕ) → Gives (hands (length (given t)) m x) g k b → write_by s t (origins s start t) o m x g k b
         new_hands (OfRequest c j) (Asked l i mode a hs) h mv g k b y =
             let f = next_fits s t p c j (Asked l i mode a hs) h in
-            asked_hands (OfRequest c j) l i mode a hs (fits_asked (request (all s c) j) (due_of s.setup (all s c) j (about c t)) l i mode a hs f.1) mv g k b y
+            asked_hands (OfRequest c j) l i mode a hs (fits_asked (request (all s c) j) (due_of s.setup (all s c) j (about c t)) l i mode a hs f.1) mv.levels g k b y
         new_hands (OfRequest c j) (WriteEnded put hs) h mv g k b y =
             let f = next_fits s t p c j (WriteEnded put hs) h in
             let r = request (all s c) j in

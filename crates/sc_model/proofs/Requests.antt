@@ -1,8 +1,8 @@
 -- One request: what the code keeps is what its events tell.
 use Rattle.std.proofs.Common.{◌≡◌, ℕ, suc, ◌-◌, Bool, true, false, cond, ◌&&◌, List, [], ◌∷◌, length, drop, Option, Some, None, refl, ap, ◌∙◌, not, nat_lt, Ok}
 use Rattle.sc_model.specs.Follows.{Due, Over, ToAsk, ToEnd, ToKey, ToPlace, ToSend, after_began, after_control, after_dist, after_key, after_path, after_placed, after_pre, after_raw, after_sent, after_size, after_whole, ask_next, dist_verdict, is_disk_alone, left, left_pre, missed, server_info, start_work, stats_reply}
-use Rattle.sc_model.specs.Headline.{Carries, HasHit, Stores}
-use Rattle.sc_model.specs.Job.{IsStored, Judged, Own, asked_at, bytes_of, dist_of, finish, hit_of, is_late, job_of, judge, miss_of, notes_of, over, refused, run_verdict, sized, stats_of, task_of, work_from}
+use Rattle.sc_model.specs.Headline.{Carries, HasHit, IsStorable, Stores, asks_store}
+use Rattle.sc_model.specs.Job.{IsStored, Judged, Own, asked_at, bytes_of, dist_of, entry_mark, fills_of, finish, hit_of, is_late, job_of, judge, miss_of, notes_of, over, refused, run_verdict, sized, stats_of, task_of, work_from}
 use Rattle.sc_model.specs.Machine.{asked_miss, begin_phase, control_phase, dist_phase, due_at, judged_phase, key_phase, missed_phase, path_phase, phase_next, placed_phase, pre_phase, ran_phase, raw_phase, size_phase, whole_phase, work_of, work_phase}
 use Rattle.sc_model.specs.Origin.{PutBy}
 use Rattle.sc_model.specs.Plan.{plan}
@@ -69,6 +69,8 @@ pub record HasWork (s : Setup) (r : Request) (own : List Own) (w : Work) : Type 
   pub miss_is : miss_of s r own ≡ w.miss
   pub from_is : work_from own ≡ w.from
   pub dist_is : dist_of own ≡ w.dist
+  -- a miss that came of the control
+  pub forced : w.miss ≡ ForcedNoCache → asks_store (control r w.job.first) ≡ false
 
 pub record Ends (s : Setup) (r : Request) (own : List Own) (ending : Ending) : Type 0 where
   pub compile : IsCompile r
@@ -80,7 +82,7 @@ pub record EndsIn (s : Setup) (r : Request) (own : List Own) (last : CompileFini
   pub compile : IsCompile r
   pub last_is : finish s r own ≡ last
   pub carries : Carries s r last own
-  pub stores : Stores s own
+  pub stores : Stores s r own
 
 abbrev pub EndsBy : Setup → Request → List Own → Option Ending → Type 0
 EndsBy s r own None = IsPutRaw r
@@ -110,11 +112,11 @@ Keeps s r own (AtPlace job b d) = HasJob r own job × (hit_of own ≡ b) × (ask
 Keeps s r own (AtDist work) = HasWork s r own work
 Keeps s r own (AtTake work) = HasWork s r own work
 Keeps s r own (AtRun work) = HasWork s r own work
-Keeps s r own (AtEnd v task ending) = NotMiss v × Ends s r own ending
+Keeps s r own (AtEnd v task ending) = NotMiss v × Ends s r own ending × (IsStorable r own → ⊥)
 Keeps s r own (AtStore v task b ending) = IsMiss v × Ends s r own ending × (bytes_of s r own ≡ b) × PutBy s r own b.key b.bytes
 Keeps s r own (AtWrite b ls f ending) = (left s own ≡ ls) × (refused own ≡ f) × (bytes_of s r own ≡ b) × PutBy s r own b.key b.bytes × EndsBy s r own ending
-Keeps s r own (AtFill b l ls f ending) = (drop (over own) (plan s.policy s.levels) ≡ l ∷ ls) × (refused own ≡ f) × (bytes_of s r own ≡ b) × PutBy s r own b.key b.bytes × EndsBy s r own ending
-Keeps s r own (AtCommit b l ls f ending) = (drop (over own) (plan s.policy s.levels) ≡ l ∷ ls) × (refused own ≡ f) × (bytes_of s r own ≡ b) × PutBy s r own b.key b.bytes × EndsBy s r own ending
+Keeps s r own (AtFill b l ls f ending) = (drop (over own) (plan s.policy s.levels) ≡ l ∷ ls) × (refused own ≡ f) × (bytes_of s r own ≡ b) × PutBy s r own b.key b.bytes × EndsBy s r own ending × (fills_of own ≡ None)
+Keeps s r own (AtCommit b l ls f ending) = (drop (over own) (plan s.policy s.levels) ≡ l ∷ ls) × (refused own ≡ f) × (bytes_of s r own ≡ b) × PutBy s r own b.key b.bytes × EndsBy s r own ending × (entry_mark own ≡ b.run)
 Keeps s r own (AtFinish ns last) = EndsIn s r own last
 Keeps s r own (RawAsk l k) = Unit {0}
 Keeps s r own (PathAsk k) = Unit {0}

@@ -1,6 +1,6 @@
 -- The levels that writes go to are there.
 use Rattle.std.proofs.Common.{◌≡◌, ℕ, zero, suc, ◌+◌, ◌<◌, ◌≤◌, Bool, true, false, ◌&&◌, not, if◌then◌else◌, List, [], ◌∷◌, length, take, arith, subst, sym}
-use Rattle.sc_model.specs.Plan.{backfilled, backfills, background, first_policy, goes_on, hand_to, handed_by, is_background, is_required, levels_of, plan, reads_only, rest_policies, takes_writes}
+use Rattle.sc_model.specs.Plan.{backfilled, backfills, background, first_policy, hand_to, handed_by, is_background, levels_of, reads_only, rest_policies, takes_writes}
 use Rattle.sc_model.specs.There.{AreHanded, AreLevels}
 use Rattle.sc_model.specs.declared.event.Answer.{Answer}
 use Rattle.sc_model.specs.declared.event.Answer.TheVariants.{Found, Hit, Miss, Refused, Size}

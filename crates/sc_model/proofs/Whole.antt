@@ -1,22 +1,25 @@
 -- The headline holds of every run of the machine.
-use Rattle.std.proofs.Common.{◌≡◌, ℕ, List, [], ◌∷◌, length, map, refl, sym, ap, ◌∙◌, subst, arith, get_or, false, cond, Some, None}
+use Rattle.std.proofs.Common.{◌≡◌, ℕ, ◌<◌, ◌≤◌, inl, inr, ⊎_elim, List, [], ◌∷◌, length, map, refl, sym, ap, ◌∙◌, subst, arith, get_or, false, cond, Option, Some, None}
 use Rattle.sc_entry.specs.Causes.{IfTold}
-use Rattle.sc_model.proofs.Backs.{BackTie, IsWrite, back_new, pending_writes}
+use Rattle.sc_model.proofs.Backs.{BackTie, IsWrite, back_due, back_new, pending_writes}
 use Rattle.sc_model.proofs.Bounds.{few_events}
 use Rattle.sc_model.proofs.Claims.{get_map, lawful_finishes, lawful_notes, next_fits}
+use Rattle.sc_model.proofs.Completing.{conn_answered, conn_finishes}
 use Rattle.sc_model.proofs.Conns.{ConnTie, conn_new, conn_prefix, current_is}
+use Rattle.sc_model.proofs.Hits.{carries_hit}
 use Rattle.sc_model.proofs.Machines.{Tie, tie_step}
 use Rattle.sc_model.proofs.Origins.{HandsRightful, HoldsRightful, entries_step, rightful_step, writes_step}
 use Rattle.sc_model.proofs.Requests.{Keeps}
+use Rattle.sc_model.proofs.Serving.{serves_are}
 use Rattle.sc_model.proofs.Steps.{start_is}
-use Rattle.sc_model.specs.Follows.{Fits, Lawful, kind_at}
-use Rattle.sc_model.specs.Headline.{Begins_in_order, BytesWithin, Each, Finishes, Headline, IsFinished, IsInOrder, IsRightful, IsStoredFirst, RunsWithin, StoresBefore}
-use Rattle.sc_model.specs.Job.{Own}
-use Rattle.sc_model.specs.Machine.{Conn, Does, DoesBack, DoesPass, DoesRead, DoesServe, DoesStep, IsIdle, Machine, Runs, conn, due_at, end_at, given_of, need_at, new_conn, result_of_run, shown_levels}
-use Rattle.sc_model.specs.Next.{Leads, NextStep, at_moment, ticked}
+use Rattle.sc_model.specs.Follows.{Fits, Lawful, Over, kind_at}
+use Rattle.sc_model.specs.Headline.{Begins_in_order, BytesWithin, Each, Finishes, Headline, IsFinished, IsInOrder, IsRightful, IsStoredFirst, RunsWithin, StoresBefore, allowed}
+use Rattle.sc_model.specs.Job.{Own, entry_mark, mark_of}
+use Rattle.sc_model.specs.Machine.{Conn, Does, DoesBack, DoesPass, DoesRead, DoesServe, DoesStep, IsIdle, Machine, Runs, conn, due_at, end_at, given_of, need_at, need_back, new_conn, result_of_run, shown_levels, stage_fills}
+use Rattle.sc_model.specs.Next.{Ended, Leads, NextStep, at_moment, due_of, ticked}
 use Rattle.sc_model.specs.Script.{IsOpen, ReadsOn, Script, input, is_single}
-use Rattle.sc_model.specs.Trace.{Given, about, all, if_too_long, no_request, own_of, owned, request, request_of, reservations, reserved_at, taken, too_long, written}
-use Rattle.sc_model.specs.World.{and_one, IsWithinBytes, Moves, MovesPlaced, Need, World, first_missing, need_of, placed_of}
+use Rattle.sc_model.specs.Trace.{Given, about, all, came, if_too_long, no_request, own_of, owned, request, request_of, reservations, reserved_at, taken, too_long, written}
+use Rattle.sc_model.specs.World.{and_one, IsWithinBytes, Moves, MovesAt, MovesDist, MovesLevels, MovesPlaced, MovesShop, Need, World, first_missing, need_of, placed_of}
 use Rattle.sc_model.specs.declared.event.Event.{Event}
 use Rattle.sc_model.specs.declared.level.LevelFacts.{LevelFacts}
 use Rattle.sc_model.specs.declared.level.Policy.{Policy}
@@ -30,13 +33,13 @@ use Rattle.sc_model.specs.declared.event.Placing.TheVariants.{Done as PlaceDone,
 use Rattle.sc_model.specs.declared.event.Step.{Step}
 use Rattle.sc_model.specs.declared.event.Step.TheVariants.{Back, Pass, Read, Serve}
 use Rattle.sc_model.specs.declared.event.What.{What}
-use Rattle.sc_model.specs.declared.event.What.TheVariants.{Closed, Dist, Idle, Keyed, Passed, Placed, Ran, Sent, Taken}
+use Rattle.sc_model.specs.declared.event.What.TheVariants.{Closed, Committed, Dist, Idle, Keyed, Passed, Placed, Ran, Sent, Taken}
 use Rattle.sc_model.specs.declared.message.Request.{Request}
 use Rattle.sc_model.specs.declared.message.Response.TheVariants.{ArtifactNotification as Note, CompileFinished as Finished}
 use Rattle.sc_model.specs.declared.phase.Job.{Job}
 use Rattle.sc_model.specs.declared.phase.Pending.{Pending}
 use Rattle.sc_model.specs.declared.phase.Phase.{Phase}
-use Rattle.sc_model.specs.declared.phase.Phase.TheVariants.{AtDist, AtPlace, AtRun, AtWrite, PrePut}
+use Rattle.sc_model.specs.declared.phase.Phase.TheVariants.{AtCommit, AtDist, AtPlace, AtRun, AtWrite, PrePut}
 use Rattle.sc_stats.specs.Sums.{no_level_stats, sat}
 
 shown_is : (p : Policy) (ls : List LevelStats) → is_single p ≡ false → shown_levels p ls ≡ ls
@@ -58,15 +61,16 @@ module _ (s : Script) where
     order_step (OfRequest c n) _ h = tt
     order_step _ x h = tt
 
-    finish_step : (o : Owner) (x : What) → NextStep s t p o x → Finishes s t o x
-    finish_step (OfRequest c n) (Sent (Finished f)) h =
+    finish_step : (start : World) → Each (IsRightful s start) t → (o : Owner) (x : What) → NextStep s t p o x → Finishes s start t o x
+    finish_step start rightful (OfRequest c n) (Sent (Finished f)) h =
         let q = next_fits s t p c n (Sent (Finished f)) h in
-        let a = lawful_finishes s (request (all s c) n) (owned n (about c t)) f q.1 (lawful c n) in (a.0, a.1)
-    finish_step (OfRequest c n) (Sent _) h = tt
-    finish_step (OfRequest c n) _ h = tt
-    finish_step _ x h = tt
+        let a = lawful_finishes s (request (all s c) n) (owned n (about c t)) f q.1 (lawful c n) in
+        (a.0, carries_hit s start t c n f rightful a.1)
+    finish_step start rightful (OfRequest c n) (Sent _) h = tt
+    finish_step start rightful (OfRequest c n) _ h = tt
+    finish_step start rightful _ x h = tt
 
-    stored_step : (o : Owner) (x : What) → NextStep s t p o x → StoresBefore s.setup t o x
+    stored_step : (o : Owner) (x : What) → NextStep s t p o x → StoresBefore s t o x
     stored_step (OfRequest c n) (Sent (Finished f)) h =
         let q = next_fits s t p c n (Sent (Finished f)) h in
         let a = lawful_finishes s (request (all s c) n) (owned n (about c t)) f q.1 (lawful c n) in a.2
@@ -76,67 +80,108 @@ module _ (s : Script) where
     stored_step (OfRequest c n) _ h = tt
     stored_step _ x h = tt
 
-  -- the key and the hit that the phase keeps are the job's
-  moves_same : (r : Request) (own : List Own) (p : Phase) (x : What) (z : ℕ → ℕ) (w w2 : World) → Keeps s.setup r own p → Fits s.setup r (due_at s.setup r p) x → Moves s.setup (need_at s.setup r p) z x w w2 → Moves s.setup (need_of s.setup r own) z x w w2
-  moves_same r own (AtRun work) (Ran a) z w w2 kp f m = (
+  -- What an event needs of its owner is what the phase keeps. First the mark of its open entry.
+  levels_same : (r : Request) (own : List Own) (p : Phase) (x : What) (z : ℕ → ℕ) (w w2 : World) → Keeps s.setup r own p → Fits s.setup r (due_at s.setup r p) x → MovesLevels s.setup (need_at s.setup r p) z x w w2 → MovesLevels s.setup (need_of s.setup r own) z x w w2
+  levels_same r own (AtCommit b l ls g ending) (Committed j k d how) z w w2 kp f m = subst (λ v. MovesAt s.setup j (z j) v (Committed j k d how) w w2) (sym kp.5) m
+  levels_same r own (AtWrite b (l ∷ ls) g ending) (Committed j k d how) z w w2 kp f m = absurd (start_is s.setup r (kind_at s.setup.levels l) l b (Committed j k d how) f)
+  levels_same r own (AtWrite b [] g ending) (Committed j k d how) z w w2 kp f m = absurd f
+  levels_same r own (PrePut b (l ∷ ls) g) (Committed j k d how) z w w2 kp f m = absurd f
+  levels_same r own (PrePut b [] g) (Committed j k d how) z w w2 kp f m = absurd f
+  levels_same r own _ (Committed j k d how) z w w2 kp f m = absurd f
+  levels_same r own p _ z w w2 kp f m = m
+
+  -- then its key, its outputs and its hit
+  shop_same : (r : Request) (own : List Own) (p : Phase) (x : What) (w w2 : World) → Keeps s.setup r own p → Fits s.setup r (due_at s.setup r p) x → MovesShop s.setup (need_at s.setup r p) x w w2 → MovesShop s.setup (need_of s.setup r own) x w w2
+  shop_same r own (AtRun work) (Ran a) w w2 kp f m = (
     m.0,
     m.1,
-    m.2,
-    subst (λ v. IfTold (s.setup.workshop v.found.key w.runs v.found.outputs) (λ b. a ≡ b)) (sym kp.has.job_is) m.3,
-    subst (λ v. w2 ≡ record w { runs = and_one w.runs (v.found.key, a); shop_faults = m.0 }) (sym kp.has.job_is) m.4,
+    subst (λ v. IfTold (s.setup.workshop v.found.key w.runs v.found.outputs) (λ b. a ≡ b)) (sym kp.has.job_is) m.2,
+    subst (λ v. w2.runs ≡ and_one w.runs (v.found.key, a)) (sym kp.has.job_is) m.3,
+    m.4,
   )
-  moves_same r own (AtDist work) (Dist d) z w w2 kp f m = (
+  shop_same r own (AtPlace job b d) (Placed p) w w2 kp f m = placed p m
+    where
+      missing_same : (v : Option (List ℕ)) → first_missing (s.setup.codec.objects b) (need_at s.setup r (AtPlace job b d)).outputs ≡ v → first_missing (s.setup.codec.objects (need_of s.setup r own).hit) (need_of s.setup r own).outputs ≡ v
+      missing_same v e = ap (λ v. first_missing (s.setup.codec.objects v) (need_of s.setup r own).outputs) kp.1 ∙ ap (λ (v : Job). first_missing (s.setup.codec.objects b) (placed_of v.found.locally_preprocessed v.found.outputs)) kp.0.job_is ∙ e
+
+      placed : (p : Placing) → MovesPlaced s.setup (need_at s.setup r (AtPlace job b d)) p w w2 → MovesPlaced s.setup (need_of s.setup r own) p w w2
+      placed (Missing name) h = (missing_same (Some name) h.0, h.1)
+      placed PlaceDone h = (
+        missing_same None h.0,
+        subst (λ (v : Job). IfTold (s.setup.placing v.found.key) (λ refusal. None ≡ refusal)) (sym kp.0.job_is) h.1,
+        h.2,
+        h.3 ∙ ap (λ (v : Job). and_one w.placings (record { outputs = placed_of v.found.locally_preprocessed v.found.outputs; bytes = b })) (sym kp.0.job_is)
+            ∙ ap (λ (v : List ℕ). and_one w.placings (record { outputs = (need_of s.setup r own).outputs; bytes = v })) (sym kp.1),
+        h.4,
+      )
+      placed (PlaceFault chain) h = (missing_same None h.0, subst (λ (v : Job). IfTold (s.setup.placing v.found.key) (λ refusal. Some chain ≡ refusal)) (sym kp.0.job_is) h.1, h.2, h.3, h.4, h.5)
+  shop_same r own (AtWrite b (l ∷ ls) g ending) (Ran a) w w2 kp f m = absurd (start_is s.setup r (kind_at s.setup.levels l) l b (Ran a) f)
+  shop_same r own (AtWrite b [] g ending) (Ran a) w w2 kp f m = absurd f
+  shop_same r own (PrePut b (l ∷ ls) g) (Ran a) w w2 kp f m = absurd f
+  shop_same r own (PrePut b [] g) (Ran a) w w2 kp f m = absurd f
+  shop_same r own (AtWrite b (l ∷ ls) g ending) (Placed p) w w2 kp f m = absurd (start_is s.setup r (kind_at s.setup.levels l) l b (Placed p) f)
+  shop_same r own (AtWrite b [] g ending) (Placed p) w w2 kp f m = absurd f
+  shop_same r own (PrePut b (l ∷ ls) g) (Placed p) w w2 kp f m = absurd f
+  shop_same r own (PrePut b [] g) (Placed p) w w2 kp f m = absurd f
+  shop_same r own _ (Ran a) w w2 kp f m = absurd f
+  shop_same r own _ (Placed p) w w2 kp f m = absurd f
+  shop_same r own p _ w w2 kp f m = m
+
+  dist_same : (r : Request) (own : List Own) (p : Phase) (x : What) (w w2 : World) → Keeps s.setup r own p → Fits s.setup r (due_at s.setup r p) x → MovesDist s.setup (need_at s.setup r p) x w w2 → MovesDist s.setup (need_of s.setup r own) x w w2
+  dist_same r own (AtDist work) (Dist d) w w2 kp f m = (
     m.0,
     m.1,
     m.2,
     subst (λ v. IfTold (s.setup.dist v.found.key w.dists v.found.outputs) (λ b. d ≡ b)) (sym kp.has.job_is) m.3,
-    subst (λ v. w2 ≡ record w { dists = and_one w.dists (v.found.key, d); dist_faults = m.0 }) (sym kp.has.job_is) m.4,
+    subst (λ v. w2.dists ≡ and_one w.dists (v.found.key, d)) (sym kp.has.job_is) m.4,
   )
-  moves_same r own (AtPlace job b d) (Placed p) z w w2 kp f m =
-      let n2 : Need → Type 0 = λ v. MovesPlaced s.setup v p w w2 in
-      placed p m
-    where
-      placed : (p : Placing) → MovesPlaced s.setup (need_at s.setup r (AtPlace job b d)) p w w2 → MovesPlaced s.setup (need_of s.setup r own) p w w2
-      placed (Missing name) h = (ap (λ v. first_missing (s.setup.codec.objects v) (need_of s.setup r own).outputs) kp.1 ∙ ap (λ (v : Job). first_missing (s.setup.codec.objects b) (placed_of v.found.locally_preprocessed v.found.outputs)) kp.0.job_is ∙ h.0, h.1)
-      placed PlaceDone h = (
-        ap (λ v. first_missing (s.setup.codec.objects v) (need_of s.setup r own).outputs) kp.1 ∙ ap (λ (v : Job). first_missing (s.setup.codec.objects b) (placed_of v.found.locally_preprocessed v.found.outputs)) kp.0.job_is ∙ h.0,
-        subst (λ (v : Job). IfTold (s.setup.placing v.found.key) (λ refusal. None ≡ refusal)) (sym kp.0.job_is) h.1,
-        h.2 ∙ ap (λ (v : Job). record w { placings = and_one w.placings (record { outputs = placed_of v.found.locally_preprocessed v.found.outputs; bytes = b }) }) (sym kp.0.job_is)
-            ∙ ap (λ (v : List ℕ). record w { placings = and_one w.placings (record { outputs = (need_of s.setup r own).outputs; bytes = v }) }) (sym kp.1),
-      )
-      placed (PlaceFault chain) h = (
-        ap (λ v. first_missing (s.setup.codec.objects v) (need_of s.setup r own).outputs) kp.1 ∙ ap (λ (v : Job). first_missing (s.setup.codec.objects b) (placed_of v.found.locally_preprocessed v.found.outputs)) kp.0.job_is ∙ h.0,
-        subst (λ (v : Job). IfTold (s.setup.placing v.found.key) (λ refusal. Some chain ≡ refusal)) (sym kp.0.job_is) h.1,
-        h.2,
-      )
-  moves_same r own (AtWrite b (l ∷ ls) g ending) (Ran a) z w w2 kp f m = absurd (start_is s.setup r (kind_at s.setup.levels l) l b (Ran a) f)
-  moves_same r own (AtWrite b [] g ending) (Ran a) z w w2 kp f m = absurd f
-  moves_same r own (PrePut b (l ∷ ls) g) (Ran a) z w w2 kp f m = absurd f
-  moves_same r own (PrePut b [] g) (Ran a) z w w2 kp f m = absurd f
-  moves_same r own (AtWrite b (l ∷ ls) g ending) (Dist d) z w w2 kp f m = absurd (start_is s.setup r (kind_at s.setup.levels l) l b (Dist d) f)
-  moves_same r own (AtWrite b [] g ending) (Dist d) z w w2 kp f m = absurd f
-  moves_same r own (PrePut b (l ∷ ls) g) (Dist d) z w w2 kp f m = absurd f
-  moves_same r own (PrePut b [] g) (Dist d) z w w2 kp f m = absurd f
-  moves_same r own (AtWrite b (l ∷ ls) g ending) (Placed p) z w w2 kp f m = absurd (start_is s.setup r (kind_at s.setup.levels l) l b (Placed p) f)
-  moves_same r own (AtWrite b [] g ending) (Placed p) z w w2 kp f m = absurd f
-  moves_same r own (PrePut b (l ∷ ls) g) (Placed p) z w w2 kp f m = absurd f
-  moves_same r own (PrePut b [] g) (Placed p) z w w2 kp f m = absurd f
-  moves_same r own _ (Ran a) z w w2 kp f m = absurd f
-  moves_same r own _ (Dist d) z w w2 kp f m = absurd f
-  moves_same r own _ (Placed p) z w w2 kp f m = absurd f
-  moves_same r own p _ z w w2 kp f m = m
+  dist_same r own (AtWrite b (l ∷ ls) g ending) (Dist d) w w2 kp f m = absurd (start_is s.setup r (kind_at s.setup.levels l) l b (Dist d) f)
+  dist_same r own (AtWrite b [] g ending) (Dist d) w w2 kp f m = absurd f
+  dist_same r own (PrePut b (l ∷ ls) g) (Dist d) w w2 kp f m = absurd f
+  dist_same r own (PrePut b [] g) (Dist d) w w2 kp f m = absurd f
+  dist_same r own _ (Dist d) w w2 kp f m = absurd f
+  dist_same r own p _ w w2 kp f m = m
 
-  moves_write : (n n2 : Need) (x : What) (z : ℕ → ℕ) (w w2 : World) → IsWrite x → Moves s.setup n z x w w2 → Moves s.setup n2 z x w w2
-  moves_write n n2 (Ran a) z w w2 iw m = absurd iw
-  moves_write n n2 (Dist d) z w w2 iw m = absurd iw
-  moves_write n n2 (Placed p) z w w2 iw m = absurd iw
-  moves_write n n2 (Keyed first client step) z w w2 iw m = absurd iw
-  moves_write n n2 _ z w w2 iw m = m
+  moves_same : (r : Request) (own : List Own) (p : Phase) (x : What) (z : ℕ → ℕ) (w w2 : World) → Keeps s.setup r own p → Fits s.setup r (due_at s.setup r p) x → Moves s.setup (need_at s.setup r p) z x w w2 → Moves s.setup (need_of s.setup r own) z x w w2
+  moves_same r own p x z w w2 kp f m = record { moment = m.moment; levels = levels_same r own p x z w w2 kp f m.levels; shop = shop_same r own p x w w2 kp f m.shop; dist = dist_same r own p x w w2 kp f m.dist }
+
+  -- of its owner a handed write's event needs the mark alone
+  write_levels : (n n2 : Need) (x : What) (z : ℕ → ℕ) (w w2 : World) → n.mark ≡ n2.mark → MovesLevels s.setup n z x w w2 → MovesLevels s.setup n2 z x w w2
+  write_levels n n2 (Committed l k b how) z w w2 e m = subst (λ v. MovesAt s.setup l (z l) v (Committed l k b how) w w2) e m
+  write_levels n n2 _ z w w2 e m = m
+
+  write_shop : (n n2 : Need) (x : What) (w w2 : World) → IsWrite x → MovesShop s.setup n x w w2 → MovesShop s.setup n2 x w w2
+  write_shop n n2 (Ran a) w w2 iw m = absurd iw
+  write_shop n n2 (Placed p) w w2 iw m = absurd iw
+  write_shop n n2 _ w w2 iw m = m
+
+  write_dist : (n n2 : Need) (x : What) (w w2 : World) → IsWrite x → MovesDist s.setup n x w w2 → MovesDist s.setup n2 x w w2
+  write_dist n n2 (Dist d) w w2 iw m = absurd iw
+  write_dist n n2 (Keyed first client step) w w2 iw m = absurd iw
+  write_dist n n2 _ w w2 iw m = m
+
+  moves_write : (n n2 : Need) (x : What) (z : ℕ → ℕ) (w w2 : World) → IsWrite x → n.mark ≡ n2.mark → Moves s.setup n z x w w2 → Moves s.setup n2 z x w w2
+  moves_write n n2 x z w w2 iw e m = record { moment = m.moment; levels = write_levels n n2 x z w w2 e m.levels; shop = write_shop n n2 x w w2 iw m.shop; dist = write_dist n n2 x w w2 iw m.dist }
+
+  -- an event that moves no part
+  abbrev IsStill : What → Type 0
+  IsStill Idle = Unit {0}
+  IsStill (Taken c b) = Unit {0}
+  IsStill (Closed c) = Unit {0}
+  IsStill (Passed k) = Unit {0}
+  IsStill _ = ⊥
+
+  still_moves : (n : Need) (z : ℕ → ℕ) (x : What) (w w2 : World) → IsStill x → w2 ≡ w → Moves s.setup n z x w w2
+  still_moves n z Idle w w2 is e = record { moment = ap (λ v. v.moment) e; levels = ap (λ v. v.levels) e; shop = (ap (λ v. v.runs) e, ap (λ v. v.placings) e, ap (λ v. v.shop_faults) e); dist = (ap (λ v. v.container) e, (ap (λ v. v.dists) e, ap (λ v. v.dist_faults) e)) }
+  still_moves n z (Taken c b) w w2 is e = record { moment = ap (λ v. v.moment) e; levels = ap (λ v. v.levels) e; shop = (ap (λ v. v.runs) e, ap (λ v. v.placings) e, ap (λ v. v.shop_faults) e); dist = (ap (λ v. v.container) e, (ap (λ v. v.dists) e, ap (λ v. v.dist_faults) e)) }
+  still_moves n z (Closed c) w w2 is e = record { moment = ap (λ v. v.moment) e; levels = ap (λ v. v.levels) e; shop = (ap (λ v. v.runs) e, ap (λ v. v.placings) e, ap (λ v. v.shop_faults) e); dist = (ap (λ v. v.container) e, (ap (λ v. v.dists) e, ap (λ v. v.dist_faults) e)) }
+  still_moves n z (Passed k) w w2 is e = record { moment = ap (λ v. v.moment) e; levels = ap (λ v. v.levels) e; shop = (ap (λ v. v.runs) e, ap (λ v. v.placings) e, ap (λ v. v.shop_faults) e); dist = (ap (λ v. v.container) e, (ap (λ v. v.dists) e, ap (λ v. v.dist_faults) e)) }
+  still_moves n z _ w w2 is e = absurd is
 
   -- the parts' world moves as the trace tells
   module _ (t : List Event) (m : Machine) (h : Tie s t m) where
     serve_moves : (c z : ℕ) (o : Owner) (x : What) (m2 : Machine) → DoesServe s.setup m c z o x m2 → Moves s.setup (need_of s.setup (request_of s o) (own_of o t)) (λ l. reserved_at l (reservations t)) x (at_moment m.world (ticked m.world.moment x)) m2.world
-    serve_moves c z Nobody Idle m2 g = ap (λ v. v.world) g.1
+    serve_moves c z Nobody Idle m2 g = still_moves _ _ Idle _ m2.world tt (ap (λ v. v.world) g.1)
     serve_moves c z (OfRequest d j) x m2 g =
         let k = conn m c in
         let tie = h.conns c in
@@ -151,22 +196,24 @@ module _ (s : Script) where
     serve_moves c z _ x m2 g = absurd g
 
     read_moves : (c n : ℕ) (o : Owner) (x : What) (m2 : Machine) → DoesRead s m c n o x m2 → Moves s.setup (need_of s.setup (request_of s o) (own_of o t)) (λ l. reserved_at l (reservations t)) x (at_moment m.world (ticked m.world.moment x)) m2.world
-    read_moves c n Nobody Idle m2 g = ap (λ v. v.world) g.1
-    read_moves c n Nobody (Taken d bytes) m2 g = ap (λ v. v.world) g.5
-    read_moves c n Nobody (Closed d) m2 g = ap (λ v. v.world) g.5
+    read_moves c n Nobody Idle m2 g = still_moves _ _ Idle _ m2.world tt (ap (λ v. v.world) g.1)
+    read_moves c n Nobody (Taken d bytes) m2 g = still_moves _ _ (Taken d bytes) _ m2.world tt (ap (λ v. v.world) g.5)
+    read_moves c n Nobody (Closed d) m2 g = still_moves _ _ (Closed d) _ m2.world tt (ap (λ v. v.world) g.5)
     read_moves c n _ x m2 g = absurd g
 
     back_moves : (i z : ℕ) (o : Owner) (x : What) (m2 : Machine) → DoesBack s.setup m i z o x m2 → Moves s.setup (need_of s.setup (request_of s o) (own_of o t)) (λ l. reserved_at l (reservations t)) x (at_moment m.world (ticked m.world.moment x)) m2.world
-    back_moves i z Nobody Idle m2 g = ap (λ v. v.world) g.1
+    back_moves i z Nobody Idle m2 g = still_moves _ _ Idle _ m2.world tt (ap (λ v. v.world) g.1)
     back_moves i z (OfWrite n) x m2 g =
         let w0 = at_moment m.world (ticked m.world.moment x) in
-        let a = moves_write (need_of s.setup no_request []) (need_of s.setup no_request (written n t)) x (λ l. reserved_at l m.reserved) w0 g.4.0 (pending_writes s.setup g.0 x g.3) g.4.1 in
+        let p = g.0 in
+        let mark : mark_of (stage_fills p.stage p.handed.marked) ≡ entry_mark (written n t) = ap mark_of (sym (back_due s.setup t m.background m.handed i p h.back g.1).2) ∙ ap (λ v. entry_mark (written v t)) (sym g.2) in
+        let a = moves_write (need_back s.setup p) (need_of s.setup no_request (written n t)) x (λ l. reserved_at l m.reserved) w0 g.4.0 (pending_writes s.setup p x g.3) mark g.4.1 in
         let b : Moves s.setup (need_of s.setup no_request (written n t)) (λ l. reserved_at l (reservations t)) x w0 g.4.0 = subst (λ v. Moves s.setup (need_of s.setup no_request (written n t)) (λ l. reserved_at l v) x w0 g.4.0) h.reserved a in
         subst (λ v. Moves s.setup (need_of s.setup no_request (written n t)) (λ l. reserved_at l (reservations t)) x w0 v.world) (sym g.4.2) b
     back_moves i z _ x m2 g = absurd g
 
     pass_moves : (n : ℕ) (o : Owner) (x : What) (m2 : Machine) → DoesPass m n o x m2 → Moves s.setup (need_of s.setup (request_of s o) (own_of o t)) (λ l. reserved_at l (reservations t)) x (at_moment m.world (ticked m.world.moment x)) m2.world
-    pass_moves n Nobody (Passed k) m2 g = ap (λ v. v.world) g.1 ∙ ap (λ v. at_moment m.world (sat m.world.moment v)) (sym g.0)
+    pass_moves n Nobody (Passed k) m2 g = still_moves _ _ (Passed k) _ m2.world tt (ap (λ v. v.world) g.1 ∙ ap (λ v. at_moment m.world (sat m.world.moment v)) (sym g.0))
     pass_moves n _ x m2 g = absurd g
 
     step_moves : (p : Step) (z : ℕ) (o : Owner) (x : What) (m2 : Machine) → DoesStep s m p z o x m2 → Moves s.setup (need_of s.setup (request_of s o) (own_of o t)) (λ l. reserved_at l (reservations t)) x (at_moment m.world (ticked m.world.moment x)) m2.world
@@ -180,10 +227,10 @@ module _ (s : Script) where
     pub tie : Tie s t m
     pub leads : Leads s start ps t m.world
     pub ordered : Each (IsInOrder s) t
-    pub finished : Each (IsFinished s) t
-    pub stored : Each (IsStoredFirst s.setup) t
+    pub finished : Each (IsFinished s start) t
+    pub stored : Each (IsStoredFirst s) t
     pub within : Each (RunsWithin s.setup) t
-    pub bytes : BytesWithin s start ps t m.world
+    pub bytes : BytesWithin s start ps t m.world leads
     pub rightful : Each (IsRightful s start) t
     pub holds : HoldsRightful s start t m.world
     pub hands : HandsRightful s start t
@@ -204,10 +251,10 @@ module _ (s : Script) where
         tie = a.1;
         leads = (m.world, g.leads, a.0, (d.0, step_moves t m g.tie p e.moment e.owner e.what m2 d.1, b));
         ordered = (order_step t lawful p e.owner e.what a.0, g.ordered);
-        finished = (finish_step t lawful p e.owner e.what a.0, g.finished);
+        finished = (finish_step t lawful p start g.rightful e.owner e.what a.0, g.finished);
         stored = (stored_step t lawful p e.owner e.what a.0, g.stored);
         within = (omega (arith, a.1.tokens), g.within);
-        bytes = (b, (m.world, g.leads, g.bytes));
+        bytes = (b, g.bytes);
       }
 
   idle_tie : (m : Machine) → IsIdle s m → Tie s [] m
@@ -245,6 +292,19 @@ module _ (s : Script) where
         each_level = shown_count s.setup.policy m.level_stats s.setup.levels g.tie.levels.same_length;
         sends = λ c. conn_prefix s (input s c) (about c t) (conn m c) (g.tie.conns c);
         in_order = g.ordered;
+        answered = λ c h. conn_answered s i.one_level (input s c) (about c t) (conn m c) (g.tie.conns c) h;
+        finishes = λ c h.
+            ⊎_elim (λ (q : ((conn m c).at < length (came s c t)) × Ended (due_of s.setup (all s c) (conn m c).at (about c t))). inl (
+              (conn m c).at,
+              record {
+                came = q.0;
+                unfinished = λ e. (g.tie.conns c).unfinished (request (all s c) (conn m c).at) (sym (g.tie.conns c).holds.ties.is_due ∙ e);
+                before = (g.tie.conns c).holds.before;
+              },
+              q.1,
+            ))
+            (λ (q : (n : ℕ) → n < length (came s c t) → due_of s.setup (all s c) n (about c t) ≡ Over). inr q)
+            (conn_finishes s i.one_level (input s c) (about c t) (conn m c) (g.tie.conns c) (subst (λ v. allowed s.setup (length (came s c t)) (about c t) ≤ v) (serves_are s c m0.world ps t m.world g.leads) h));
         finished = g.finished;
         rightful = g.rightful;
         stored_first = g.stored;

@@ -35,7 +35,7 @@ use Rattle.sc_model.specs.declared.event.Verdict.{Verdict}
 use Rattle.sc_model.specs.declared.event.Verdict.TheVariants.{CacheMiss, CompileFailed, Fault as FatalFault, NotCacheable, NotCached, ProcessError as RunError}
 use Rattle.sc_model.specs.declared.event.What.{What}
 use Rattle.sc_model.specs.declared.event.What.TheVariants.{Asked, Began, Committed, Dist, Filled, Keyed, Outcome, Placed, Ran, Reserved, TokenTaken, Wrote}
-use Rattle.sc_model.specs.declared.event.Written.TheVariants.{Refused as WriteRefused}
+use Rattle.sc_model.specs.declared.event.Written.TheVariants.{Done as WriteDone, Refused as WriteRefused}
 use Rattle.sc_model.specs.declared.level.Policy.{Policy}
 use Rattle.sc_model.specs.declared.level.Policy.TheVariants.{Single}
 use Rattle.sc_model.specs.declared.message.ColorMode.{ColorMode}
@@ -121,6 +121,24 @@ abbrev pub asked_at : List Own → ℕ
 asked_at [] = 0
 asked_at (At m (Asked l k mode a hs) ∷ own) = m
 asked_at (_ ∷ own) = asked_at own
+
+-- The mark of an owner's open entry: its first fill sets it, and every further one clears it.
+abbrev pub after_fill : Option Bool → Bool → Bool
+after_fill None mark = mark
+after_fill (Some before) mark = false
+
+abbrev pub fills_of : List Own → Option Bool
+fills_of [] = None
+fills_of (At m (Reserved l k n WriteDone) ∷ own) = None
+fills_of (At m (Filled l k b mark WriteDone) ∷ own) = Some (after_fill (fills_of own) mark)
+fills_of (_ ∷ own) = fills_of own
+
+abbrev pub mark_of : Option Bool → Bool
+mark_of None = false
+mark_of (Some mark) = mark
+
+abbrev pub entry_mark : List Own → Bool
+entry_mark own = mark_of (fills_of own)
 
 -- what an output is, under this miss: the first that holds
 pub data Judged : Type 0 where

@@ -9,6 +9,10 @@ pub mod World
 pub mod Next
 pub mod Origin
 pub mod Headline
+pub mod Link
+pub mod Ledgers
+pub mod Plain
+pub mod Through
 pub mod Stream
 pub mod Machine
 pub mod Collected

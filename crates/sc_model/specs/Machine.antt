@@ -2,13 +2,13 @@
 use Rattle.std.specs.Prelude.{◌≡◌, ℕ, zero, suc, ◌+◌, ◌-◌, ◌<◌, ◌≤◌, Bool, true, false, ◌&&◌, not, if◌then◌else◌, List, [], ◌∷◌, ◌++◌, length, take, drop, map, Option, Some, None, slice_index_or, slice_set, ◌⊎◌, Ok, Err, codes, nat_lt}
 use Rattle.sc_model.specs.Follows.{Due, Fits, Over, Stopped, ToAsk, ToBegin, ToCommit, ToDist, ToEnd, ToFill, ToFinish, ToKey, ToPlace, ToRun, ToSend, ToTake, bytes_in, dist_verdict, is_disk_alone, kind_at, left, next_pre, next_write, notes_then, server_info, start_write, stats_reply, with_size}
 use Rattle.sc_model.specs.Headline.{Result_of_run}
-use Rattle.sc_model.specs.Job.{IsStored, Judged, by_answer, finish_dist, finish_fatal, finish_hit, finish_output, finish_run, forced, if_late, is_late, judge, put_bytes, run_bytes, run_notes, run_verdict}
+use Rattle.sc_model.specs.Job.{IsStored, Judged, by_answer, finish_dist, finish_fatal, finish_hit, finish_output, finish_run, forced, if_late, is_late, judge, put_bytes, run_bytes, run_notes, run_verdict, mark_of}
 use Rattle.sc_model.specs.Next.{Ended, at_moment, ticked}
 use Rattle.sc_model.specs.Plan.{cause_text, goes_on, note, plan, pre_plan, put_result}
 use Rattle.sc_model.specs.Rows.{Direct, by_backfill, count, level_named, level_row, row, zeroes}
 use Rattle.sc_model.specs.Script.{BadFrame, Control, Default, End, ReadsOn, Script, Setup, control, counted_task, input, is_single}
 use Rattle.sc_model.specs.Trace.{Given, Open, ends_write, hands, if_too_long, no_request, request, reserved_at, reserved_by, sent_by, frame_bytes}
-use Rattle.sc_model.specs.World.{IsWithinBytes, Moves, Need, World, keys_of, need_of, placed_of}
+use Rattle.sc_model.specs.World.{IsWithinBytes, Moves, Need, World, keys_of, placed_of}
 use Rattle.sc_model.specs.declared.event.Answer.{Answer}
 use Rattle.sc_model.specs.declared.event.Answer.TheVariants.{Found as FoundAt, Hit, Refused, Size as SizeIs}
 use Rattle.sc_model.specs.declared.event.DistAnswer.{DistAnswer}
@@ -320,10 +320,11 @@ free_after free _ = free
 
 -- what the job at this phase needs of the parts
 abbrev pub need_at : Setup → Request → Phase → Need
-need_at s r (AtRun work) = record { keys = keys_of s r; key = work.job.found.key; wanted = work.job.found.outputs; outputs = []; hit = [] }
-need_at s r (AtDist work) = record { keys = keys_of s r; key = work.job.found.key; wanted = work.job.found.outputs; outputs = []; hit = [] }
-need_at s r (AtPlace job b d) = record { keys = keys_of s r; key = job.found.key; wanted = []; outputs = placed_of job.found.locally_preprocessed job.found.outputs; hit = b }
-need_at s r _ = record { keys = keys_of s r; key = []; wanted = []; outputs = []; hit = [] }
+need_at s r (AtRun work) = record { keys = keys_of s r; key = work.job.found.key; wanted = work.job.found.outputs; outputs = []; hit = []; mark = false }
+need_at s r (AtDist work) = record { keys = keys_of s r; key = work.job.found.key; wanted = work.job.found.outputs; outputs = []; hit = []; mark = false }
+need_at s r (AtPlace job b d) = record { keys = keys_of s r; key = job.found.key; wanted = []; outputs = placed_of job.found.locally_preprocessed job.found.outputs; hit = b; mark = false }
+need_at s r (AtCommit b l ls f ending) = record { keys = keys_of s r; key = []; wanted = []; outputs = []; hit = []; mark = b.run }
+need_at s r _ = record { keys = keys_of s r; key = []; wanted = []; outputs = []; hit = []; mark = false }
 
 -- handed writes
 abbrev pub given_of : Pending → Given
@@ -338,6 +339,12 @@ stage_after st (Reserved l k n WriteDone) = IsReserved
 stage_after st (Filled l k b mark WriteDone) = IsFilled
 stage_after st _ = st
 
+-- what the fills of its open entry came to, where it was filled
+abbrev pub stage_fills : Stage → Bool → Option Bool
+stage_fills Fresh mark = None
+stage_fills IsReserved mark = None
+stage_fills IsFilled mark = Some mark
+
 abbrev pub due_stage : Stage → LevelKind → ℕ → Bytes → Due
 due_stage Fresh kind l b = start_write kind l b
 due_stage IsReserved kind l b = ToFill l b
@@ -345,6 +352,10 @@ due_stage IsFilled kind l b = ToCommit l b
 
 abbrev pub due_pending : List LevelFacts → Pending → Due
 due_pending fs p = due_stage p.stage (kind_at fs p.handed.level) p.handed.level (bytes_in p.handed)
+
+-- what it needs of the parts: whether its open entry is marked
+abbrev pub need_back : Setup → Pending → Need
+need_back s p = record { keys = keys_of s no_request; key = []; wanted = []; outputs = []; hit = []; mark = mark_of (stage_fills p.stage p.handed.marked) }
 
 abbrev pub pending_at : ℕ → List Pending → Option Pending
 pending_at i [] = None
@@ -434,7 +445,7 @@ abbrev pub DoesBack : Setup → Machine → ℕ → ℕ → Owner → What → M
 DoesBack s m i z Nobody Idle m2 = (length m.background ≤ i) × (m2 ≡ m)
 DoesBack s m i z (OfWrite n) x m2 =
     (p : Pending) × (pending_at i m.background ≡ Some p) × (n ≡ p.number) × Fits s no_request (due_pending s.levels p) x
-    × ((w : World) × Moves s (need_of s no_request []) (λ l. reserved_at l m.reserved) x (at_moment m.world (ticked m.world.moment x)) w × (m2 ≡ backed s m i p z x w))
+    × ((w : World) × Moves s (need_back s p) (λ l. reserved_at l m.reserved) x (at_moment m.world (ticked m.world.moment x)) w × (m2 ≡ backed s m i p z x w))
 DoesBack s m i z o x m2 = ⊥
 
 abbrev pub DoesPass : Machine → ℕ → Owner → What → Machine → Type 0

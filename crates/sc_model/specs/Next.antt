@@ -87,6 +87,16 @@ NextStep s t (Pass n) o x = NextPass n o x
 abbrev pub Next : Script → List Event → Step → Event → Type 0
 Next s t p e = NextStep s t p e.owner e.what
 
+-- The steps as they were taken: a read that found fewer bytes counts as one of so many.
+abbrev pub step_taken : Step → What → Step
+step_taken (Read c n) (Taken d bytes) = Read c (length bytes)
+step_taken p x = p
+
+abbrev pub as_taken : List Step → List Event → List Step
+as_taken [] t = []
+as_taken (p ∷ ps) [] = p ∷ ps
+as_taken (p ∷ ps) (e ∷ t) = step_taken p e.what ∷ as_taken ps t
+
 -- time passes by Pass alone
 abbrev pub ticked : ℕ → What → ℕ
 ticked now (Passed n) = sat now n

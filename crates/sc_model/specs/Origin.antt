@@ -9,6 +9,8 @@ use Rattle.sc_model.specs.declared.event.Answer.TheVariants.{Hit}
 use Rattle.sc_model.specs.declared.event.DistAnswer.TheVariants.{Done as DistDone}
 use Rattle.sc_model.specs.declared.event.Event.{Event}
 use Rattle.sc_model.specs.declared.event.Mode.TheVariants.{Whole}
+use Rattle.sc_model.specs.declared.event.Objects.{Objects}
+use Rattle.sc_model.specs.declared.event.Objects.TheVariants.{Broken, Collected}
 use Rattle.sc_model.specs.declared.event.Owner.{Owner}
 use Rattle.sc_model.specs.declared.event.Owner.TheVariants.{Request as OfRequest, Write as OfWrite}
 use Rattle.sc_model.specs.declared.event.RunAnswer.TheVariants.{Output as RanOutput}
@@ -20,9 +22,13 @@ use Rattle.sc_model.specs.declared.event.Written.TheVariants.{Done as WriteDone}
 use Rattle.sc_model.specs.declared.message.Request.{Request}
 use Rattle.sc_model.specs.declared.message.Request.TheVariants.{Compile, StoragePutRaw as PutRaw}
 
--- a run event of status 0 whose entry is b stands among these
+-- a run event of status 0 whose objects were collected and whose entry is b stands among these
+abbrev pub IsCollected : Objects → Type 0
+IsCollected (Collected os) = Unit {0}
+IsCollected (Broken chain) = ⊥
+
 abbrev pub IsEntryOf : Setup → RunOutput → List ℕ → Type 0
-IsEntryOf s out b = (out.output.status ≡ Code 0) × (entry_of s out ≡ b)
+IsEntryOf s out b = (out.output.status ≡ Code 0) × IsCollected out.objects × (entry_of s out ≡ b)
 
 abbrev pub HasRun : Setup → List ℕ → List Own → Type 0
 HasRun s b [] = ⊥

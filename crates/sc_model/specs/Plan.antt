@@ -5,7 +5,7 @@ use Rattle.sc_model.specs.declared.event.Answer.TheVariants.{Hit}
 use Rattle.sc_model.specs.declared.event.Mode.{Mode}
 use Rattle.sc_model.specs.declared.event.Mode.TheVariants.{Raw, Whole}
 use Rattle.sc_model.specs.declared.level.Cause.{Cause}
-use Rattle.sc_model.specs.declared.level.Cause.TheVariants.{BadEntry, BadKey, FileTooLarge, Io, ReadOnly as ForReading, RemoteFault as RemoteRefused, Reserved as NoRoom}
+use Rattle.sc_model.specs.declared.level.Cause.TheVariants.{BadEntry, BadKey, FileTooLarge, Io, NotOpen, ReadOnly as ForReading, RemoteFault as RemoteRefused, Reserved as NoRoom}
 use Rattle.sc_model.specs.declared.level.Handed.{Handed}
 use Rattle.sc_model.specs.declared.level.LevelFacts.{LevelFacts}
 use Rattle.sc_model.specs.declared.level.LevelKind.{LevelKind}
@@ -140,6 +140,7 @@ cause_text (ForReading DiskStore) = codes "Cannot write to a read-only cache"
 cause_text (ForReading RemoteStore) = codes "storage is read-only"
 cause_text (ForReading WrapperStore) = codes "Cannot write to read-only storage"
 cause_text (RemoteRefused k) = codes "remote fault: " ++ remote_text k
+cause_text (NotOpen n) = codes "entry " ++ decimal n ++ codes " is not open"
 
 -- a put's reply, Ok or the text of its refusal
 abbrev pub put_result : Put → Result Unit (List ℕ)

@@ -81,13 +81,12 @@ pub record StoreFacts : Type 0 where
   pub flag : Bool
   pub max_size : Option ℕ
 
--- what is known of the distributed client: its scheduler's address, how a wait is told, and, where these are told, what it says of
--- its scheduler, and whether one is made whenever one is due
+-- what is known of the distributed client: its scheduler's address, how a wait is told, and, where that is told, what it says of its
+-- scheduler, or that it refuses to
 pub record Scheduler : Type 0 where
   pub url : Option (List ℕ)
   pub retry_text : ℕ → List ℕ
-  pub status : Option DistInfo
-  pub is_made : Bool
+  pub status : Option (Option DistInfo)
 
 -- a daemon: how it spells, what its parts tell, its store's levels and policy, its limits
 pub record Setup : Type 0 where

@@ -14,6 +14,8 @@ pub enum Cause {
     BadEntry,
     ReadOnly(Store),
     RemoteFault(RemoteFault),
+    /// No entry of this number is open for the key.
+    NotOpen(u64),
 }
 
 #[derive(Clone, Copy)]
@@ -81,6 +83,17 @@ pub struct Handed {
     pub marked: bool,
 }
 
+/// What comes of making a distributed client.
+#[derive(Drop)]
+pub enum Making {
+    Made,
+    /// The scheduler isn't reached.
+    Unreachable,
+    /// The client may not speak to the scheduler, which is told in this text.
+    NoToken(Text),
+}
+
+/// Where a distributed client stands.
 #[derive(Drop)]
 pub enum DistClientState {
     Disabled,
@@ -99,5 +112,17 @@ impl Clone for Handed {
             bytes: self.bytes.clone()?,
             marked: self.marked,
         })
+    }
+}
+
+impl Clone for Making {
+    ghost is_clone = { λ original copy. copy ≡ original };
+
+    fn clone(&self) -> Result<Making, AllocError> {
+        match self {
+            Making::Made => Ok(Making::Made),
+            Making::Unreachable => Ok(Making::Unreachable),
+            Making::NoToken(text) => Ok(Making::NoToken(text.clone()?)),
+        }
     }
 }

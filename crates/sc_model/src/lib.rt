@@ -25,8 +25,8 @@ pub use event::{
 };
 pub use good_names::{is_good_answer, is_output_name, is_stream};
 pub use level::{
-    Cause, DistClientState, Handed, LevelFacts, LevelKind, LevelPolicy, Policy, Put, RemoteFault,
-    Store,
+    Cause, DistClientState, Handed, LevelFacts, LevelKind, LevelPolicy, Making, Policy, Put,
+    RemoteFault, Store,
 };
 pub use message::{
     ColorMode, Compile, CompileFinished, CompileResponse, Request, Response, StorageHandshakeInfo,

@@ -1,5 +1,5 @@
 -- What a daemon over commands and folders is made of.
-use Rattle.std.specs.Prelude.{ℕ, false, List, [], ◌∷◌, codes, None}
+use Rattle.std.specs.Prelude.{ℕ, List, [], ◌∷◌, codes, None}
 use Rattle.sc_compile_dist.specs.Containers.{Contained}
 use Rattle.sc_daemon_owned.specs.Facts.{DistTold}
 use Rattle.sc_daemon_owned.specs.State.{told_by, world_of}
@@ -22,7 +22,7 @@ no_dist_text = codes "no distributed client"
 
 -- a distributed client that is never asked, and tells nothing
 abbrev pub no_dist : Contained
-no_dist = record { url = None; state = Disabled; jobs = None; lines = None; status = None; is_made = false; client_faults = 0; maker_faults = 0 }
+no_dist = record { url = None; state = Disabled; jobs = None; lines = None; status = None; makings = None; client_faults = 0; maker_faults = 0 }
 
 abbrev pub no_dist_told : DistTold
 no_dist_told = told_by no_dist

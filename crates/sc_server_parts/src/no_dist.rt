@@ -1,16 +1,16 @@
 //! No distributed client.
-ghost use Rattle.std.specs.Prelude.{◌≡◌, ◌≤◌, true, false, None, IfOk, OnOk};
-ghost use Rattle.sc_compile_dist.specs.Clients.{Makes, Says};
+ghost use Rattle.std.specs.Prelude.{◌≡◌, ◌≤◌, true, None, IfOk, OnOk};
+ghost use Rattle.sc_compile_dist.specs.Clients.{Says};
 ghost use Rattle.sc_compile_dist.specs.GoodJobs.{is_good_dist};
-ghost use Rattle.sc_compile_dist.specs.declared.maker.Making.TheVariants as makings;
 ghost use Rattle.sc_entry.specs.Failing.{one_more};
 ghost use Rattle.sc_server_parts.specs.Making.{no_dist_text};
-ghost use Rattle.sc_model.specs.World.{DistCause};
+ghost use Rattle.sc_model.specs.World.{DistCause, MakerCause};
 ghost use Rattle.sc_model.specs.declared.event.DistAnswer.TheVariants as dist_answers;
+ghost use Rattle.sc_model.specs.declared.level.Making.TheVariants as makings;
 
-use sc_compile_dist::{DistClient, DistMaker, Making, SchedulerStatus};
+use sc_compile_dist::{DistClient, DistMaker, SchedulerStatus};
 use sc_entry::{FileObjectSource, NoMemory, Text};
-use sc_model::{DistAnswer, SingleCompileCommand};
+use sc_model::{DistAnswer, Making, SingleCompileCommand};
 use std::alloc::Global;
 
 /// A distributed client that has no scheduler: it refuses each job and each status, and counts that.
@@ -101,7 +101,7 @@ impl NoDistMaker {
 impl DistMaker for NoDistMaker {
     type Client = NoDist;
 
-    ghost makes_each = { λ _. false };
+    ghost makings = { λ _. None };
 
     ghost fault_count = { λ m. m.faults };
 
@@ -111,8 +111,7 @@ impl DistMaker for NoDistMaker {
 
     fn make(&mut self, _alloc: Global, client: &mut NoDist, _now: u64) -> Result<Making, NoMemory>
         ensures faults { client.new.faults ≡ client.old.faults }
-        ensures later { self.old.faults ≤ self.new.faults }
-        ensures makes { IfOk result (Makes false self.old.faults self.new.faults) }
+        ensures cause { IfOk result (λ making. MakerCause making self.old.faults self.new.faults) }
 
         // None is made.
         ensures refused { IfOk result (λ making. making ≡ makings.Unreachable) }

@@ -39,6 +39,8 @@ impl Remote for NoRemote {
 
     ghost calls = { λ _. None };
 
+    ghost reached = { λ _. None };
+
     ghost names = { λ _. record { scheme = codes "none"; name = codes "none"; root = codes "/" } };
 
     fn faults(&self) -> u64 {

@@ -2,7 +2,7 @@
 use Rattle.std.proofs.Common.{◌≡◌, ◌≢◌, ◌==◌, eqb-true, eq-eqb, ℕ, zero, suc, ◌<◌, Bool, true, false, ◌&&◌, IsTrue, List, [], ◌∷◌, length, map, slice_index_or, slice_set, Result, Ok, Err, IfOk, refl, arith, subst, sym, ap, ◌∙◌}
 use Rattle.std.proofs.lemmas.List.{length-map, map-set}
 use Rattle.sc_model.specs.Plan.{level_facts, no_level}
-use Rattle.sc_model.specs.World.{Asks, Later, Level, Wrote_at, causes, early_cause, no_level_held, same_maps}
+use Rattle.sc_model.specs.World.{Asks, Later, Level, Wrote_at, causes, early_cause, no_level_held}
 use Rattle.sc_model.specs.declared.event.Answer.{Answer}
 use Rattle.sc_model.specs.declared.event.Mode.{Mode}
 use Rattle.sc_model.specs.declared.event.Written.{Written}
@@ -11,6 +11,7 @@ use Rattle.sc_model.specs.declared.level.Policy.{Policy}
 use Rattle.sc_entry.specs.Entries.{objects}
 use Rattle.sc_model.specs.declared.event.Mode.TheVariants.{Whole}
 use Rattle.sc_store_disk.specs.DiskStores.{DiskStore}
+use Rattle.sc_store_disk.specs.Entries.{SameFiles}
 use Rattle.sc_store_disk.specs.Marks.{Marks, no_marks}
 use Rattle.sc_store_disk.specs.Moving.{ReserveCause}
 use Rattle.sc_store_disk.specs.declared.reserving.Reservation.{Reservation}
@@ -193,13 +194,13 @@ pub alone_at : (old new : Held) (l : ℕ) (before after : HeldLevel) → Alone o
 alone_at old new l before after m = m.alone ∙ ap (λ v. slice_set old.levels l v) (sym m.is)
 
 -- the clauses of a write
-pub puts_at : (old new : Held) (l : ℕ) (before after : HeldLevel) (policy : Policy) (key bytes : List ℕ) (how : Written) → policy ≡ old.policy → Alone old new l before after → Later before.level after.level → PutsLevel policy key bytes how before after → PutsAt l key bytes how old new
-puts_at old new l before after policy key bytes how by m later puts told r =
+pub puts_at : (old new : Held) (l : ℕ) (before after : HeldLevel) (policy : Policy) (key bytes : List ℕ) (mark : Bool) (how : Written) → policy ≡ old.policy → Alone old new l before after → Later before.level after.level → PutsLevel policy key bytes mark how before after → PutsAt l key bytes mark how old new
+puts_at old new l before after policy key bytes mark how by m later puts told r =
     let h = puts (m.tells told) r in (
       after.level,
       subst (λ (v : Level). Later v after.level) (sym m.was) later,
-      subst (λ (p : Policy). Wrote_at p (level_facts old.facts l) r key bytes Whole how (level_in old.levels l) after.level) by
-          (subst (λ (v : Level). Wrote_at policy (level_facts old.facts l) r key bytes Whole how v after.level) (sym m.was) (subst (λ (f : LevelFacts). Wrote_at policy f r key bytes Whole how before.level after.level) (sym m.facts_were) h)),
+      subst (λ (p : Policy). Wrote_at p (level_facts old.facts l) r key bytes Whole mark how (level_in old.levels l) after.level) by
+          (subst (λ (v : Level). Wrote_at policy (level_facts old.facts l) r key bytes Whole mark how v after.level) (sym m.was) (subst (λ (f : LevelFacts). Wrote_at policy f r key bytes Whole mark how before.level after.level) (sym m.facts_were) h)),
       m.alone,
     )
 
@@ -255,8 +256,8 @@ pub disk_at : (P : DiskStore → DiskStore → Type 0) (old new : Held) (l : ℕ
 disk_at P old new l before after m same h =
     subst (λ (s : DiskStore). P s (disk_in new l)) (sym (disk_was old new l before after m)) (subst (λ (s : DiskStore). P (telling old.told (disk_of before)) s) (sym (disk_is old new l before after m same)) h)
 
-pub maps_at : (old new : Held) (l : ℕ) (before after : HeldLevel) → Alone old new l before after → same_maps before.level after.level → same_maps (level_in old.levels l) (level_in new.levels l)
-maps_at old new l before after m h = subst (λ (v : Level). same_maps v (level_in new.levels l)) (sym m.was) (subst (λ (w : Level). same_maps before.level w) (sym m.is) h)
+pub files_at : (old new : Held) (l : ℕ) (before after : HeldLevel) → Alone old new l before after → SameFiles before.level after.level → SameFiles (level_in old.levels l) (level_in new.levels l)
+files_at old new l before after m h = subst (λ (v : Level). SameFiles v (level_in new.levels l)) (sym m.was) (subst (λ (w : Level). SameFiles before.level w) (sym m.is) h)
 
 pub reserve_cause_at : (old new : Held) (l : ℕ) (before after : HeldLevel) (policy : Policy) (key : List ℕ) (size : ℕ) (how : Reservation) → policy ≡ old.policy → Alone old new l before after → ReserveCause (causes policy before.facts before.room.reserved key size) how before.level after.level
     → ReserveCause (causes old.policy (level_facts old.facts l) (room_in old.rooms l).reserved key size) how (level_in old.levels l) (level_in new.levels l)

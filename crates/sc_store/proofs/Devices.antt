@@ -7,10 +7,10 @@ use Rattle.std.specs.Ordering.{nat_cmp, eq_by_cmp}
 use Rattle.sc_entry.specs.Causes.{Rose}
 use Rattle.sc_entry.specs.Failing.{fails_at, faults_after, one_more}
 use Rattle.sc_entry.specs.declared.calls.Calls.{Calls as Counted}
-use Rattle.sc_model.specs.Devices.{calls_failing, MakesOn, numbers_of}
+use Rattle.sc_model.specs.Devices.{Failed, MakesMade, MakesOn, Passed, called, calls_failing, is_to_fail, numbers_of}
 use Rattle.sc_store_disk.specs.Devices.{calls_of}
 use Rattle.sc_store_disk.proofs.Devices.{listed, same_numbers}
-pub use Rattle.sc_store_disk.proofs.Devices.{later_same, later_then, new_calls}
+pub use Rattle.sc_store_disk.proofs.Devices.{later_same, later_then, loses_none, new_calls}
 
 -- a call that does not fail leaves the count of faults
 fault_at : (fails : Bool) (f g : ℕ) → g ≡ faults_after fails f → f < g → fails ≡ true
@@ -36,3 +36,18 @@ call_made old new within same made faults = (
     fails = λ number h k is. fails_so (fails_at old new.made) old.faults new.faults faults (ap (λ n. fails_at old n) (sym (next_is old.made new.made number made h k)) ∙ sym (listed old number) ∙ is);
   },
 )
+
+-- it is one call more, which is to fail or not
+counted : (old new : Counted) → ((number : ℕ) → fails_at new number ≡ fails_at old number) → new.made ≡ one_more old.made → calls_of new ≡ called (calls_of old)
+counted old new same made = λ i. record { failing = same_numbers old new same i; made = made i }
+
+to_fail : (old new : Counted) (b : Bool) → new.made ≡ one_more old.made → fails_at old new.made ≡ b → is_to_fail (called (calls_of old)) ≡ b
+to_fail old new b made is = listed old (one_more old.made) ∙ ap (fails_at old) (sym made) ∙ is
+
+pub call_passed : (old new : Counted) → ((number : ℕ) → fails_at new number ≡ fails_at old number) → new.made ≡ one_more old.made → new.faults ≡ faults_after (fails_at old new.made) old.faults → fails_at old new.made ≡ false
+    → MakesMade (Passed 1) (Some (calls_of old)) (Some (calls_of new)) old.faults new.faults
+call_passed old new same made faults is = (calls_of new, refl, ((tt, to_fail old new false made is), counted old new same made, faults ∙ ap (λ b. faults_after b old.faults) is))
+
+pub call_failed : (old new : Counted) → ((number : ℕ) → fails_at new number ≡ fails_at old number) → new.made ≡ one_more old.made → new.faults ≡ faults_after (fails_at old new.made) old.faults → fails_at old new.made ≡ true
+    → MakesMade (Failed 0 0) (Some (calls_of old)) (Some (calls_of new)) old.faults new.faults
+call_failed old new same made faults is = (calls_of new, refl, (tt, to_fail old new true made is, counted old new same made, fails_so (fails_at old new.made) old.faults new.faults faults is))

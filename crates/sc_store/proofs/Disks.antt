@@ -15,7 +15,7 @@ use Rattle.sc_model.specs.World.{early_cause}
 use Rattle.sc_model.specs.declared.event.Written.{Written}
 use Rattle.sc_model.specs.declared.event.Written.TheVariants.{Done, Refused}
 use Rattle.sc_model.specs.declared.level.Cause.{Cause}
-use Rattle.sc_model.specs.declared.level.Cause.TheVariants.{BadEntry, BadKey, FileTooLarge, Io, ReadOnly, RemoteFault, Reserved}
+use Rattle.sc_model.specs.declared.level.Cause.TheVariants.{BadEntry, BadKey, FileTooLarge, Io, NotOpen, ReadOnly, RemoteFault, Reserved}
 use Rattle.sc_model.specs.declared.level.LevelKind.{LevelKind}
 use Rattle.sc_model.specs.declared.level.LevelKind.TheVariants.{Disk, Remote}
 use Rattle.sc_model.specs.declared.level.Policy.{Policy}
@@ -39,17 +39,17 @@ module _ (t u : Bool) (old new : DiskStore) (tells : t ≡ true → old.told ≡
   pub closes_telling : (number : ℕ) → ClosesEntry number old new → ClosesEntry number (telling t old) (telling u new)
   closes_telling number h = record { closed = h.closed; others = h.others; reserved = h.reserved }
 
-  pub fills_telling : (e : AddEntry) (more : List ℕ) (how : Filling) → FillsBy e more how old new → FillsBy e more how (telling t old) (telling u new)
-  fills_telling e more (Filled same) h = (
+  pub fills_telling : (e : AddEntry) (more : List ℕ) (fills : Option Bool → Option Bool) (how : Filling) → FillsBy e more fills how old new → FillsBy e more fills how (telling t old) (telling u new)
+  fills_telling e more fills (Filled same) h = (
     h.0,
     record {
-      maps = h.1.maps;
+      level = h.1.level;
       reserved = h.1.reserved;
       entry = λ o at. let x = h.1.entry o at in (x.0, x.1, λ told. x.2 (tells told));
       others = h.1.others;
     },
   )
-  fills_telling e more (NotFilled c) h = (h.0, h.1, record { closed = h.2.closed; others = h.2.others; reserved = h.2.reserved })
+  fills_telling e more fills (NotFilled c) h = (h.0, record { closed = h.1.closed; others = h.1.others; reserved = h.1.reserved })
 
   pub commits_telling : (number : ℕ) (how : Written) → CommitsEntry number how old new → CommitsEntry number how (telling t old) (telling u new)
   commits_telling number how h told = h (tells told)
@@ -66,6 +66,7 @@ module _ (t u : Bool) (old new : DiskStore) (tells : t ≡ true → old.told ≡
   cause_telling number (Refused BadEntry) h = absurd h
   cause_telling number (Refused (ReadOnly s)) h = absurd h
   cause_telling number (Refused (RemoteFault k)) h = absurd h
+  cause_telling number (Refused (NotOpen x)) h = absurd h
 
   pub puts_pre_telling : (p : Policy) (k b : List ℕ) (how : Written) → PutsPre p k b how old new → PutsPre p k b how (telling t old) (telling u new)
   puts_pre_telling p k b how h told = h (tells told)
@@ -79,6 +80,7 @@ module _ (t u : Bool) (old new : DiskStore) (tells : t ≡ true → old.told ≡
   pre_cause_telling early b (Refused BadEntry) h = h
   pre_cause_telling early b (Refused (ReadOnly s)) h = h
   pre_cause_telling early b (Refused (RemoteFault k)) h = h
+  pre_cause_telling early b (Refused (NotOpen x)) h = h
 
   pre_cause_by_telling : (kind : LevelKind) (early : Option Cause) (b : List ℕ) (how : Written) → PreCauseBy kind early b how old new → PreCauseBy kind early b how (telling t old) (telling u new)
   pre_cause_by_telling Disk early b how h = pre_cause_telling early b how h

@@ -126,12 +126,12 @@ AsksLevel key mode answer before now =
     before.told ≡ true → IsTrue (has_mode before.facts.kind mode) → Asks objects before.facts before.room.reserved key mode answer before.level now.level
 
 -- A write at one level that tells what it holds.
-abbrev pub PutsLevel : Policy → List ℕ → List ℕ → Written → HeldLevel → HeldLevel → Type 0
-PutsLevel policy key bytes how before now = before.told ≡ true → (r : ℕ) → Wrote_at policy before.facts r key bytes Whole how before.level now.level
+abbrev pub PutsLevel : Policy → List ℕ → List ℕ → Bool → Written → HeldLevel → HeldLevel → Type 0
+PutsLevel policy key bytes mark how before now = before.told ≡ true → (r : ℕ) → Wrote_at policy before.facts r key bytes Whole mark how before.level now.level
 
 -- A put of a preprocessor entry at a level that tells what it holds. A remote level keeps none.
 abbrev pub PutsPre : Policy → List ℕ → List ℕ → Written → DiskStore → DiskStore → Type 0
-PutsPre policy key bytes how old new = old.told ≡ true → Wrote_at policy old.facts old.reserved key bytes Pre how old.level new.level
+PutsPre policy key bytes how old new = old.told ≡ true → Wrote_at policy old.facts old.reserved key bytes Pre false how old.level new.level
 
 -- Why it was put or not, whether or not the level tells what it holds.
 abbrev pub PreCauseBy : LevelKind → Option Cause → List ℕ → Written → DiskStore → DiskStore → Type 0
@@ -158,10 +158,10 @@ AsksAt l key mode answer old new =
     (v : Level) × Asks objects (level_facts old.facts l) (room_in old.rooms l).reserved key mode answer (level_in old.levels l) v × (new.levels ≡ slice_set old.levels l v)
 
 -- A write there.
-abbrev pub PutsAt : ℕ → List ℕ → List ℕ → Written → Held → Held → Type 0
-PutsAt l key bytes how old new =
+abbrev pub PutsAt : ℕ → List ℕ → List ℕ → Bool → Written → Held → Held → Type 0
+PutsAt l key bytes mark how old new =
     old.told ≡ true → (r : ℕ) →
-    (v : Level) × Later (level_in old.levels l) v × Wrote_at old.policy (level_facts old.facts l) r key bytes Whole how (level_in old.levels l) v × (new.levels ≡ slice_set old.levels l v)
+    (v : Level) × Later (level_in old.levels l) v × Wrote_at old.policy (level_facts old.facts l) r key bytes Whole mark how (level_in old.levels l) v × (new.levels ≡ slice_set old.levels l v)
 
 -- One level moved, what is open there too, and no other.
 pub record AloneAt (l : ℕ) (old new : Held) : Type 0 where

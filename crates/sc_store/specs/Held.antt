@@ -3,7 +3,7 @@ use Rattle.std.specs.Prelude.{◌≡◌, ◌≤◌, ◌+◌, ℕ, Bool, true, fa
 use Rattle.std.specs.Str.Lossy.{utf8_lossy}
 use Rattle.std.specs.Coded.{Coded, code_by, coded×, coded_bool, coded_ℕ, coded_list, coded_option}
 use Rattle.std.specs.FinSet as set
-use Rattle.sc_store_disk.specs.DiskStores.{DiskStore, OpenEntry}
+use Rattle.sc_store_disk.specs.DiskStores.{DiskStore, OpenEntry, with_marked}
 use Rattle.sc_store_disk.specs.Marks.{Marks, marks_code, no_marks}
 use Rattle.sc_model.specs.Devices.{Calls, Numbers}
 use Rattle.sc_model.specs.Plan.{level_facts}
@@ -115,11 +115,20 @@ as_configured mode = modes_of mode mode
 abbrev pub remote_facts : Modes → LevelFacts
 remote_facts modes = record { kind = Remote; wrapped = false; configured = modes.configured; mode = modes.mode; capacity = 0; root = [] }
 
-abbrev pub remote_level : Option Files → ℕ → ℕ → Option Calls → Level
-remote_level held faults losses calls = record { faults = faults; losses = losses; calls = calls; opened = false; main = told_files held; pre = no_files }
+-- of the marked paths those at which bytes stand
+abbrev pub marks_there : List (List ℕ) → Files → List (List ℕ)
+marks_there [] files = []
+marks_there (path ∷ paths) files = with_marked (Some path) files (marks_there paths files)
 
-abbrev pub held_remote : Names → Given → Modes → Option Files → ℕ → ℕ → Option Calls → HeldLevel
-held_remote names given modes held faults losses calls = record { title = remote_title names given; facts = remote_facts modes; told = is_some held; level = remote_level held faults losses calls; room = no_room; marks = no_marks }
+-- what reached what is behind a remote, in order
+abbrev pub Reached : Type 0
+Reached = List (List ℕ × List ℕ)
+
+abbrev pub remote_level : Option Files → ℕ → ℕ → Option Calls → Option Reached → Marks → Level
+remote_level held faults losses calls reached marks = record { faults = faults; losses = losses; calls = calls; opened = false; stale = 0; main = told_files held; pre = no_files; marks = marks_there marks.files (told_files held); written = reached }
+
+abbrev pub held_remote : Names → Given → Modes → Option Files → ℕ → ℕ → Option Calls → Option Reached → Marks → HeldLevel
+held_remote names given modes held faults losses calls reached marks = record { title = remote_title names given; facts = remote_facts modes; told = is_some held; level = remote_level held faults losses calls reached marks; room = no_room; marks = marks }
 
 -- a disk store as a level
 abbrev pub of_disk : Given → DiskStore → HeldLevel
@@ -176,10 +185,11 @@ calls_code = code_by (Numbers × ℕ) (coded× (set.code coded_ℕ) coded_ℕ)
     (λ _. refl)
 
 abbrev pub level_code : Coded Level
-level_code = code_by (ℕ × (ℕ × (Option Calls × (Bool × (Files × Files)))))
-    (coded× coded_ℕ (coded× coded_ℕ (coded× (coded_option calls_code) (coded× coded_bool (coded× files_code files_code)))))
-    (λ v. (v.faults, (v.losses, (v.calls, (v.opened, (v.main, v.pre))))))
-    (λ p. record { faults = p.0; losses = p.1.0; calls = p.1.1.0; opened = p.1.1.1.0; main = p.1.1.1.1.0; pre = p.1.1.1.1.1 })
+level_code = code_by (ℕ × (ℕ × (Option Calls × (Bool × (ℕ × (Files × (Files × (List (List ℕ) × Option Reached))))))))
+    (coded× coded_ℕ (coded× coded_ℕ (coded× (coded_option calls_code) (coded× coded_bool (coded× coded_ℕ (coded× files_code (coded× files_code
+    (coded× (coded_list (coded_list coded_ℕ)) (coded_option (coded_list (coded× (coded_list coded_ℕ) (coded_list coded_ℕ))))))))))))
+    (λ v. (v.faults, (v.losses, (v.calls, (v.opened, (v.stale, (v.main, (v.pre, (v.marks, v.written)))))))))
+    (λ p. record { faults = p.0; losses = p.1.0; calls = p.1.1.0; opened = p.1.1.1.0; stale = p.1.1.1.1.0; main = p.1.1.1.1.1.0; pre = p.1.1.1.1.1.1.0; marks = p.1.1.1.1.1.1.1.0; written = p.1.1.1.1.1.1.1.1 })
     (λ _. refl)
 
 abbrev pub given_code : Coded Given
@@ -197,10 +207,10 @@ title_code = code_by (List ℕ × (List ℕ × Given))
     (λ _. refl)
 
 abbrev pub entry_code : Coded OpenEntry
-entry_code = code_by (List ℕ × (ℕ × List ℕ))
-    (coded× (coded_list coded_ℕ) (coded× coded_ℕ (coded_list coded_ℕ)))
-    (λ o. (o.path, (o.size, o.bytes)))
-    (λ p. record { path = p.0; size = p.1.0; bytes = p.1.1 })
+entry_code = code_by (List ℕ × (ℕ × (List ℕ × Option Bool)))
+    (coded× (coded_list coded_ℕ) (coded× coded_ℕ (coded× (coded_list coded_ℕ) (coded_option coded_bool))))
+    (λ o. (o.path, (o.size, (o.bytes, o.fills))))
+    (λ p. record { path = p.0; size = p.1.0; bytes = p.1.1.0; fills = p.1.1.1 })
     (λ _. refl)
 
 abbrev pub room_code : Coded Room

@@ -1,7 +1,8 @@
 -- What a call of a store behind a network does to what the store holds, and why it is refused.
 use Rattle.std.specs.Prelude.{◌≡◌, ℕ, Bool, true, false, List, Option, Some, None, ◌⊎◌}
-use Rattle.sc_entry.specs.Causes.{Rose}
-use Rattle.sc_model.specs.World.{Files, IsPart, find_file, put_file}
+use Rattle.sc_entry.specs.Causes.{IfTold, Rose}
+use Rattle.sc_model.specs.Devices.{Calls, Failed, MakesMade, Passed}
+use Rattle.sc_model.specs.World.{Files, IsPart, and_one, find_file, put_file}
 use Rattle.sc_model.specs.declared.level.RemoteFault.TheVariants.{Other}
 use Rattle.sc_store.specs.declared.remote.RemoteRead.{RemoteRead}
 use Rattle.sc_store.specs.declared.remote.RemoteRead.TheVariants.{Found, NotFound, Refused as ReadRefused}
@@ -40,6 +41,21 @@ ReadCause _ before now = Unit {0}
 abbrev pub WriteCause : RemoteWrite → ℕ → ℕ → Type 0
 WriteCause (WriteRefused fault) before now = Rose before now
 WriteCause Done before now = Unit {0}
+
+-- One call was made. Where calls are told it is refused exactly where it is to fail, and a refusal has no kind of its own.
+abbrev pub ReadCalls : RemoteRead → Option Calls → Option Calls → ℕ → ℕ → Type 0
+ReadCalls (ReadRefused fault) before now f g = IfTold before (λ calls. fault ≡ Other) × MakesMade (Failed 0 0) before now f g
+ReadCalls _ before now f g = MakesMade (Passed 1) before now f g
+
+abbrev pub WriteCalls : RemoteWrite → Option Calls → Option Calls → ℕ → ℕ → Type 0
+WriteCalls (WriteRefused fault) before now f g = IfTold before (λ calls. fault ≡ Other) × MakesMade (Failed 0 0) before now f g
+WriteCalls Done before now f g = MakesMade (Passed 1) before now f g
+
+-- What a write adds to what reached what is behind a store, where that is told: its bytes, which a refused one may have brought there
+-- or not.
+abbrev pub ReachesBy : RemoteWrite → List ℕ → List ℕ → Option (List (List ℕ × List ℕ)) → Option (List (List ℕ × List ℕ)) → Type 0
+ReachesBy Done path bytes before now = now ≡ and_one before (path, bytes)
+ReachesBy (WriteRefused fault) path bytes before now = (now ≡ before) ⊎ (now ≡ and_one before (path, bytes))
 
 -- What a store in memory answers: it refuses the calls that are to fail, and no others. Its faults have no kind of their own.
 abbrev pub read_found : Option (List ℕ) → RemoteRead

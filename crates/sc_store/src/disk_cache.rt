@@ -1,16 +1,16 @@
 //! A disk store as a level's store.
 ghost use Rattle.std.specs.Prelude.{◌≡◌, ◌+◌, ◌≤◌, false, true, Some, Ok, Err, IfOk, IfErr, OnErr, length};
 ghost use Rattle.sc_store_disk.specs.DiskStores.{entry_path, held_disk, unopened_store};
-ghost use Rattle.sc_store_disk.specs.Entries.{ClosesEntry, CommitCause, CommitsEntry, CommitsNothing, FillsBy, IsOpenAt};
+ghost use Rattle.sc_store_disk.specs.Entries.{ClosesEntry, CommitCause, CommitsEntry, CommitsNothing, FillsBy, IsOpenAt, SameFiles};
 ghost use Rattle.sc_store_disk.specs.Marked.{MarksCommitted, MarksFilled, MarksOpened};
-ghost use Rattle.sc_store_disk.specs.Marks.{Forgets};
+ghost use Rattle.sc_store_disk.specs.Marks.{Forgets, filled_by};
 ghost use Rattle.sc_store_disk.specs.Moving.{AskCause, AsksDisk, EvictsFor, OpensBy, ReserveCause, SameEntries, Stays, Steady};
 ghost use Rattle.sc_store_disk.specs.Preprocessor.{PreCause, PutsPre};
 ghost use Rattle.sc_store_disk.specs.declared.filling.EntryError.TheVariants.{NotOpen as IsNotOpen};
 ghost use Rattle.sc_store_disk.specs.declared.reserving.Reservation.TheVariants.{Refused as IsNotReserved};
 ghost use Rattle.sc_entry.specs.Keys.{is_store_key as is_key};
 ghost use Rattle.sc_disk_pair.specs.Twos.{joined_state, joins};
-ghost use Rattle.sc_model.specs.World.{causes, early_cause as early, part_size, same_maps};
+ghost use Rattle.sc_model.specs.World.{KeepsMarks, causes, early_cause as early, part_size};
 ghost use Rattle.sc_model.specs.declared.level.Cause.{Cause};
 ghost use Rattle.sc_model.specs.declared.level.LevelKind.TheVariants.{Disk as IsDisk};
 ghost use Rattle.sc_store.specs.Asking.{ReservesDisk, TellsMark, reads_key};
@@ -143,11 +143,13 @@ impl<D: Disk, V: Vouch> DiskCache<D, V> {
         self.cache.reserved()
     }
 
-    /// What every disk store keeps: its files and reservations take at most its capacity.
+    /// What every disk store keeps: its files and reservations take at most its capacity, and no path is marked at which no file
+    /// stands.
     pub fn keeps(&self)
         ensures kind { self.now.facts.kind ≡ IsDisk }
         ensures bare { self.now.facts.wrapped ≡ false }
         ensures within { part_size self.now.level + self.now.room.reserved ≤ self.now.facts.capacity }
+        ensures marks { KeepsMarks self.now.level self.now.level }
     {
         self.cache.keeps();
     }
@@ -202,9 +204,9 @@ impl<D: Disk + Drop, V: Vouch> DiskCache<D, V> {
         ensures stays { Stays (disk_of self.old) (disk_of self.new) }
         ensures marks { IfOk result (λ how. MarksFilled entry.number from_run how self.old.marks self.new.marks) }
         ensures forgotten { OnErr result (IsOpenAt entry (disk_of self.old) → Forgets entry.number self.old.marks self.new.marks) }
-        ensures filled { IfOk result (λ how. IsOpenAt entry (disk_of self.old) × FillsBy entry bytes.now how (disk_of self.old) (disk_of self.new)) }
+        ensures filled { IfOk result (λ how. IsOpenAt entry (disk_of self.old) × FillsBy entry bytes.now (filled_by from_run) how (disk_of self.old) (disk_of self.new)) }
         ensures closed { OnErr result (IsOpenAt entry (disk_of self.old) → ClosesEntry entry.number (disk_of self.old) (disk_of self.new)) }
-        ensures kept { OnErr result (same_maps self.old.level self.new.level) }
+        ensures kept { OnErr result (SameFiles self.old.level self.new.level) }
         ensures not_open { IfErr result (λ refused. refused ≡ IsNotOpen → (IsOpenAt entry (disk_of self.old) → ⊥) × (self.new ≡ self.old)) }
         ensures shut { (IsOpenAt entry (disk_of self.old) → ⊥) → result ≡ Err IsNotOpen }
     {

@@ -1,14 +1,14 @@
 //! One level of a daemon's store.
 ghost use Rattle.std.specs.Prelude.{◌≡◌, true, false, Some, Ok, IfOk, IfErr, OnErr, Err, length};
 ghost use Rattle.sc_store_disk.specs.DiskStores.{entry_path};
-ghost use Rattle.sc_store_disk.specs.Entries.{ClosesEntry, CommitCause, CommitsEntry, CommitsNothing, FillsBy, IsOpenAt};
+ghost use Rattle.sc_store_disk.specs.Entries.{ClosesEntry, CommitCause, CommitsEntry, CommitsNothing, FillsBy, IsOpenAt, SameFiles};
 ghost use Rattle.sc_store_disk.specs.Marked.{MarksCommitted, MarksFilled, MarksOpened};
-ghost use Rattle.sc_store_disk.specs.Marks.{Forgets};
+ghost use Rattle.sc_store_disk.specs.Marks.{Forgets, filled_by};
 ghost use Rattle.sc_store_disk.specs.Moving.{EvictsFor, OpensBy, ReserveCause, SameEntries};
 ghost use Rattle.sc_store_disk.specs.declared.filling.EntryError.TheVariants.{NotOpen as IsNotOpen};
 ghost use Rattle.sc_store_disk.specs.declared.reserving.Reservation.TheVariants.{Refused as IsNotReserved};
 ghost use Rattle.sc_entry.specs.Keys.{is_store_key as is_key};
-ghost use Rattle.sc_model.specs.World.{Later, causes, early_cause as early, same_maps};
+ghost use Rattle.sc_model.specs.World.{Later, causes, early_cause as early};
 ghost use Rattle.sc_model.specs.declared.level.Cause.{Cause as CauseType};
 ghost use Rattle.sc_model.specs.declared.level.Cause.TheVariants.{ReadOnly as ForReading};
 ghost use Rattle.sc_model.specs.declared.level.Store.TheVariants.{Wrapper};
@@ -291,7 +291,7 @@ impl<R: Remote, D: Disk + Drop, V: Vouch> Level<R, D, V> {
         ensures fewer { OnErr result (Fewer (held_level self.old).marks (held_level self.new).marks) }
         ensures later { Later (held_level self.old).level (held_level self.new).level }
         ensures within { IsWithin (held_level self.new).facts (held_level self.new).level (held_level self.new).room }
-        ensures wrote { IfOk result (λ how. PutsLevel policy.now key.now bytes.now how (held_level self.old) (held_level self.new)) }
+        ensures wrote { IfOk result (λ how. PutsLevel policy.now key.now bytes.now from_run how (held_level self.old) (held_level self.new)) }
         ensures cause { IfOk result (λ how. PutCause (early policy.now (held_level self.old).facts key.now) how (held_level self.old).level (held_level self.new).level) }
         ensures early { (c : CauseType) → early policy.now (held_level self.old).facts key.now ≡ Some c → (result ≡ Ok (Written.Refused c)) × (self.new ≡ self.old) }
     {
@@ -365,9 +365,9 @@ impl<R: Remote, D: Disk + Drop, V: Vouch> Level<R, D, V> {
         ensures marks { IfOk result (λ how. MarksFilled entry.number from_run how (held_level self.old).marks (held_level self.new).marks) }
         ensures forgotten { OnErr result (IsOpenAt entry (disk_of (held_level self.old)) → Forgets entry.number (held_level self.old).marks (held_level self.new).marks) }
         ensures within { IsWithin (held_level self.new).facts (held_level self.new).level (held_level self.new).room }
-        ensures filled { IfOk result (λ how. IsOpenAt entry (disk_of (held_level self.old)) × FillsBy entry bytes.now how (disk_of (held_level self.old)) (disk_of (held_level self.new))) }
+        ensures filled { IfOk result (λ how. IsOpenAt entry (disk_of (held_level self.old)) × FillsBy entry bytes.now (filled_by from_run) how (disk_of (held_level self.old)) (disk_of (held_level self.new))) }
         ensures closed { OnErr result (IsOpenAt entry (disk_of (held_level self.old)) → ClosesEntry entry.number (disk_of (held_level self.old)) (disk_of (held_level self.new))) }
-        ensures kept { OnErr result (same_maps (held_level self.old).level (held_level self.new).level) }
+        ensures kept { OnErr result (SameFiles (held_level self.old).level (held_level self.new).level) }
         ensures not_open { IfErr result (λ refused. refused ≡ IsNotOpen → (IsOpenAt entry (disk_of (held_level self.old)) → ⊥) × (self.new ≡ self.old)) }
         ensures shut { (IsOpenAt entry (disk_of (held_level self.old)) → ⊥) → result ≡ Err IsNotOpen }
     {

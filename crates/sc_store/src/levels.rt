@@ -1,14 +1,14 @@
 ghost use Rattle.std.specs.Prelude.{◌≡◌, ◌<◌, ◌↔◌, ℕ, IsTrue, true, false, Some, Ok, Err, IfOk, IfErr, OnErr, length, slice_set};
 ghost use Rattle.sc_store_disk.specs.DiskStores.{entry_path};
-ghost use Rattle.sc_store_disk.specs.Entries.{ClosesEntry, CommitCause, CommitsEntry, CommitsNothing, FillsBy, IsOpenAt};
+ghost use Rattle.sc_store_disk.specs.Entries.{ClosesEntry, CommitCause, CommitsEntry, CommitsNothing, FillsBy, IsOpenAt, SameFiles};
 ghost use Rattle.sc_store_disk.specs.Marked.{MarksCommitted, MarksFilled, MarksOpened};
-ghost use Rattle.sc_store_disk.specs.Marks.{Forgets};
+ghost use Rattle.sc_store_disk.specs.Marks.{Forgets, filled_by};
 ghost use Rattle.sc_store_disk.specs.Moving.{EvictsFor, OpensBy, ReserveCause, SameEntries};
 ghost use Rattle.sc_store_disk.specs.declared.filling.EntryError.TheVariants.{NotOpen as IsNotOpen};
 ghost use Rattle.sc_store_disk.specs.declared.reserving.Reservation.TheVariants.{Refused as IsNotReserved};
 ghost use Rattle.sc_entry.specs.Keys.{is_store_key as is_key};
 ghost use Rattle.sc_model.specs.Plan.{level_facts};
-ghost use Rattle.sc_model.specs.World.{Later, causes, early_cause as early, same_maps};
+ghost use Rattle.sc_model.specs.World.{Later, causes, early_cause as early};
 ghost use Rattle.sc_model.specs.declared.level.Cause.{Cause};
 ghost use Rattle.sc_model.specs.declared.level.Cause.TheVariants.{ReadOnly as ForReading};
 ghost use Rattle.sc_model.specs.declared.level.Store.TheVariants.{Wrapper};
@@ -223,7 +223,7 @@ impl<R: Remote, D: Disk + Drop, V: Vouch> Layered<R, D, V> {
         ensures marks_alone { self.new.marks ≡ slice_set self.old.marks level (marks_in self.new.marks level) }
         ensures fewer { OnErr result (Fewer (marks_in self.old.marks level) (marks_in self.new.marks level)) }
         ensures later { Later (level_in self.old.levels level) (level_in self.new.levels level) }
-        ensures wrote { IfOk result (λ how. PutsAt level key.now bytes.now how self.old self.new) }
+        ensures wrote { IfOk result (λ how. PutsAt level key.now bytes.now from_run how self.old self.new) }
         ensures cause { IfOk result (λ how. PutCause (early self.old.policy (level_facts self.old.facts level) key.now) how (level_in self.old.levels level) (level_in self.new.levels level)) }
         ensures early { (c : Cause) → early self.old.policy (level_facts self.old.facts level) key.now ≡ Some c → (result ≡ Ok (Written.Refused c)) × (self.new ≡ self.old) }
     {
@@ -270,9 +270,9 @@ impl<R: Remote, D: Disk + Drop, V: Vouch> Layered<R, D, V> {
         ensures later { Later (level_in self.old.levels level) (level_in self.new.levels level) }
         ensures marks { IfOk result (λ how. MarksFilled entry.number from_run how (marks_in self.old.marks level) (marks_in self.new.marks level)) }
         ensures forgotten { OnErr result (IsOpenAt entry (disk_in self.old level) → Forgets entry.number (marks_in self.old.marks level) (marks_in self.new.marks level)) }
-        ensures filled { IfOk result (λ how. IsOpenAt entry (disk_in self.old level) × FillsBy entry bytes.now how (disk_in self.old level) (disk_in self.new level)) }
+        ensures filled { IfOk result (λ how. IsOpenAt entry (disk_in self.old level) × FillsBy entry bytes.now (filled_by from_run) how (disk_in self.old level) (disk_in self.new level)) }
         ensures closed { OnErr result (IsOpenAt entry (disk_in self.old level) → ClosesEntry entry.number (disk_in self.old level) (disk_in self.new level)) }
-        ensures kept { OnErr result (same_maps (level_in self.old.levels level) (level_in self.new.levels level)) }
+        ensures kept { OnErr result (SameFiles (level_in self.old.levels level) (level_in self.new.levels level)) }
         ensures not_open { IfErr result (λ refused. refused ≡ IsNotOpen → (IsOpenAt entry (disk_in self.old level) → ⊥) × (self.new ≡ self.old)) }
         ensures shut { (IsOpenAt entry (disk_in self.old level) → ⊥) → result ≡ Err IsNotOpen }
     {

@@ -1,13 +1,13 @@
-ghost use Rattle.std.specs.Prelude.{◌≡◌, ◌≤◌, ℕ, Some, IfOk, cond, length};
+ghost use Rattle.std.specs.Prelude.{◌≡◌, ◌≤◌, ℕ, true, false, None, Some, IfOk, cond, length};
 ghost use Rattle.std.specs.List.{list_any};
 ghost use Rattle.std.specs.Ordering.{nat_cmp, eq_by_cmp};
 ghost use Rattle.sc_entry.specs.Failing.{fails_at, faults_after, one_more};
-ghost use Rattle.sc_model.specs.Devices.{MakesOn, calls_failing};
+ghost use Rattle.sc_model.specs.Devices.{Failed, MakesMade, MakesOn, Passed, calls_failing};
 ghost use Rattle.sc_model.specs.World.{no_files, find_file, put_file};
 ghost use Rattle.sc_store_disk.specs.Devices.{calls_of};
 ghost use Rattle.sc_store.specs.Held.{memory_names};
 ghost use Rattle.sc_store.specs.Paths.{entries_of, put_all, told_size};
-ghost use Rattle.sc_store.specs.Remotes.{Reads, ReadCause, Writes, WriteCause, read_of, write_of};
+ghost use Rattle.sc_store.specs.Remotes.{ReadCalls, ReadCause, Reads, WriteCalls, WriteCause, Writes, read_of, write_of};
 
 use crate::path_map::PathMap;
 use crate::remote::{Remote, RemoteRead, RemoteWrite};
@@ -75,6 +75,8 @@ impl MemRemote {
     fn count_call(&mut self) -> bool
         ensures answer { result ≡ fails_at self.old.calls self.new.calls.made }
         ensures calls { MakesOn (Some (calls_of self.old.calls)) (Some (calls_of self.new.calls)) self.old.calls.faults self.new.calls.faults }
+        ensures passed { result ≡ false → MakesMade (Passed 1) (Some (calls_of self.old.calls)) (Some (calls_of self.new.calls)) self.old.calls.faults self.new.calls.faults }
+        ensures failed { result ≡ true → MakesMade (Failed 0 0) (Some (calls_of self.old.calls)) (Some (calls_of self.new.calls)) self.old.calls.faults self.new.calls.faults }
         ensures failing { (number : ℕ) → fails_at self.new.calls number ≡ fails_at self.old.calls number }
         ensures made { self.new.calls.made ≡ one_more self.old.calls.made }
         ensures faults { self.new.calls.faults ≡ faults_after (fails_at self.old.calls self.new.calls.made) self.old.calls.faults }
@@ -95,6 +97,8 @@ impl Remote for MemRemote {
 
     ghost calls = { λ m. Some (calls_of m.calls) };
 
+    ghost reached = { λ m. None };
+
     ghost names = { λ _. memory_names };
 
     fn faults(&self) -> u64 {
@@ -104,6 +108,7 @@ impl Remote for MemRemote {
     fn read(&mut self, _alloc: Global, path: &Text) -> Result<RemoteRead, NoMemory>
         ensures told { IfOk result (λ answer. Reads answer 0 0 path.now self.old.files self.new.files) }
         ensures cause { IfOk result (λ answer. ReadCause answer self.old.calls.faults self.new.calls.faults) }
+        ensures one_call { IfOk result (λ answer. ReadCalls answer (Some (calls_of self.old.calls)) (Some (calls_of self.new.calls)) self.old.calls.faults self.new.calls.faults) }
         ensures calls { MakesOn (Some (calls_of self.old.calls)) (Some (calls_of self.new.calls)) self.old.calls.faults self.new.calls.faults }
         ensures faults_stay { self.old.calls.faults ≤ self.new.calls.faults }
         ensures answer { IfOk result (λ answer. answer ≡ read_of (fails_at self.old.calls self.new.calls.made) (find_file self.old.files path.now)) }
@@ -129,6 +134,7 @@ impl Remote for MemRemote {
     ) -> Result<RemoteWrite, NoMemory>
         ensures told { IfOk result (λ answer. Writes answer 0 0 path.now bytes.now self.old.files self.new.files) }
         ensures cause { IfOk result (λ answer. WriteCause answer self.old.calls.faults self.new.calls.faults) }
+        ensures one_call { IfOk result (λ answer. WriteCalls answer (Some (calls_of self.old.calls)) (Some (calls_of self.new.calls)) self.old.calls.faults self.new.calls.faults) }
         ensures calls { MakesOn (Some (calls_of self.old.calls)) (Some (calls_of self.new.calls)) self.old.calls.faults self.new.calls.faults }
         ensures faults_stay { self.old.calls.faults ≤ self.new.calls.faults }
         ensures answer { IfOk result (λ answer. answer ≡ write_of (fails_at self.old.calls self.new.calls.made)) }

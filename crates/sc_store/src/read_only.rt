@@ -1,6 +1,7 @@
 //! A store that is only read.
 ghost use Rattle.sc_store.specs.Held.{IsWithin};
 ghost use Rattle.sc_store.specs.Levels.{held_read_only};
+ghost use Rattle.sc_model.specs.World.{KeepsMarks};
 
 use crate::disk_cache::DiskCache;
 use crate::remote::Remote;
@@ -22,9 +23,10 @@ pub enum ReadOnlyLevel<R: Remote, D: Disk, V: Vouch> {
 }
 
 impl<R: Remote, D: Disk, V: Vouch> ReadOnlyLevel<R, D, V> {
-    /// What it keeps: a disk store's files and reservations take at most its capacity.
+    /// What it keeps: a disk store's files and reservations take at most its capacity, and no path is marked at which nothing stands.
     pub(crate) fn keeps(&self)
-        ensures { IsWithin (held_read_only self.now).facts (held_read_only self.now).level (held_read_only self.now).room }
+        ensures within { IsWithin (held_read_only self.now).facts (held_read_only self.now).level (held_read_only self.now).room }
+        ensures marks { KeepsMarks (held_read_only self.now).level (held_read_only self.now).level }
     {
         match self {
             ReadOnlyLevel::Remote(only) => {

@@ -1,9 +1,9 @@
-ghost use Rattle.std.specs.Prelude.{◌≡◌, ◌≤◌, ℕ, Option, IfOk, is_some};
+ghost use Rattle.std.specs.Prelude.{◌≡◌, ◌≤◌, ℕ, List, Option, IfOk, is_some};
 ghost use Rattle.sc_entry.specs.Causes.{Told};
-ghost use Rattle.sc_model.specs.Devices.{Calls, MakesOn};
+ghost use Rattle.sc_model.specs.Devices.{Calls, Loses, MakesOn};
 ghost use Rattle.sc_model.specs.World.{Files};
 ghost use Rattle.sc_store.specs.Held.{Names};
-ghost use Rattle.sc_store.specs.Remotes.{Reads, ReadCause, Writes, WriteCause};
+ghost use Rattle.sc_store.specs.Remotes.{ReachesBy, ReadCalls, ReadCause, Reads, WriteCalls, WriteCause, Writes};
 
 use sc_entry::{ByteText, NoMemory, Text};
 use sc_model::RemoteFault;
@@ -39,6 +39,9 @@ pub trait Remote {
     /// Which of its calls are to fail, and how many were made, where it tells that. No call changes whether it tells.
     ghost calls: { Self → Option Calls };
 
+    /// What reached what is behind it, path and bytes in order, where it tells that. No call changes whether it tells.
+    ghost reached: { Self → Option (List (List ℕ × List ℕ)) };
+
     /// What it is called. No call changes that.
     ghost names: { Self → Names };
 
@@ -53,8 +56,10 @@ pub trait Remote {
         ensures told { IfOk result (λ answer. Told (Reads answer (loss_count self.old) (loss_count self.new) path.now) (held self.old) (held self.new)) }
         ensures cause { IfOk result (λ answer. ReadCause answer (fault_count self.old) (fault_count self.new)) }
         ensures calls { MakesOn (calls self.old) (calls self.new) (fault_count self.old) (fault_count self.new) }
+        ensures one_call { IfOk result (λ answer. ReadCalls answer (calls self.old) (calls self.new) (fault_count self.old) (fault_count self.new)) }
         ensures faults_stay { fault_count self.old ≤ fault_count self.new }
-        ensures losses_stay { loss_count self.old ≤ loss_count self.new };
+        ensures losses { Loses (calls self.old) (loss_count self.old) (loss_count self.new) }
+        ensures reached { reached self.new ≡ reached self.old };
 
     /// Puts bytes at a path, in place of those that stood there.
     fn write(
@@ -68,8 +73,11 @@ pub trait Remote {
         ensures told { IfOk result (λ answer. Told (Writes answer (loss_count self.old) (loss_count self.new) path.now bytes.now) (held self.old) (held self.new)) }
         ensures cause { IfOk result (λ answer. WriteCause answer (fault_count self.old) (fault_count self.new)) }
         ensures calls { MakesOn (calls self.old) (calls self.new) (fault_count self.old) (fault_count self.new) }
+        ensures one_call { IfOk result (λ answer. WriteCalls answer (calls self.old) (calls self.new) (fault_count self.old) (fault_count self.new)) }
         ensures faults_stay { fault_count self.old ≤ fault_count self.new }
-        ensures losses_stay { loss_count self.old ≤ loss_count self.new };
+        ensures losses { Loses (calls self.old) (loss_count self.old) (loss_count self.new) }
+        ensures tells_reached { is_some (reached self.new) ≡ is_some (reached self.old) }
+        ensures reached { IfOk result (λ answer. ReachesBy answer path.now bytes.now (reached self.old) (reached self.new)) };
 
     /// What kind of store it is.
     fn scheme(&self) -> &str

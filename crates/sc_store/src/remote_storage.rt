@@ -1,10 +1,10 @@
 ghost use Rattle.std.specs.Prelude.{◌≡◌, ℕ, true, false, is_some, Some, Ok, IfOk, OnErr, OnOk};
-ghost use Rattle.sc_store_disk.specs.Marks.{Sets};
+ghost use Rattle.sc_store_disk.specs.Marks.{Sets, no_marks};
 ghost use Rattle.sc_entry.specs.Entries.{objects};
 ghost use Rattle.sc_entry.specs.Keys.{IsStoreKey, is_store_key as is_key, normalize_key as key_path};
 ghost use Rattle.sc_model.specs.Plan.{reads_only};
 ghost use Rattle.sc_model.specs.Script.{is_single as single};
-ghost use Rattle.sc_model.specs.World.{Asks, Later, early_cause as early};
+ghost use Rattle.sc_model.specs.World.{Asks, KeepsMarks, Later, early_cause as early};
 ghost use Rattle.sc_model.specs.declared.level.Cause.{Cause};
 ghost use Rattle.sc_model.specs.declared.level.LevelKind.TheVariants.{Remote as IsRemote};
 ghost use Rattle.sc_store.specs.Asking as asking;
@@ -35,13 +35,13 @@ pub struct RemoteStorage<R: Remote, V: Vouch> {
 }
 
 impl<R: Remote, V: Vouch> Model for RemoteStorage<R, V> {
-    ghost use Rattle.sc_store.specs.Held.{HeldLevel, held_level_code, held_remote, marked, modes_of, remote_given};
+    ghost use Rattle.sc_store.specs.Held.{HeldLevel, held_level_code, held_remote, modes_of, remote_given};
 
     ghost Value = { HeldLevel };
 
     ghost coded = { held_level_code };
 
-    ghost view = { λ s. marked s.marks (held_remote (R.names s.remote) (remote_given s.basedirs s.skip_cache_check) (modes_of s.configured s.mode) (R.held s.remote) (R.fault_count s.remote) (R.loss_count s.remote) (R.calls s.remote)) };
+    ghost view = { λ s. held_remote (R.names s.remote) (remote_given s.basedirs s.skip_cache_check) (modes_of s.configured s.mode) (R.held s.remote) (R.fault_count s.remote) (R.loss_count s.remote) (R.calls s.remote) (R.reached s.remote) s.marks };
 }
 
 /// What a read's answer tells of a key that has this mark.
@@ -184,7 +184,7 @@ impl<R: Remote, V: Vouch> RemoteStorage<R, V> {
         basedirs: Items<ByteText>,
         mode: CacheMode,
     ) -> RemoteStorage<R, V>
-        ensures { result ≡ held_remote (R.names remote) (remote_given basedirs false) (as_configured mode) (R.held remote) (R.fault_count remote) (R.loss_count remote) (R.calls remote) }
+        ensures { result ≡ held_remote (R.names remote) (remote_given basedirs false) (as_configured mode) (R.held remote) (R.fault_count remote) (R.loss_count remote) (R.calls remote) (R.reached remote) no_marks }
     {
         RemoteStorage {
             remote,
@@ -221,7 +221,7 @@ impl<R: Remote, V: Vouch> RemoteStorage<R, V> {
 
     pub fn remote(&self) -> &R
         ensures told { self.now.told ≡ is_some (R.held result.now) }
-        ensures level { self.now.level ≡ remote_level (R.held result.now) (R.fault_count result.now) (R.loss_count result.now) (R.calls result.now) }
+        ensures level { self.now.level ≡ remote_level (R.held result.now) (R.fault_count result.now) (R.loss_count result.now) (R.calls result.now) (R.reached result.now) self.now.marks }
     {
         &self.remote
     }
@@ -268,6 +268,7 @@ impl<R: Remote, V: Vouch> RemoteStorage<R, V> {
         ensures kind { result ≡ self.now.facts.kind }
         ensures remote { self.now.facts.kind ≡ IsRemote }
         ensures bare { self.now.facts.wrapped ≡ false }
+        ensures marks { KeepsMarks self.now.level self.now.level }
     {
         let _facts = &self.configured;
         LevelKind::Remote
@@ -295,12 +296,14 @@ impl<R: Remote, V: Vouch> RemoteStorage<R, V> {
         self.mode
     }
 
-    /// What stands under a store key, as it is, by the key's path.
+    /// What stands under a store key, as it is, by the key's path. A hit tells the mark of its key, and a miss takes it: what stood
+    /// there is lost.
     #[tactic(auto, using(crate::proofs::Devices::later_same))]
     fn find(&mut self, alloc: Global, key: &Text, path: &FileKey) -> Result<Answer, NoMemory>
         requires key { IsStoreKey key.now }
         requires path { path.now ≡ key_path key.now }
-        ensures marks { self.new.marks ≡ self.old.marks }
+        ensures marks { IfOk result (λ answer. asking.ForgetsLost answer path.now self.old.marks self.new.marks) }
+        ensures fewer { asking.Fewer self.old.marks self.new.marks }
         ensures mark { IfOk result (λ answer. asking.TellsMark IsRemote self.old.marks key.now answer) }
         ensures title { self.new.title ≡ self.old.title }
         ensures facts { self.new.facts ≡ self.old.facts }
@@ -312,11 +315,12 @@ impl<R: Remote, V: Vouch> RemoteStorage<R, V> {
     {
         let mark = self.marks.is_marked(path);
         let found = self.remote.read(alloc, path.as_text())?;
-        Ok(raw_answer(found, mark))
+        let raw = raw_answer(found, mark);
+        forget_lost(&mut self.marks, path, &raw);
+        Ok(raw)
     }
 
-    /// Looks a key up. A bad key is found before the remote is called. A hit tells the mark of its key, and a miss takes it:
-    /// what stood there is lost.
+    /// Looks a key up. A bad key is found before the remote is called. A hit tells the mark of its key, and a miss takes it.
     #[tactic(auto, using(crate::proofs::Devices::later_same))]
     pub fn ask(&mut self, alloc: Global, key: &Text, mode: Mode) -> Result<Answer, NoMemory>
         ensures title { self.new.title ≡ self.old.title }
@@ -341,7 +345,6 @@ impl<R: Remote, V: Vouch> RemoteStorage<R, V> {
         }
         let path = FileKey::new(normalize_key(alloc, key)?);
         let raw = self.find(alloc, key, &path)?;
-        forget_lost(&mut self.marks, &path, &raw);
         let answer = mode_answer(alloc, mode, raw)?;
         Ok(answer)
     }
@@ -365,7 +368,7 @@ impl<R: Remote, V: Vouch> RemoteStorage<R, V> {
         ensures told { self.new.told ≡ self.old.told }
         ensures room { self.new.room ≡ self.old.room }
         ensures later { Later self.old.level self.new.level }
-        ensures wrote { IfOk result (λ how. asking.PutsLevel policy.now key.now bytes.now how self.old self.new) }
+        ensures wrote { IfOk result (λ how. asking.PutsLevel policy.now key.now bytes.now from_run how self.old self.new) }
         ensures cause { IfOk result (λ how. asking.PutCause (early policy.now self.old.facts key.now) how self.old.level self.new.level) }
         ensures early { (c : Cause) → early policy.now self.old.facts key.now ≡ Some c → (result ≡ Ok (Written.Refused c)) × (self.new ≡ self.old) }
     {

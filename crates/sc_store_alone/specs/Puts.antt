@@ -1,5 +1,5 @@
 -- Puts over levels, by the puts at each.
-use Rattle.std.specs.Prelude.{◌≡◌, ◌⊎◌, ◌+◌, ℕ, zero, suc, Bool, true, false, IsTrue, bytes_eq, List, [], ◌∷◌, length, Some, None, slice_set}
+use Rattle.std.specs.Prelude.{◌≡◌, ◌⊎◌, ◌+◌, ℕ, zero, suc, Bool, true, false, IsTrue, bytes_eq, List, [], ◌∷◌, length, Option, Some, None, slice_set}
 use Rattle.sc_store_disk.specs.DiskStores.{DiskStore, entry_path}
 use Rattle.sc_store_disk.specs.Marks.{Marks, SameMarks, is_marked}
 use Rattle.sc_store_disk.specs.Moving.{SameEntries}
@@ -8,7 +8,7 @@ use Rattle.sc_entry.specs.Keys.{make_key_path}
 use Rattle.sc_model.specs.Machine.{counted_at}
 use Rattle.sc_model.specs.Plan.{handed_by, level_facts, note, plan, put_answer}
 use Rattle.sc_model.specs.Rows.{by_backfill, written_level_row}
-use Rattle.sc_model.specs.World.{Causes, Evicts_unless, IsRefused, Later, Level, causes, early_cause, find_file, put_file}
+use Rattle.sc_model.specs.World.{Causes, Evicts_unless, IsRefused, KeepsMarks, Later, Level, SetsMark, causes, early_cause, find_file, put_file}
 use Rattle.sc_model.specs.declared.event.Written.{Written}
 use Rattle.sc_model.specs.declared.event.Written.TheVariants.{Done, Refused}
 use Rattle.sc_model.specs.declared.level.Cause.{Cause}
@@ -35,21 +35,28 @@ pub record RemotePutAt (l : ℕ) (key bytes : List ℕ) (mark : Bool) (how : Wri
   pub rooms : new.rooms ≡ old.rooms
   pub alone : new.levels ≡ slice_set old.levels l (level_in new.levels l)
   pub later : Later (level_in old.levels l) (level_in new.levels l)
-  pub wrote : PutsAt l key bytes how old new
+  pub wrote : PutsAt l key bytes mark how old new
   pub cause : PutCause (early_cause old.policy (level_facts old.facts l) key) how (level_in old.levels l) (level_in new.levels l)
   pub early : (c : Cause) → early_cause old.policy (level_facts old.facts l) key ≡ Some c → new ≡ old
   pub marks : MarksWrote key mark how (marks_in old.marks l) (marks_in new.marks l)
   pub marks_alone : new.marks ≡ slice_set old.marks l (marks_in new.marks l)
 
--- A put at a disk level that tells what it holds: files are evicted until the entry fits, and it stands under its key. A
--- refusal by the device may come behind evictions.
-abbrev pub PutsEntry : ℕ → Causes → ℕ → List ℕ → List ℕ → Written → Level → Level → Type 0
-PutsEntry capacity expected r key bytes Done v w =
+-- files are evicted, where the size is no cause of a refusal
+abbrev pub EvictsUnless : Option Cause → ℕ → ℕ → Level → Level → Type 0
+EvictsUnless expected capacity more v w = (gone : ℕ) × Evicts_unless expected capacity more gone v w
+
+-- A put at a disk level that tells what it holds: files are evicted until the entry fits, and it stands under its key, with this
+-- mark. A refusal by the device may come behind evictions. Where a file goes its mark goes.
+abbrev pub PutsEntryBy : ℕ → Causes → ℕ → List ℕ → List ℕ → Bool → Written → Level → Level → Type 0
+PutsEntryBy capacity expected r key bytes mark Done v w =
     (expected.all ≡ None)
-    × ((u : Level) × Evicts_unless expected.all capacity (r + length bytes) v u × (w.main ≡ put_file u.main (make_key_path key) bytes) × (w.pre ≡ u.pre))
-    × IsTrue (w.opened)
-PutsEntry capacity expected r key bytes (Refused Io) v w = (expected.early ≡ None) × Rose v.faults w.faults × Evicts_unless expected.all capacity (r + length bytes) v w
-PutsEntry capacity expected r key bytes (Refused c) v w = IsRefused Disk expected c v w
+    × ((u : Level) × EvictsUnless expected.all capacity (r + length bytes) v u × (w.main ≡ put_file u.main (make_key_path key) bytes) × (w.pre ≡ u.pre))
+    × IsTrue (w.opened) × SetsMark (make_key_path key) mark v w
+PutsEntryBy capacity expected r key bytes mark (Refused Io) v w = (expected.early ≡ None) × Rose v.faults w.faults × EvictsUnless expected.all capacity (r + length bytes) v w × KeepsMarks v w
+PutsEntryBy capacity expected r key bytes mark (Refused c) v w = IsRefused Disk expected c v w × KeepsMarks v w
+
+abbrev pub PutsEntry : ℕ → Causes → ℕ → List ℕ → List ℕ → Bool → Written → Level → Level → Type 0
+PutsEntry capacity expected r key bytes mark how v w = PutsEntryBy capacity expected r key bytes mark how v w × (w.written ≡ v.written)
 
 -- A device that doesn't tell what it holds may say that the file is larger than what was put.
 abbrev pub MayOutgrow : Bool → Cause → Type 0
@@ -64,10 +71,10 @@ EntryCause told expected (Refused Io) v w = (expected.early ≡ None) × Rose v.
 EntryCause told expected (Refused c) v w = (expected.all ≡ Some c) ⊎ ((expected.all ≡ None) × MayOutgrow told c)
 
 -- A put at a disk store. What was open before is open after it, and nothing else.
-pub record PutsDisk (policy : Policy) (key bytes : List ℕ) (how : Written) (old new : DiskStore) : Type 0 where
+pub record PutsDisk (policy : Policy) (key bytes : List ℕ) (mark : Bool) (how : Written) (old new : DiskStore) : Type 0 where
   pub later : Later old.level new.level
   pub entries : SameEntries old new
-  pub wrote : old.told ≡ true → PutsEntry old.facts.capacity (causes policy old.facts old.reserved key (length bytes)) old.reserved key bytes how old.level new.level
+  pub wrote : old.told ≡ true → PutsEntry old.facts.capacity (causes policy old.facts old.reserved key (length bytes)) old.reserved key bytes mark how old.level new.level
   pub cause : EntryCause old.told (causes policy old.facts old.reserved key (length bytes)) how old.level new.level
 
 -- A put at a disk store that is done gives its key the mark that it says. All other files that the store holds keep theirs.
@@ -83,7 +90,7 @@ PutMarks path mark (Refused c) old new now = SameMarks old new
 
 abbrev pub DiskPutAt : ℕ → List ℕ → List ℕ → Bool → Written → Held → Held → Type 0
 DiskPutAt l key bytes mark how old new =
-    AloneAt l old new × PutsDisk old.policy key bytes how (disk_in old l) (disk_in new l) × PutMarks (entry_path key) mark how (marks_in old.marks l) (marks_in new.marks l) (disk_in new l)
+    AloneAt l old new × PutsDisk old.policy key bytes mark how (disk_in old l) (disk_in new l) × PutMarks (entry_path key) mark how (marks_in old.marks l) (marks_in new.marks l) (disk_in new l)
 
 -- A put at one level, and at no other.
 abbrev pub PutAt : LevelKind → ℕ → List ℕ → List ℕ → Bool → Written → Held → Held → Type 0

@@ -227,7 +227,7 @@ GetsPath a b key found = (found ≡ NoPaths) × (b ≡ a)
 -- A put at a remote store that stands alone. One that is refused for its mode or key calls nothing. No local run made its bytes.
 pub record PutsRemote (key bytes : List ℕ) (how : Written) (old new : HeldLevel) : Type 0 where
   pub later : Later old.level new.level
-  pub wrote : PutsLevel Single key bytes how old new
+  pub wrote : PutsLevel Single key bytes false how old new
   pub cause : PutCause (early_cause Single old.facts key) how old.level new.level
   pub early : (c : Cause) → early_cause Single old.facts key ≡ Some c → (how ≡ WriteRefused c) × (new ≡ old)
   pub marks : MarksWrote key false how old.marks new.marks
@@ -235,7 +235,7 @@ pub record PutsRemote (key bytes : List ℕ) (how : Written) (old new : HeldLeve
 -- One at a disk store, which is within its capacity then.
 abbrev pub PutsFile : List ℕ → List ℕ → Written → HeldLevel → HeldLevel → Type 0
 PutsFile key bytes how old new =
-    PutsDisk Single key bytes how (disk_of old) (disk_of new) × PutMarks (entry_path key) false how old.marks new.marks (disk_of new)
+    PutsDisk Single key bytes false how (disk_of old) (disk_of new) × PutMarks (entry_path key) false how old.marks new.marks (disk_of new)
     × (world.part_size new.level + new.room.reserved ≤ new.facts.capacity)
 
 -- A put at a store that stands alone.

@@ -2,6 +2,7 @@
 ghost use Rattle.std.specs.Prelude.{◌≡◌, false, IfOk, OnErr};
 ghost use Rattle.sc_store_disk.specs.Entries.{ClosesEntry, CommitCause, CommitsEntry, FillsBy, IsOpenAt};
 ghost use Rattle.sc_store_disk.specs.Marked.{MarksCommitted, MarksFilled};
+ghost use Rattle.sc_store_disk.specs.Marks.{filled_by};
 ghost use Rattle.sc_store_disk.specs.Moving.{Stays};
 ghost use Rattle.sc_model.specs.declared.level.LevelKind.TheVariants.{Disk as IsDisk};
 ghost use Rattle.sc_store_alone.specs.Storages.{KeepsAlone, LooksAlone, PutsFile, PutsPreDisk, State};
@@ -41,7 +42,7 @@ fn fill<D: Disk + Drop, V: Vouch>(
     requires { IsOpenAt entry (disk_of store.old) }
     ensures title { store.new.title ≡ store.old.title }
     ensures stays { Stays (disk_of store.old) (disk_of store.new) }
-    ensures filled { IfOk result (λ how. FillsBy entry bytes.now how (disk_of store.old) (disk_of store.new)) }
+    ensures filled { IfOk result (λ how. FillsBy entry bytes.now (filled_by false) how (disk_of store.old) (disk_of store.new)) }
     ensures marks { IfOk result (λ how. MarksFilled entry.number false how store.old.marks store.new.marks) }
     ensures closed { OnErr result (ClosesEntry entry.number (disk_of store.old) (disk_of store.new)) }
 {

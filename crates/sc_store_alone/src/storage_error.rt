@@ -57,19 +57,28 @@ fn remote_text(fault: RemoteFault) -> &'static str
     }
 }
 
-fn cause_text(cause: Cause) -> &'static str
-    ensures { result.now ≡ plans.cause_text cause }
-{
-    match cause {
-        Cause::FileTooLarge => "File too large",
-        Cause::Io => "disk fault",
-        Cause::Reserved => "space is reserved",
-        Cause::BadKey => "bad key",
-        Cause::BadEntry => "Failed to parse cache entry",
-        Cause::ReadOnly(Store::Disk) => "Cannot write to a read-only cache",
-        Cause::ReadOnly(Store::Remote) => "storage is read-only",
-        Cause::ReadOnly(Store::Wrapper) => "Cannot write to read-only storage",
-        Cause::RemoteFault(fault) => remote_text(fault),
+/// A cause in words.
+#[derive(Drop)]
+struct CauseText {
+    cause: Cause,
+}
+
+impl fmt::Display for CauseText {
+    ghost output = { λ text. Some (plans.cause_text text.cause) };
+
+    fn fmt<W: fmt::Write>(&self, f: &mut fmt::Formatter<W>) -> fmt::Result {
+        match self.cause {
+            Cause::FileTooLarge => f.write_str("File too large"),
+            Cause::Io => f.write_str("disk fault"),
+            Cause::Reserved => f.write_str("space is reserved"),
+            Cause::BadKey => f.write_str("bad key"),
+            Cause::BadEntry => f.write_str("Failed to parse cache entry"),
+            Cause::ReadOnly(Store::Disk) => f.write_str("Cannot write to a read-only cache"),
+            Cause::ReadOnly(Store::Remote) => f.write_str("storage is read-only"),
+            Cause::ReadOnly(Store::Wrapper) => f.write_str("Cannot write to read-only storage"),
+            Cause::RemoteFault(fault) => f.write_str(remote_text(fault)),
+            Cause::NotOpen(number) => write!(f, "entry {} is not open", number),
+        }
     }
 }
 
@@ -79,10 +88,10 @@ impl fmt::Display for StorageError {
     fn fmt<W: fmt::Write>(&self, f: &mut fmt::Formatter<W>) -> fmt::Result {
         match self {
             StorageError::NoMemory => f.write_str("out of memory"),
-            StorageError::Refused(cause) => f.write_str(cause_text(*cause)),
+            StorageError::Refused(cause) => write!(f, "{}", CauseText { cause: *cause }),
             StorageError::Level(level, cause) => {
-                let cause = cause_text(*cause);
-                write!(f, "Failed to write to cache level {}: {}", level, cause)
+                let text = CauseText { cause: *cause };
+                write!(f, "Failed to write to cache level {}: {}", level, text)
             }
             StorageError::NoLevels => f.write_str("No cache levels configured"),
             StorageError::Unsupported => {

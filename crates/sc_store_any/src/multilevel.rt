@@ -119,8 +119,8 @@ impl<R: Remote + Drop, D: Disk + Drop, V: Vouch> MultiLevelStorage<R, D, V> {
         alloc: Global,
         config: StoreConfig<R, D>,
     ) -> Result<Option<MultiLevelStorage<R, D, V>>, ConfigError>
-        ensures made { IfOk result (λ found. IsChain config.chain (store_of (remote_as R.names R.held R.fault_count R.loss_count R.calls config.basedirs config.skip_cache_check) (disk_as D.state config.basedirs) config) found) }
-        ensures fault { IfErr result (λ error. IsCause error (store_of (remote_as R.names R.held R.fault_count R.loss_count R.calls config.basedirs config.skip_cache_check) (disk_as D.state config.basedirs) config)) }
+        ensures made { IfOk result (λ found. IsChain config.chain (store_of (remote_as R.names R.held R.fault_count R.loss_count R.calls R.reached config.basedirs config.skip_cache_check) (disk_as D.state config.basedirs) config) found) }
+        ensures fault { IfErr result (λ error. IsCause error (store_of (remote_as R.names R.held R.fault_count R.loss_count R.calls R.reached config.basedirs config.skip_cache_check) (disk_as D.state config.basedirs) config)) }
     {
         if config.chain.is_empty() {
             return Ok(None);

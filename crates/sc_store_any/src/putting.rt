@@ -2,6 +2,7 @@
 ghost use Rattle.std.specs.Prelude.{◌≡◌, ◌<◌, false, IfOk, OnErr, length};
 ghost use Rattle.sc_store_disk.specs.Entries.{ClosesEntry, CommitCause, CommitsEntry, FillsBy, IsOpenAt};
 ghost use Rattle.sc_store_disk.specs.Marked.{MarksCommitted, MarksFilled};
+ghost use Rattle.sc_store_disk.specs.Marks.{filled_by};
 ghost use Rattle.sc_model.specs.Plan as plans;
 ghost use Rattle.sc_model.specs.Plan.{level_facts};
 ghost use Rattle.sc_model.specs.Script.{is_single};
@@ -52,7 +53,7 @@ fn fill<R: Remote, D: Disk + Drop, V: Vouch>(
     requires open { IsOpenAt entry (disk_in levels.old level) }
     ensures alone { AloneAt level levels.old levels.new }
     ensures later { Later (level_in levels.old.levels level) (level_in levels.new.levels level) }
-    ensures filled { IfOk result (λ how. FillsBy entry bytes.now how (disk_in levels.old level) (disk_in levels.new level)) }
+    ensures filled { IfOk result (λ how. FillsBy entry bytes.now (filled_by mark) how (disk_in levels.old level) (disk_in levels.new level)) }
     ensures marks { IfOk result (λ how. MarksFilled entry.number mark how (marks_in levels.old.marks level) (marks_in levels.new.marks level)) }
     ensures closed { OnErr result (ClosesEntry entry.number (disk_in levels.old level) (disk_in levels.new level)) }
 {

@@ -5,12 +5,13 @@ use Rattle.std.specs.Option.{option_map}
 use Rattle.std.specs.Str.{bytes_eq, trim}
 use Rattle.sc_disk.specs.Disks.{DiskState}
 use Rattle.sc_store_disk.specs.DiskStores.{unopened_store}
+use Rattle.sc_store_disk.specs.Marks.{no_marks}
 use Rattle.sc_model.specs.Devices.{Calls}
 use Rattle.sc_model.specs.World.{Files}
 use Rattle.sc_model.specs.declared.level.Policy.{Policy}
 use Rattle.sc_model.specs.declared.level.Policy.TheVariants.{Levels, Single}
 use Rattle.sc_disk_pair.specs.Twos.{joined_state, joins}
-use Rattle.sc_store.specs.Held.{Held, HeldLevel, Names, as_configured, disk_given, held_of, held_remote, of_disk, remote_given}
+use Rattle.sc_store.specs.Held.{Held, HeldLevel, Names, Reached, as_configured, disk_given, held_of, held_remote, of_disk, remote_given}
 use Rattle.sc_store_config.specs.Policies.{chain_policies}
 use Rattle.sc_store_config.specs.declared.config_error.ConfigError.{ConfigError}
 use Rattle.sc_store_config.specs.declared.config_error.ConfigError.TheVariants.{ConfigFault, NoMemory}
@@ -19,10 +20,11 @@ use Rattle.sc_store_config.specs.declared.remote_config.NamedRemote.{NamedRemote
 use Rattle.sc_store_config.specs.declared.remote_config.RemoteConfig.{RemoteConfig}
 use Rattle.sc_store_config.specs.declared.store_config.StoreConfig.{StoreConfig}
 
--- A remote store as a level: what a remote is called, holds, refused, lost and is called for is given by its kind.
-abbrev pub remote_as : {R : Type 0} → (R → Names) → (R → Option Files) → (R → ℕ) → (R → ℕ) → (R → Option Calls) → List (List ℕ) → Bool → RemoteConfig R → HeldLevel
-remote_as names held faults losses calls basedirs unchecked c =
-    held_remote (names c.remote) (remote_given basedirs unchecked) (as_configured c.mode) (held c.remote) (faults c.remote) (losses c.remote) (calls c.remote)
+-- A remote store as a level: what a remote is called, holds, refused, lost and is called for, and what reached what is behind it, is
+-- given by its kind. No local run made anything there.
+abbrev pub remote_as : {R : Type 0} → (R → Names) → (R → Option Files) → (R → ℕ) → (R → ℕ) → (R → Option Calls) → (R → Option Reached) → List (List ℕ) → Bool → RemoteConfig R → HeldLevel
+remote_as names held faults losses calls reached basedirs unchecked c =
+    held_remote (names c.remote) (remote_given basedirs unchecked) (as_configured c.mode) (held c.remote) (faults c.remote) (losses c.remote) (calls c.remote) (reached c.remote) no_marks
 
 -- A disk store as a level. It isn't opened.
 abbrev pub disk_as : {D : Type 0} → (D → DiskState) → List (List ℕ) → DiskConfig D → HeldLevel

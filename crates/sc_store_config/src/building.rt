@@ -33,7 +33,7 @@ pub fn build_single_cache<R: Remote + Drop, V: Vouch>(
     basedirs: &[ByteText],
     skip_cache_check: bool,
 ) -> Result<RemoteStorage<R, V>, NoMemory>
-    ensures { IfOk result (λ store. store ≡ configs.remote_as R.names R.held R.fault_count R.loss_count R.calls basedirs.now skip_cache_check config) }
+    ensures { IfOk result (λ store. store ≡ configs.remote_as R.names R.held R.fault_count R.loss_count R.calls R.reached basedirs.now skip_cache_check config) }
 {
     let basedirs = copy_of(alloc, basedirs)?;
     let store = RemoteStorage::new(alloc, config.remote, basedirs, config.mode);
@@ -68,8 +68,8 @@ fn chain_levels<R: Remote + Drop, D: Disk + Drop, V: Vouch>(
     basedirs: &[ByteText],
     skip_cache_check: bool,
 ) -> Result<Vec<Level<R, D, V>>, ConfigError>
-    ensures levels { IfOk result (λ levels. configs.chain_levels (configs.remote_as R.names R.held R.fault_count R.loss_count R.calls basedirs.now skip_cache_check) (configs.disk_as D.state basedirs.now) chain.now unused.disk unused.remotes.items ≡ Ok (map held_level levels.items)) }
-    ensures fault { IfErr result (λ error. configs.IsCause error (configs.chain_levels (configs.remote_as R.names R.held R.fault_count R.loss_count R.calls basedirs.now skip_cache_check) (configs.disk_as D.state basedirs.now) chain.now unused.disk unused.remotes.items)) }
+    ensures levels { IfOk result (λ levels. configs.chain_levels (configs.remote_as R.names R.held R.fault_count R.loss_count R.calls R.reached basedirs.now skip_cache_check) (configs.disk_as D.state basedirs.now) chain.now unused.disk unused.remotes.items ≡ Ok (map held_level levels.items)) }
+    ensures fault { IfErr result (λ error. configs.IsCause error (configs.chain_levels (configs.remote_as R.names R.held R.fault_count R.loss_count R.calls R.reached basedirs.now skip_cache_check) (configs.disk_as D.state basedirs.now) chain.now unused.disk unused.remotes.items)) }
 {
     let mut unused = unused;
     let mut levels = Vec::new(alloc);
@@ -108,7 +108,7 @@ fn single_level<R: Remote + Drop, D: Disk + Drop, V: Vouch>(
     basedirs: &[ByteText],
     skip_cache_check: bool,
 ) -> Result<Level<R, D, V>, NoMemory>
-    ensures { IfOk result (λ level. held_level level ≡ configs.single_level (configs.remote_as R.names R.held R.fault_count R.loss_count R.calls basedirs.now skip_cache_check) (configs.disk_as D.state basedirs.now) remote fallback) }
+    ensures { IfOk result (λ level. held_level level ≡ configs.single_level (configs.remote_as R.names R.held R.fault_count R.loss_count R.calls R.reached basedirs.now skip_cache_check) (configs.disk_as D.state basedirs.now) remote fallback) }
 {
     match remote {
         Some(config) => {
@@ -127,7 +127,7 @@ fn single_store<R: Remote + Drop, D: Disk + Drop, V: Vouch>(
     alloc: Global,
     config: StoreConfig<R, D>,
 ) -> Result<Layered<R, D, V>, NoMemory>
-    ensures { IfOk result (λ store. store ≡ configs.single_store (configs.remote_as R.names R.held R.fault_count R.loss_count R.calls config.basedirs config.skip_cache_check) (configs.disk_as D.state config.basedirs) config) }
+    ensures { IfOk result (λ store. store ≡ configs.single_store (configs.remote_as R.names R.held R.fault_count R.loss_count R.calls R.reached config.basedirs config.skip_cache_check) (configs.disk_as D.state config.basedirs) config) }
 {
     let level = single_level(
         alloc,
@@ -146,8 +146,8 @@ fn chain_store<R: Remote + Drop, D: Disk + Drop, V: Vouch>(
     alloc: Global,
     config: StoreConfig<R, D>,
 ) -> Result<Layered<R, D, V>, ConfigError>
-    ensures store { IfOk result (λ store. configs.chain_store (configs.remote_as R.names R.held R.fault_count R.loss_count R.calls config.basedirs config.skip_cache_check) (configs.disk_as D.state config.basedirs) config ≡ Ok store) }
-    ensures fault { IfErr result (λ error. configs.IsCause error (configs.chain_store (configs.remote_as R.names R.held R.fault_count R.loss_count R.calls config.basedirs config.skip_cache_check) (configs.disk_as D.state config.basedirs) config)) }
+    ensures store { IfOk result (λ store. configs.chain_store (configs.remote_as R.names R.held R.fault_count R.loss_count R.calls R.reached config.basedirs config.skip_cache_check) (configs.disk_as D.state config.basedirs) config ≡ Ok store) }
+    ensures fault { IfErr result (λ error. configs.IsCause error (configs.chain_store (configs.remote_as R.names R.held R.fault_count R.loss_count R.calls R.reached config.basedirs config.skip_cache_check) (configs.disk_as D.state config.basedirs) config)) }
 {
     let policies = chain_policies(
         alloc,
@@ -177,8 +177,8 @@ pub fn storage_from_config<R: Remote + Drop, D: Disk + Drop, V: Vouch>(
     alloc: Global,
     config: StoreConfig<R, D>,
 ) -> Result<Layered<R, D, V>, ConfigError>
-    ensures store { IfOk result (λ store. configs.store_of (configs.remote_as R.names R.held R.fault_count R.loss_count R.calls config.basedirs config.skip_cache_check) (configs.disk_as D.state config.basedirs) config ≡ Ok store) }
-    ensures fault { IfErr result (λ error. configs.IsCause error (configs.store_of (configs.remote_as R.names R.held R.fault_count R.loss_count R.calls config.basedirs config.skip_cache_check) (configs.disk_as D.state config.basedirs) config)) }
+    ensures store { IfOk result (λ store. configs.store_of (configs.remote_as R.names R.held R.fault_count R.loss_count R.calls R.reached config.basedirs config.skip_cache_check) (configs.disk_as D.state config.basedirs) config ≡ Ok store) }
+    ensures fault { IfErr result (λ error. configs.IsCause error (configs.store_of (configs.remote_as R.names R.held R.fault_count R.loss_count R.calls R.reached config.basedirs config.skip_cache_check) (configs.disk_as D.state config.basedirs) config)) }
 {
     if config.chain.is_empty() {
         let store = single_store(alloc, config)?;

@@ -56,7 +56,7 @@ impl<R: Remote + Drop, D: Disk + Drop> Unused<R, D> {
         basedirs: &[ByteText],
         skip_cache_check: bool,
     ) -> Result<Option<Level<R, D, V>>, NoMemory>
-        ensures level { IfOk result (λ level. option_map held_level level ≡ configs.level_named (configs.remote_as R.names R.held R.fault_count R.loss_count R.calls basedirs.now skip_cache_check) (configs.disk_as D.state basedirs.now) name.now self.old.disk self.old.remotes.items) }
+        ensures level { IfOk result (λ level. option_map held_level level ≡ configs.level_named (configs.remote_as R.names R.held R.fault_count R.loss_count R.calls R.reached basedirs.now skip_cache_check) (configs.disk_as D.state basedirs.now) name.now self.old.disk self.old.remotes.items) }
         ensures disk { self.new.disk ≡ configs.disk_behind name.now self.old.disk }
         ensures remotes { self.new.remotes.items ≡ configs.remotes_behind name.now self.old.remotes.items }
     {

@@ -91,23 +91,23 @@ filled_bytes s (Some r) b e o more is files told =
     ∙ ap bytes_or (bytes-added (files_now r) t more t ∙ ap (λ c. cond c (option_map (λ z. z ++ more) (bytes_at (files_now r) t)) (bytes_at (files_now r) t)) (self_path t) ∙ ap (option_map (λ z. z ++ more)) x.1)
     ∙ sym (ap (λ z. bytes_or z ++ more) x.1)
 
-pub entry-is : (s : Store) (e : AddEntry) (o : IsOpen s e) → entry_at (entries_of s) e.number ≡ Some (record { path = e.key; size = o.0.size; bytes = bytes_or (bytes_at (told_files s.disk.told) (temporary_of e)) })
+pub entry-is : (s : Store) (e : AddEntry) (o : IsOpen s e) → entry_at (entries_of s) e.number ≡ Some (record { path = e.key; size = o.0.size; bytes = bytes_or (bytes_at (told_files s.disk.told) (temporary_of e)); fills = None })
 entry-is s e o = entry-of s e.number ∙ ap (option_map (open_entry s.disk.divided (told_files s.disk.told) e.number)) o.1
-    ∙ (λ i. Some (record { path = o.2 i; size = o.0.size; bytes = bytes_or (bytes_at (told_files s.disk.told) (temporary-at s e o i)) }))
+    ∙ (λ i. Some (record { path = o.2 i; size = o.0.size; bytes = bytes_or (bytes_at (told_files s.disk.told) (temporary-at s e o i)); fills = None }))
 
 same_entry : (o p : OpenEntry) → Some o ≡ Some p → o ≡ p
 same_entry o p h = cc
 
 pub fills : (mode : CacheMode) (capacity : ℕ) (old new : Store) (e : AddEntry) (more : List ℕ) → IsOpen old e → IsSound old → IsDistinct bytes_eq (keys_of old.index) → length old.pending.slots < 2 ^ 64 → Does (Added (temporary_of e) more ∷ []) old.disk new.disk
-    → new.index ≡ old.index → new.pending ≡ old.pending → FillsEntry e.number more (opened_store mode capacity old) (opened_store mode capacity new)
+    → new.index ≡ old.index → new.pending ≡ old.pending → FillsEntry e.number more (λ fills. fills) (opened_store mode capacity old) (opened_store mode capacity new)
 fills mode capacity old new e more o sound d few did index pending =
     let later : IsOpen new e = (o.0, ap (λ p. get p e.number) pending ∙ o.1, o.2, o.3 ∙ sym did.divided) in
     record {
-      maps = hidden-maps (Added (temporary_of e) more ∷ []) old new index did (temporary_is e.divided e.key e.number, tt) d sound;
+      level = (hidden-maps (Added (temporary_of e) more ∷ []) old new index did (temporary_is e.divided e.key e.number, tt) d sound, tt, (λ path. refl), (refl, refl, refl));
       reserved = ap (λ p. declared p.slots) pending;
-      entry = λ x h. let was = same_entry x (record { path = e.key; size = o.0.size; bytes = bytes_or (bytes_at (told_files old.disk.told) (temporary_of e)) }) (sym h ∙ entry-is old e o) in (
+      entry = λ x h. let was = same_entry x (record { path = e.key; size = o.0.size; bytes = bytes_or (bytes_at (told_files old.disk.told) (temporary_of e)); fills = None }) (sym h ∙ entry-is old e o) in (
         bytes_or (bytes_at (told_files new.disk.told) (temporary_of e)),
-        entry-is new e later ∙ (λ i. Some (record { path = (sym was i).path; size = (sym was i).size; bytes = bytes_or (bytes_at (told_files new.disk.told) (temporary_of e)) })),
+        entry-is new e later ∙ (λ i. Some (record { path = (sym was i).path; size = (sym was i).size; bytes = bytes_or (bytes_at (told_files new.disk.told) (temporary_of e)); fills = (sym was i).fills })),
         λ told. filled_bytes old old.disk.told new.disk.told e o more did.told sound.files told ∙ ap (λ (y : OpenEntry). y.bytes ++ more) (sym was),
       );
       others = others-stay mode capacity (Added (temporary_of e) more ∷ []) 0 e.number old new (did-none (Added (temporary_of e) more ∷ []) old.index old.disk new.disk did) sound (λ m apart. ap (λ p. get p m) pending)

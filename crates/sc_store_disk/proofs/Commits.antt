@@ -30,6 +30,7 @@ use Rattle.sc_disk_pair.specs.declared.pair_cache.PairCache.{PairCache}
 use Rattle.sc_disk_pair.specs.declared.part.Part.TheVariants.{Main, Pre}
 use Rattle.sc_store_disk.specs.DiskStores.{OpenEntry, bytes_or, entries_of, entry_at, level_of, open_entry, opened_store, store_of, told_files}
 use Rattle.sc_store_disk.specs.Entries.{ClosesEntry, CommitCause as RefusedCommit, CommitsEntry, CommitsNothing, IsMeasured, IsOpenAt}
+use Rattle.sc_store_disk.specs.Marks.{mark_of}
 use Rattle.sc_store_disk.specs.Shown.{Index, bytes_at, files_of, shown}
 use Rattle.sc_store_disk.proofs.Closings.{AtOnly, apart-from, closes, entry-is, hidden-maps, lookup-filed, none-gone, only-away, only-hidden, shown-committed, temporary-stands}
 use Rattle.sc_store_disk.proofs.Finding.{find-files, find-put, same_map_files}
@@ -80,10 +81,10 @@ measured_told s o r t b n told h is = measured (disk_file_at (files_now r) t) n 
 pub filled : (s : Store) (r : DiskRecord) (e : AddEntry) (o : IsOpen s e) → s.disk.told ≡ Some r → IsSound s → (b : List ℕ) × (bytes_at (files_now r) (temporary_of e) ≡ Some b)
 filled s r e o told sound = temporary-stands s r e o (subst (λ (x : Option DiskRecord). IfTold x (λ y. HasFiles s.disk.divided s.index s.pending.slots (files_now y))) told sound.files)
 
-pub entry-bytes : (s : Store) (r : DiskRecord) (e : AddEntry) (o : IsOpen s e) (b : List ℕ) (x : OpenEntry) → s.disk.told ≡ Some r → bytes_at (files_now r) (temporary_of e) ≡ Some b → entry_at (entries_of s) e.number ≡ Some x → (x.path ≡ e.key) × (x.size ≡ o.0.size) × (x.bytes ≡ b)
+pub entry-bytes : (s : Store) (r : DiskRecord) (e : AddEntry) (o : IsOpen s e) (b : List ℕ) (x : OpenEntry) → s.disk.told ≡ Some r → bytes_at (files_now r) (temporary_of e) ≡ Some b → entry_at (entries_of s) e.number ≡ Some x → (x.path ≡ e.key) × (x.size ≡ o.0.size) × (x.bytes ≡ b) × (x.fills ≡ None)
 entry-bytes s r e o b x told is h =
-    let was = same_entry (record { path = e.key; size = o.0.size; bytes = bytes_or (bytes_at (told_files s.disk.told) (temporary_of e)) }) x (sym (entry-is s e o) ∙ h) in
-    (ap (λ (y : OpenEntry). y.path) (sym was), ap (λ (y : OpenEntry). y.size) (sym was), ap (λ (y : OpenEntry). y.bytes) (sym was) ∙ ap (λ u. bytes_or (bytes_at (told_files u) (temporary_of e))) told ∙ ap bytes_or is)
+    let was = same_entry (record { path = e.key; size = o.0.size; bytes = bytes_or (bytes_at (told_files s.disk.told) (temporary_of e)); fills = None }) x (sym (entry-is s e o) ∙ h) in
+    (ap (λ (y : OpenEntry). y.path) (sym was), ap (λ (y : OpenEntry). y.size) (sym was), ap (λ (y : OpenEntry). y.bytes) (sym was) ∙ ap (λ u. bytes_or (bytes_at (told_files u) (temporary_of e))) told ∙ ap bytes_or is, ap (λ (y : OpenEntry). y.fills) (sym was))
   where
     same_entry : (y z : OpenEntry) → Some y ≡ Some z → y ≡ z
     same_entry y z k = cc
@@ -203,9 +204,16 @@ has_record (Some r) h = (r, refl)
 over_and_not : (a b : ℕ) → a ≤ b → b < a → ⊥
 over_and_not a b p q = omega (arith, p, q)
 
+-- a store alone keeps no marks
+bare : (s : Store) (r : DiskRecord) (e : AddEntry) (o : IsOpen s e) → IsSound s → (x : OpenEntry) → s.disk.told ≡ Some r → entry_at (entries_of s) e.number ≡ Some x → x.fills ≡ None
+bare s r e o sound x told h = let b = filled s r e o told sound in (entry-bytes s r e o b.0 x told b.1 h).3
+
 module _ (mode : CacheMode) (capacity : ℕ) (old new : Store) (e : AddEntry) (now : ℕ) (o : IsOpen old e) (sound : IsSound old) (d : IsDistinct bytes_eq (keys_of old.index)) (closed : Closed e.number old new) where
   pub commits-done : (size n : ℕ) → Commits e size now n old new → CommitsEntry e.number WriteDone (opened_store mode capacity old) (opened_store mode capacity new)
-  commits-done size n c told x path h small is = let r = has_record old.disk.told told in commit-puts old new r.0 e path x size now n o r.1 sound d h small is c
+  commits-done size n c told x path h small is =
+      let r = has_record old.disk.told told in
+      let put = commit-puts old new r.0 e path x size now n o r.1 sound d h small is c in
+      record { file = (put.0, put.1, record { set = sym (ap mark_of (bare old r.0 e o sound x r.1 h)); others = λ q apart. refl }); calls = tt; store = (refl, refl, refl) }
 
   -- what was measured is what the entry was filled with, where the disk tells
   pub measured-bytes : (m : ℕ) → IsSize (temporary_of e) m old.disk → IsMeasured e.number m (opened_store mode capacity old)
@@ -238,13 +246,13 @@ module _ (mode : CacheMode) (capacity : ℕ) (old new : Store) (e : AddEntry) (n
   pub commits-nothing : (refused : Error) (n : ℕ) (touches removes : Bool) → RefusesCommit refused e now n touches removes old new → CommitsNothing e.number (opened_store mode capacity old) (opened_store mode capacity new)
   commits-nothing refused n touches removes c told x h small =
       let r = has_record old.disk.told told in
-      refused-maps old new r.0 e x refused now n touches removes o r.1 sound d closed h small c
+      record { maps = refused-maps old new r.0 e x refused now n touches removes o r.1 sound d closed h small c; marks = λ path. refl }
 
   pub commits-io : (refused : Error) (n : ℕ) (touches removes : Bool) → refused ≡ Io → RefusesCommit refused e now n touches removes old new → CommitsEntry e.number (WriteRefused ForIo) (opened_store mode capacity old) (opened_store mode capacity new)
   commits-io refused n touches removes is c told x path h small at =
       let r = has_record old.disk.told told in
       let rose : Rose old.disk.faults c.by_then = subst (λ (f : Error). CommitCause f (temporary_of e) (others old e.number) old c.by_then) is c.cause in
-      (omega (arith, rose, c.counted), refused-maps old new r.0 e x refused now n touches removes o r.1 sound d closed h small c)
+      record { file = (omega (arith, rose, c.counted), refused-maps old new r.0 e x refused now n touches removes o r.1 sound d closed h small c, (λ q. refl)); calls = tt; store = (refl, refl, refl) }
 
   pub commits-too_large : (refused : Error) (n : ℕ) (touches removes : Bool) → refused ≡ FileTooLarge → RefusesCommit refused e now n touches removes old new → CommitsEntry e.number (WriteRefused ForSize) (opened_store mode capacity old) (opened_store mode capacity new)
   commits-too_large refused n touches removes is c told x path h small at =
@@ -282,7 +290,7 @@ open_tested mode capacity s e divided h =
     (ap (beq e.divided) divided ∙ same_bool e.divided h.0)
 
 open_at : (mode : CacheMode) (capacity : ℕ) (s : Store) (e : AddEntry) → s.disk.divided ≡ true → IsOpen s e → IsOpenAt e (opened_store mode capacity s)
-open_at mode capacity s e divided o = (o.3 ∙ divided, (record { path = e.key; size = o.0.size; bytes = bytes_or (bytes_at (told_files s.disk.told) (temporary_of e)) }, entry-is s e o, refl))
+open_at mode capacity s e divided o = (o.3 ∙ divided, (record { path = e.key; size = o.0.size; bytes = bytes_or (bytes_at (told_files s.disk.told) (temporary_of e)); fills = None }, entry-is s e o, refl))
 
 not_both : (b : Bool) → b ≡ false → b ≡ true → ⊥
 not_both true p q = cc

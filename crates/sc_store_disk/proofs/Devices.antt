@@ -10,7 +10,7 @@ use Rattle.sc_entry.specs.Causes.{Rose}
 use Rattle.sc_entry.specs.Failing.{fails_at}
 use Rattle.sc_entry.specs.declared.calls.Calls.{Calls as Counted}
 use Rattle.sc_disk.specs.Devices as device
-use Rattle.sc_model.specs.Devices.{Calls, Makes, MakesOn, calls_failing, is_listed, numbers_of}
+use Rattle.sc_model.specs.Devices.{Calls, Loses, Makes, MakesOn, calls_failing, is_listed, numbers_of}
 use Rattle.sc_model.specs.World.{Later, Level, is_later}
 use Rattle.sc_store_disk.specs.Devices.{calls_of}
 
@@ -60,6 +60,15 @@ pub unmade : (calls : Option Calls) (f : ℕ) → MakesOn calls calls f f
 unmade None f = refl
 unmade (Some calls) f = (calls, refl, record { failing = refl; made = omega arith; fault = λ h. absurd (omega arith); fails = λ number h k is. absurd (omega arith) })
 
+-- a device that lost nothing
+pub loses_none : (calls : Option Calls) (n : ℕ) → Loses calls n n
+loses_none None n = omega arith
+loses_none (Some calls) n = refl
+
+loses_then : (a b c : Option Calls) (f g l m n : ℕ) → MakesOn a b f g → Loses a l m → Loses b m n → Loses a l n
+loses_then None b c f g l m n made first last = let more : m ≤ n = subst (λ (o : Option Calls). Loses o m n) made last in omega (arith, first, more)
+loses_then (Some a) b c f g l m n made first last = let same : n ≡ m = subst (λ (o : Option Calls). Loses o m n) made.1 last in same ∙ first
+
 opened_then : (a b c : Bool) → is_later a b ≡ true → is_later b c ≡ true → is_later a c ≡ true
 opened_then true true c p q = q
 opened_then true false c p q = absurd (cc)
@@ -73,14 +82,14 @@ opened_same false = refl
 pub later_then : (a b c : Level) → Later a b → Later b c → Later a c
 later_then a b c s t = record {
   faults = omega (arith, s.faults, t.faults);
-  losses = omega (arith, s.losses, t.losses);
+  losses = loses_then a.calls b.calls c.calls a.faults b.faults a.losses b.losses c.losses s.calls s.losses t.losses;
   calls = makes_on_then a.calls b.calls c.calls a.faults b.faults c.faults s.faults t.faults s.calls t.calls;
   opened = opened_then a.opened b.opened c.opened s.opened t.opened;
 }
 
 -- a level that wasn't moved
 pub later_same : (v : Level) → Later v v
-later_same v = record { faults = omega arith; losses = omega arith; calls = unmade v.calls v.faults; opened = opened_same v.opened }
+later_same v = record { faults = omega arith; losses = loses_none v.calls v.losses; calls = unmade v.calls v.faults; opened = opened_same v.opened }
 
 -- a device that is new
 pub new_calls : (calls : Counted) (failing : List ℕ) → ((number : ℕ) → fails_at calls number ≡ list_any (eq_by_cmp nat_cmp number) failing) → calls.made ≡ 0 → calls_of calls ≡ calls_failing failing

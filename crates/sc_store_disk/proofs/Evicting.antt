@@ -4,11 +4,11 @@ use Rattle.std.proofs.lemmas.Map.Keys.{IsDistinct-tail}
 use Rattle.std.specs.List.{AllByRecursion, IsDistinct}
 use Rattle.std.specs.Map.{keys_of, lookup}
 use Rattle.sc_lru.specs.LruCache.{total}
-use Rattle.sc_disk.proofs.Files.{same_path}
+use Rattle.sc_disk.proofs.Files.{same_path, self_path}
 use Rattle.sc_disk.proofs.Pairs.{absent_later}
 use Rattle.sc_disk.specs.Disks.{DiskFiles}
 use Rattle.sc_disk.specs.Store.{size_of as measure}
-use Rattle.sc_model.specs.World.{Evicts, Files, Level, drop_file, drop_part, size_of}
+use Rattle.sc_model.specs.World.{Evicts, Files, Level, drop_file, drop_part, part_file, size_of}
 use Rattle.sc_disk_pair.specs.Parts.{in_part}
 use Rattle.sc_disk_pair.specs.declared.part.Part.{Part}
 use Rattle.sc_disk_pair.specs.declared.part.Part.TheVariants.{Main, Pre}
@@ -43,6 +43,13 @@ first_goes : (part : Part) (r : List ℕ) (n : ℕ) (es : Index) (f : DiskFiles)
 first_goes Main r n es f v none = ap (λ (m : Files). record v { main = m; pre = files_of Pre es f }) (gone_first Main r n es f none)
 first_goes Pre r n es f v none = ap (λ (m : Files). record v { main = files_of Main es f; pre = m }) (gone_first Pre r n es f none)
 
+-- a file that is indexed first stands
+stands_first : (part : Part) (r b : List ℕ) (n : ℕ) (es : Index) (f : DiskFiles) (v : Level) → bytes_at f (in_part part r) ≡ Some b → is_some (part_file (is_main part) r (holding v ((in_part part r, n) ∷ es) f)) ≡ true
+stands_first Main r b n es f v h =
+    ap is_some (find-files Main ((in_part Main r, n) ∷ es) f r ∙ ap (λ t. cond (is_some (cond t (Some n) (lookup (bytes_eq (in_part Main r)) es))) (bytes_at f (in_part Main r)) None) (self_path (in_part Main r)) ∙ h)
+stands_first Pre r b n es f v h =
+    ap is_some (find-files Pre ((in_part Pre r, n) ∷ es) f r ∙ ap (λ t. cond (is_some (cond t (Some n) (lookup (bytes_eq (in_part Pre r)) es))) (bytes_at f (in_part Pre r)) None) (self_path (in_part Pre r)) ∙ h)
+
 -- the first n files went, each only while all and these bytes more took more than the capacity
 pub evictions : (capacity more n : ℕ) (es : Index) (f : DiskFiles) (v w : Level) → IsDistinct bytes_eq (keys_of es) → AllByRecursion (IsWhole f) es → ((m : ℕ) → m < n → capacity < total measure (drop m es) + more)
     → w.main ≡ files_of Main (drop n es) f → w.pre ≡ files_of Pre (drop n es) f → (ps : List (Bool × List ℕ)) × Evicts capacity more ps (holding v es f) w
@@ -61,6 +68,7 @@ evictions capacity more (suc n) (e ∷ es) f v w d a needed main pre =
       (is_main x.part, x.path) ∷ later.0,
       (
         subst (λ (z : ℕ). capacity < z + more) (sym all) over,
+        ap (λ k. is_some (part_file (is_main x.part) x.path (holding v ((k, e.1) ∷ es) f))) x.placed ∙ stands_first x.part x.path x.bytes e.1 es f v (ap (bytes_at f) (sym x.placed) ∙ x.stands),
         subst (λ (u : Level). Evicts capacity more later.0 u w) (sym goes) later.1,
       ),
     )

@@ -1,5 +1,5 @@
 -- A store that is lent while it is opened.
-use Rattle.std.proofs.Common.{◌≡◌, ℕ, ◌+◌, ◌-◌, ◌^◌, ◌<◌, min, true, false, is_some, bytes_eq, IfOk, IfSome, OnErr, OnOk, List, Option, Some, None, Result, Ok, Err, refl, sym, ap, ◌∙◌, subst, arith}
+use Rattle.std.proofs.Common.{◌≡◌, ℕ, ◌+◌, ◌-◌, ◌^◌, ◌<◌, min, true, false, is_some, bytes_eq, IfErr, IfOk, IfSome, OnErr, OnOk, List, Option, Some, None, Result, Ok, Err, refl, sym, ap, ◌∙◌, subst, arith}
 use Rattle.std.specs.List.{IsDistinct}
 use Rattle.std.specs.Map.{keys_of}
 use Rattle.std.specs.Option.{OnSome, option_map_or}
@@ -117,3 +117,24 @@ on_err (Err e) h f = f h
 pub on_err_of : {T E P : Type 0} (r : Result T E) → P → OnErr r P
 on_err_of (Ok t) p = tt
 on_err_of (Err e) p = p
+
+-- two facts of one result
+pub if_oks : {T E : Type 0} {P Q R : T → Type 0} (r : Result T E) → IfOk r P → IfOk r Q → ((x : T) → P x → Q x → R x) → IfOk r R
+if_oks (Ok x) p q f = f x p q
+if_oks (Err e) p q f = tt
+
+pub on_errs : {T E P Q R : Type 0} (r : Result T E) → OnErr r P → OnErr r Q → (P → Q → R) → OnErr r R
+on_errs (Ok x) p q f = tt
+on_errs (Err e) p q f = f p q
+
+pub if_errs : {T E : Type 0} {P Q : E → Type 0} (r : Result T E) → IfErr r P → ((e : E) → P e → Q e) → IfErr r Q
+if_errs (Ok x) h f = tt
+if_errs (Err e) h f = f e h
+
+-- a disk tells of nothing that reached what is behind it
+none_reached : {D : Type 0} (mode : CacheMode) (capacity : ℕ) (o : Option (PairCache D)) (t : Option TwoState) → (store_of mode capacity o t).level.written ≡ None
+none_reached mode capacity (Some c) t = refl
+none_reached mode capacity None t = refl
+
+pub written-none : {D : Type 0} (mode mode2 : CacheMode) (capacity after : ℕ) (o o2 : Option (PairCache D)) (t t2 : Option TwoState) → (store_of mode2 after o2 t2).level.written ≡ (store_of mode capacity o t).level.written
+written-none mode mode2 capacity after o o2 t t2 = none_reached mode2 after o2 t2 ∙ sym (none_reached mode capacity o t)

@@ -10,6 +10,7 @@ pub mod Growing
 pub mod HeldSizes
 pub mod KeyPaths
 pub mod Lending
+pub mod LevelMarks
 pub mod Looking
 pub mod Marking
 pub mod Openings
@@ -21,5 +22,6 @@ pub mod Rooms
 pub mod Sizes
 pub mod Spellings
 pub mod Steadying
+pub mod StoreMarks
 pub mod Walking
 pub mod Within

@@ -1,5 +1,5 @@
 -- An entry is opened, or it isn't.
-use Rattle.std.proofs.Common.{◌≡◌, ℕ, ◌+◌, ◌^◌, ◌<◌, ◌≤◌, true, false, ◌&&◌, cond, is_some, bytes_eq, option_map, slice_index_or, List, [], ◌∷◌, length, nat_lt, Option, Some, None, refl, sym, ap, ◌∙◌, subst, arith}
+use Rattle.std.proofs.Common.{◌≡◌, ℕ, ◌+◌, ◌^◌, ◌<◌, ◌≤◌, Bool, true, false, ◌&&◌, cond, is_some, bytes_eq, option_map, slice_index_or, List, [], ◌∷◌, length, nat_lt, Option, Some, None, refl, sym, ap, ◌∙◌, subst, arith}
 use Rattle.std.proofs.lemmas.Bool.{le-ltb}
 use Rattle.std.specs.List.{IsDistinct}
 use Rattle.std.specs.Map.{keys_of}
@@ -19,14 +19,14 @@ use Rattle.sc_disk.specs.declared.change.Change.TheVariants.{Made}
 use Rattle.sc_disk.specs.declared.error.Error.{Error}
 use Rattle.sc_disk.specs.declared.error.Error.TheVariants.{Io}
 use Rattle.sc_disk.specs.declared.pending.Pending.{Pending}
-use Rattle.sc_model.specs.World.{Evicts_unless, Reserves, room_cause}
+use Rattle.sc_model.specs.World.{Evicts, Evicts_unless, Level, Reserves, main_count, room_cause}
 use Rattle.sc_model.specs.declared.event.Written.TheVariants.{Done as WriteDone, Refused as WriteRefused}
 use Rattle.sc_model.specs.declared.level.Cause.{Cause}
 use Rattle.sc_model.specs.declared.level.Cause.TheVariants.{Io as ForIo}
 use Rattle.sc_model.specs.declared.level.LevelKind.TheVariants.{Disk}
 use Rattle.sc_disk_pair.specs.Parts.{ArePlaced}
 use Rattle.sc_store_disk.specs.DiskStores.{bytes_or, level_of, open_entry, opened_store, told_files}
-use Rattle.sc_store_disk.specs.Moving.{EvictsFor, Opens, SameEntries, room_causes}
+use Rattle.sc_store_disk.specs.Moving.{EvictsFiles, Opens, SameEntries, room_causes}
 use Rattle.sc_store_disk.specs.Shown.{bytes_at}
 use Rattle.std.specs.Cmp.Lexicographic.{slice_cmp}
 use Rattle.std.specs.FinMap as map
@@ -43,14 +43,20 @@ not_less a b l = le-ltb a b l
 pub room-free : (capacity r n : ℕ) → n + r ≤ capacity → room_cause Disk capacity r n ≡ None
 room-free capacity r n l = rw (not_less capacity n (omega (arith, l)), not_less capacity (n + r) l) refl
 
+-- files went, and their sizes are no cause of a refusal
+pub unless_went : (o : Option Cause) (capacity more : ℕ) (ps : List (Bool × List ℕ)) (v w : Level) → o ≡ None → Evicts capacity more ps v w → Evicts_unless o capacity more (main_count ps) v w
+unless_went o capacity more ps v w none h = subst (λ (x : Option Cause). Evicts_unless x capacity more (main_count ps) v w) (sym none) (ps, h, refl)
+
 module _ (old new : Store) (sound : IsSound old) (d : IsDistinct bytes_eq (keys_of old.index)) (placed : IfTold old.disk.told (λ r. ArePlaced (files_now r))) where
   pub prepared-moves : (e : AddEntry) (k : List ℕ) (size now n : ℕ) → Prepares e k size now n old new → is_some old.disk.told ≡ true
       → Reserves old.capacity (room_causes old.capacity (reserved old) size) (reserved old) size WriteDone (level_of true old.index old.disk) (level_of true new.index new.disk)
   prepared-moves e k size now n p told =
-      let free = room-free old.capacity (reserved old) size p.fits in (
-        free,
-        subst (λ (o : Option Cause). Evicts_unless o old.capacity (reserved old + size) (level_of true old.index old.disk) (level_of true new.index new.disk)) (sym free)
-            (evicted old.capacity (reserved old + size) n (Made (temporary_of e) now ∷ []) old new told sound d placed (temporary_is e.divided e.key e.number, tt) p.index p.disk (λ m l. omega (arith, p.fits, p.evicted.0 m l))),
+      let free = room-free old.capacity (reserved old) size p.fits in
+      let went = evicted old.capacity (reserved old + size) n (Made (temporary_of e) now ∷ []) old new told sound d placed (temporary_is e.divided e.key e.number, tt) p.index p.disk (λ m l. omega (arith, p.fits, p.evicted.0 m l)) in (
+        main_count went.0,
+        (free, unless_went (room_causes old.capacity (reserved old) size).all old.capacity (reserved old + size) went.0 (level_of true old.index old.disk) (level_of true new.index new.disk) free went.1, refl),
+        tt,
+        (λ path. refl),
         refl,
       )
 
@@ -58,15 +64,17 @@ module _ (old new : Store) (sound : IsSound old) (d : IsDistinct bytes_eq (keys_
       → Reserves old.capacity (room_causes old.capacity (reserved old) size) (reserved old) size (WriteRefused ForIo) (level_of true old.index old.disk) (level_of true new.index new.disk)
   refused-moves refused k size n is p told =
       let cause = subst (AddCause (is_file_key k && has_place old.disk k) size (reserved old) old.capacity old.disk.faults new.disk.faults) is p.cause in
-      let free = room-free old.capacity (reserved old) size cause.1 in (
+      let free = room-free old.capacity (reserved old) size cause.1 in
+      let went = evicted old.capacity (reserved old + size) n [] old new told sound d placed tt p.index p.disk (λ m l. omega (arith, cause.1, p.evicted m l)) in (
+        main_count went.0,
+        (refl, cause.2, unless_went (room_causes old.capacity (reserved old) size).all old.capacity (reserved old + size) went.0 (level_of true old.index old.disk) (level_of true new.index new.disk) free went.1),
+        tt,
+        (λ path. refl),
         refl,
-        cause.2,
-        subst (λ (o : Option Cause). Evicts_unless o old.capacity (reserved old + size) (level_of true old.index old.disk) (level_of true new.index new.disk)) (sym free)
-            (evicted old.capacity (reserved old + size) n [] old new told sound d placed tt p.index p.disk (λ m l. omega (arith, cause.1, p.evicted m l))),
       )
 
   -- want of memory
-  pub refused-evicts : (mode : CacheMode) (refused : Error) (k : List ℕ) (size n : ℕ) → RefusesAdd refused k size n old new → EvictsFor size (opened_store mode old.capacity old) (opened_store mode old.capacity new)
+  pub refused-evicts : (mode : CacheMode) (refused : Error) (k : List ℕ) (size n : ℕ) → RefusesAdd refused k size n old new → EvictsFiles size (opened_store mode old.capacity old) (opened_store mode old.capacity new)
   refused-evicts mode refused k size n p told = evicted old.capacity (reserved old + size) n [] old new told sound d placed tt p.index p.disk (λ m l. omega (arith, p.evicted m l))
 
 pub refused-entries : (mode : CacheMode) (capacity : ℕ) (old new : Store) (refused : Error) (k : List ℕ) (size n : ℕ) → IsSound old → RefusesAdd refused k size n old new → SameEntries (opened_store mode capacity old) (opened_store mode capacity new)
@@ -97,7 +105,7 @@ opens mode capacity old new e k size now n sound divided few more p =
       divided = p.divided ∙ divided;
       free = entry-of old e.number ∙ ap (option_map (open_entry old.disk.divided (told_files old.disk.told) e.number)) p.opened.free;
       opened = entry-of new e.number ∙ ap (option_map (open_entry new.disk.divided (told_files new.disk.told) e.number)) p.opened.entry.changed
-          ∙ (λ i. Some (record { path = p.key i; size = size; bytes = empty i }));
+          ∙ (λ i. Some (record { path = p.key i; size = size; bytes = empty i; fills = None }));
       others = λ m apart. entry-kept (Made (temporary_of e) now ∷ []) n old new m p.disk sound.keys (p.opened.entry.others m apart)
           (λ q s. (numbers-apart old.disk.divided q.key m e.divided e.key e.number (let l = slot-in old.pending.slots m q s in omega (arith, l, few)) number apart, tt));
       reserved = p.opened.reserved;

@@ -24,11 +24,12 @@ use Rattle.sc_model.specs.World.{Evicts}
 use Rattle.sc_disk_pair.specs.Parts.{ArePlaced, in_part}
 use Rattle.sc_disk_pair.specs.declared.part.Part.{Part}
 use Rattle.sc_disk_pair.specs.declared.part.Part.TheVariants.{Main, Pre}
+use Rattle.sc_store_disk.specs.Devices.{calls_of}
 use Rattle.sc_store_disk.specs.DiskStores.{bytes_or, entries_from, entries_of, entry_at, level_of, open_entry, opened_store, told_files}
 use Rattle.sc_store_disk.specs.Moving.{Stays}
 use Rattle.sc_store_disk.specs.Shown.{Index, bytes_at, files_of}
 use Rattle.sc_store_disk.proofs.Changing.{bytes-added, bytes-all_gone, bytes-gone, bytes-made, bytes-touched, left_apart, lookup-dropped}
-use Rattle.sc_store_disk.proofs.Devices.{makes_on}
+use Rattle.sc_store_disk.proofs.Devices.{loses_none, makes_on}
 use Rattle.sc_store_disk.proofs.Evicting.{evictions}
 use Rattle.sc_store_disk.proofs.Finding.{same-shown}
 use Rattle.sc_store_disk.proofs.Sizes.{IsWhole, all-whole, key_is_no_temporary}
@@ -124,7 +125,7 @@ pub stays : (mode : CacheMode) (capacity : ℕ) (old new : Store) (xs : List Cha
 stays mode capacity old new xs did = record {
   facts = ap (λ root. record { kind = (opened_store mode capacity old).facts.kind; wrapped = false; configured = mode; mode = mode; capacity = capacity; root = root }) did.root;
   told = still_told old.disk.told new.disk.told xs did.told;
-  later = record { faults = did.faults; losses = omega arith; calls = makes_on old.disk.calls new.disk.calls old.disk.faults new.disk.faults did.calls; opened = refl };
+  later = record { faults = did.faults; losses = loses_none (option_map calls_of old.disk.calls) 0; calls = makes_on old.disk.calls new.disk.calls old.disk.faults new.disk.faults did.calls; opened = refl };
 }
 
 -- The open entry of a number.
@@ -145,7 +146,7 @@ temporary_kept xs n es (Some r) b t e keys is away =
 
 kept_entry : (v w : Bool) (f g : DiskFiles) (m : ℕ) (o : Option Pending) → w ≡ v → ((p : Pending) → o ≡ Some p → bytes_at g (temporary v p.key m) ≡ bytes_at f (temporary v p.key m)) → option_map (open_entry w g m) o ≡ option_map (open_entry v f m) o
 kept_entry v w f g m None e h = refl
-kept_entry v w f g m (Some p) e h = ap (λ d. Some (open_entry d g m p)) e ∙ ap (λ b. Some (record { path = p.key; size = p.size; bytes = bytes_or b })) (h p refl)
+kept_entry v w f g m (Some p) e h = ap (λ d. Some (open_entry d g m p)) e ∙ ap (λ b. Some (record { path = p.key; size = p.size; bytes = bytes_or b; fills = None })) (h p refl)
 
 -- an open entry stays as it was
 pub entry-kept : (xs : List Change) (n : ℕ) (old new : Store) (m : ℕ) → Does (xs ++ gone (firsts n old.index)) old.disk new.disk → AreKeys old.index → get new.pending m ≡ get old.pending m

@@ -1,5 +1,5 @@
 -- Openings, and other calls that change nothing that is held.
-use Rattle.std.proofs.Common.{◌≡◌, ℕ, suc, Bool, true, false, cond, is_some, bytes_eq, option_map, IfSome, List, [], ◌∷◌, Option, Some, None, refl, sym, ap, ◌∙◌, subst, arith}
+use Rattle.std.proofs.Common.{◌≡◌, ℕ, suc, Bool, true, false, cond, is_some, bytes_eq, option_map, IfSome, List, [], ◌∷◌, Option, Some, None, refl, sym, ap, ◌∙◌, subst}
 use Rattle.std.specs.Map.{lookup}
 use Rattle.sc_entry.specs.Causes.{IfTold}
 use Rattle.sc_entry.specs.declared.cache_mode.CacheMode.{CacheMode}
@@ -17,12 +17,13 @@ use Rattle.sc_disk_pair.specs.Twos.{TwoState, joined_state}
 use Rattle.sc_disk_pair.specs.declared.pair_cache.PairCache.{PairCache}
 use Rattle.sc_disk_pair.specs.declared.part.Part.{Part}
 use Rattle.sc_disk_pair.specs.declared.part.Part.TheVariants.{Main, Pre}
+use Rattle.sc_store_disk.specs.Devices.{calls_of}
 use Rattle.sc_store_disk.specs.DiskStores.{DiskStore, bytes_or, entries_from, opened_store, store_of, told_files, unopened_store}
 use Rattle.sc_store_disk.specs.Moving.{Stays, Steady}
 use Rattle.sc_store_disk.specs.Reopened.{reopened}
 use Rattle.sc_store_disk.specs.Shown.{Index, bytes_at, files_of}
 use Rattle.sc_store_disk.proofs.Changing.{bytes-touched}
-use Rattle.sc_store_disk.proofs.Devices.{later_same, later_then, makes_on}
+use Rattle.sc_store_disk.proofs.Devices.{later_same, later_then, loses_none, makes_on}
 use Rattle.sc_store_disk.proofs.Finding.{same-shown}
 use Rattle.sc_store_disk.proofs.Openings.{files-untold, opened-files, refused-files}
 
@@ -64,9 +65,11 @@ opens mode capacity d s o again none sound =
     record {
       facts = ap (λ root. record { kind = (unopened_store mode capacity d).facts.kind; wrapped = false; configured = mode; mode = mode; capacity = capacity; root = root }) o.1.root;
       told = still_told d.told s.disk.told (gone o.0) o.1.told;
-      later = record { faults = o.1.faults; losses = omega arith; calls = makes_on d.calls s.disk.calls d.faults s.disk.faults o.1.calls; opened = refl };
+      later = record { faults = o.1.faults; losses = loses_none (option_map calls_of d.calls) 0; calls = makes_on d.calls s.disk.calls d.faults s.disk.faults o.1.calls; opened = refl };
       main = files_opened Main capacity s.index d.told s.disk.told o.0 o.1.told again sound.keys agrees;
       pre = files_opened Pre capacity s.index d.told s.disk.told o.0 o.1.told again sound.keys agrees;
+      marks = refl;
+      written = refl;
       reserved = ap declared none;
       entries = no_entries s.disk.divided (told_files s.disk.told) s.pending.slots none;
     }
@@ -76,9 +79,11 @@ unfolding RefusesOpening
 refuses mode capacity d e o = record {
   facts = ap (λ root. record { kind = (unopened_store mode capacity d).facts.kind; wrapped = false; configured = mode; mode = mode; capacity = capacity; root = root }) o.1.root;
   told = still_told d.told e.told (gone o.0) o.1.told;
-  later = record { faults = o.1.faults; losses = omega arith; calls = makes_on d.calls e.calls d.faults e.faults o.1.calls; opened = refl };
+  later = record { faults = o.1.faults; losses = loses_none (option_map calls_of d.calls) 0; calls = makes_on d.calls e.calls d.faults e.faults o.1.calls; opened = refl };
   main = files_refused Main capacity d.told e.told o.0 o.1.told o.2;
   pre = files_refused Pre capacity d.told e.told o.0 o.1.told o.2;
+  marks = refl;
+  written = refl;
   reserved = refl;
   entries = refl;
 }
@@ -126,7 +131,7 @@ pub entries-same : (divided : Bool) (f g : DiskFiles) (n : ℕ) (slots : List (O
 entries-same divided f g n [] h = refl
 entries-same divided f g n (None ∷ slots) h = ap (λ l. None ∷ l) (entries-same divided f g (suc n) slots h)
 entries-same divided f g n (Some p ∷ slots) h =
-    (λ i. Some (record { path = p.key; size = p.size; bytes = bytes_or (h (temporary divided p.key n) i) }) ∷ entries-same divided f g (suc n) slots h i)
+    (λ i. Some (record { path = p.key; size = p.size; bytes = bytes_or (h (temporary divided p.key n) i); fills = None }) ∷ entries-same divided f g (suc n) slots h i)
 
 same_lookups : (part : Part) (es fs : Index) (f g : DiskFiles) → ((q : List ℕ) → lookup (bytes_eq q) fs ≡ lookup (bytes_eq q) es) → ((q : List ℕ) → bytes_at g q ≡ bytes_at f q) → files_of part fs g ≡ files_of part es f
 same_lookups part es fs f g looks bytes = same-shown part fs es g f (λ k i. cond (is_some (looks (in_part part k) i)) (bytes (in_part part k) i) None)
@@ -139,9 +144,11 @@ uses-steady mode capacity old new xs looks pending did t =
     record {
       facts = ap (λ root. record { kind = (opened_store mode capacity old).facts.kind; wrapped = false; configured = mode; mode = mode; capacity = capacity; root = root }) did.root;
       told = still_told old.disk.told new.disk.told xs did.told;
-      later = record { faults = did.faults; losses = omega arith; calls = makes_on old.disk.calls new.disk.calls old.disk.faults new.disk.faults did.calls; opened = refl };
+      later = record { faults = did.faults; losses = loses_none (option_map calls_of old.disk.calls) 0; calls = makes_on old.disk.calls new.disk.calls old.disk.faults new.disk.faults did.calls; opened = refl };
       main = same_lookups Main old.index new.index (told_files old.disk.told) (told_files new.disk.told) looks same;
       pre = same_lookups Pre old.index new.index (told_files old.disk.told) (told_files new.disk.told) looks same;
+      marks = refl;
+      written = refl;
       reserved = ap (λ p. declared p.slots) pending;
       entries = (λ i. entries_from (did.divided i) (told_files new.disk.told) 0 (pending i).slots) ∙ entries-same old.disk.divided (told_files old.disk.told) (told_files new.disk.told) 0 old.pending.slots same;
     }
@@ -153,6 +160,8 @@ steady-then a b c s t = record {
   later = later_then a.level b.level c.level s.later t.later;
   main = t.main ∙ s.main;
   pre = t.pre ∙ s.pre;
+  marks = t.marks ∙ s.marks;
+  written = t.written ∙ s.written;
   reserved = t.reserved ∙ s.reserved;
   entries = t.entries ∙ s.entries;
 }

@@ -1,9 +1,9 @@
 -- What fills and commits of a disk store's entries do.
-use Rattle.std.specs.Prelude.{◌≡◌, ◌≢◌, ◌⊎◌, ℕ, ◌+◌, ◌<◌, ◌≤◌, max, Bool, true, List, ◌++◌, length, Some, None}
+use Rattle.std.specs.Prelude.{◌≡◌, ◌≢◌, ◌⊎◌, ℕ, ◌+◌, ◌<◌, ◌≤◌, max, Bool, true, List, ◌++◌, length, Option, Some, None}
 use Rattle.std.specs.Option.{option_map_or}
 use Rattle.sc_disk.specs.Store.{AddEntry, IsOpen, Store}
 use Rattle.sc_entry.specs.Causes.{Rose}
-use Rattle.sc_model.specs.World.{Evicts, IsFault, Level, put_file, same_maps}
+use Rattle.sc_model.specs.World.{Commits_calls, DiskCalls, Evicts, Fills, IsFault, KeepsMarks, Level, SameStore, SetsMark, put_file, same_maps}
 use Rattle.sc_model.specs.declared.event.Written.{Written}
 use Rattle.sc_model.specs.declared.event.Written.TheVariants.{Done as WriteDone, Refused as WriteRefused}
 use Rattle.sc_model.specs.declared.level.Cause.TheVariants.{FileTooLarge, Io, Reserved as NoRoom}
@@ -12,6 +12,7 @@ use Rattle.sc_disk_pair.specs.Parts.{in_part}
 use Rattle.sc_disk_pair.specs.declared.part.Part.{Part}
 use Rattle.sc_disk_pair.specs.declared.part.Part.TheVariants.{Main, Pre}
 use Rattle.sc_store_disk.specs.DiskStores.{DiskStore, OpenEntry, entry_at}
+use Rattle.sc_store_disk.specs.Marks.{mark_of}
 use Rattle.sc_store_disk.specs.declared.filling.Filling.{Filling}
 use Rattle.sc_store_disk.specs.declared.filling.Filling.TheVariants.{Filled as StillOpen, Refused as NotFilled}
 
@@ -23,11 +24,11 @@ IsOpenAt e s = (e.divided ≡ true) × ((o : OpenEntry) × (entry_at s.entries e
 abbrev pub OthersStay : ℕ → DiskStore → DiskStore → Type 0
 OthersStay number old new = (m : ℕ) → m ≢ number → entry_at new.entries m ≡ entry_at old.entries m
 
--- An entry was filled with bytes behind those that it had.
-pub record FillsEntry (number : ℕ) (more : List ℕ) (old new : DiskStore) : Type 0 where
-  pub maps : same_maps old.level new.level
+-- An entry was filled with bytes behind those that it had; what its fills came to was made another by this.
+pub record FillsEntry (number : ℕ) (more : List ℕ) (fills : Option Bool → Option Bool) (old new : DiskStore) : Type 0 where
+  pub level : Fills WriteDone old.level new.level
   pub reserved : new.reserved ≡ old.reserved
-  pub entry : (o : OpenEntry) → entry_at old.entries number ≡ Some o → (b : List ℕ) × (entry_at new.entries number ≡ Some (record { path = o.path; size = o.size; bytes = b })) × (old.told ≡ true → b ≡ o.bytes ++ more)
+  pub entry : (o : OpenEntry) → entry_at old.entries number ≡ Some o → (b : List ℕ) × (entry_at new.entries number ≡ Some (record { path = o.path; size = o.size; bytes = b; fills = fills o.fills })) × (old.told ≡ true → b ≡ o.bytes ++ more)
   pub others : OthersStay number old new
 
 -- what the open entry of a number has declared
@@ -41,24 +42,34 @@ pub record ClosesEntry (number : ℕ) (old new : DiskStore) : Type 0 where
   pub reserved : new.reserved + size_at old number ≡ old.reserved
 
 -- a fill, which closes the entry where it is refused
-abbrev pub FillsBy : AddEntry → List ℕ → Filling → DiskStore → DiskStore → Type 0
-FillsBy e more (StillOpen same) old new = (same ≡ e) × FillsEntry e.number more old new
-FillsBy e more (NotFilled c) old new = IsFault Disk old.level new.level c × same_maps old.level new.level × ClosesEntry e.number old new
+abbrev pub FillsBy : AddEntry → List ℕ → (Option Bool → Option Bool) → Filling → DiskStore → DiskStore → Type 0
+FillsBy e more fills (StillOpen same) old new = (same ≡ e) × FillsEntry e.number more fills old new
+FillsBy e more fills (NotFilled c) old new = Fills (WriteRefused c) old.level new.level × ClosesEntry e.number old new
+
+-- no file came or went, and no mark
+pub record SameFiles (v w : Level) : Type 0 where
+  pub maps : same_maps v w
+  pub marks : KeepsMarks v w
 
 -- an entry that was filled is open in the store
 abbrev pub KeepsOpen : Filling → Store → Type 0
 KeepsOpen (StillOpen e) s = IsOpen s e
 KeepsOpen (NotFilled c) s = Unit {0}
 
--- a file of a level's main part, once an entry was committed
-abbrev pub CommitsFile : List ℕ → List ℕ → Written → Level → Level → Type 0
-CommitsFile path bytes WriteDone v w = (w.main ≡ put_file v.main path bytes) × (w.pre ≡ v.pre)
-CommitsFile path bytes (WriteRefused c) v w = IsFault Disk v w c × same_maps v w
+-- a file of a level's main part and its mark, once an entry was committed
+abbrev pub CommitsAt : List ℕ → List ℕ → Bool → Written → Level → Level → Type 0
+CommitsAt path bytes mark WriteDone v w = (w.main ≡ put_file v.main path bytes) × (w.pre ≡ v.pre) × SetsMark path mark v w
+CommitsAt path bytes mark (WriteRefused c) v w = IsFault Disk v w c × same_maps v w × KeepsMarks v w
+
+pub record CommitsFile (path bytes : List ℕ) (mark : Bool) (how : Written) (v w : Level) : Type 0 where
+  pub file : CommitsAt path bytes mark how v w
+  pub calls : DiskCalls (Commits_calls how) v w
+  pub store : SameStore v w
 
 -- An entry that was filled with no more than it declared, at a store whose disks tell: its file stands in the main part,
 -- and nothing was evicted; or its disk refused.
 abbrev pub CommitsEntry : ℕ → Written → DiskStore → DiskStore → Type 0
-CommitsEntry number how old new = old.told ≡ true → (o : OpenEntry) (path : List ℕ) → entry_at old.entries number ≡ Some o → length o.bytes ≤ o.size → o.path ≡ in_part Main path → CommitsFile path o.bytes how old.level new.level
+CommitsEntry number how old new = old.told ≡ true → (o : OpenEntry) (path : List ℕ) → entry_at old.entries number ≡ Some o → length o.bytes ≤ o.size → o.path ≡ in_part Main path → CommitsFile path o.bytes (mark_of o.fills) how old.level new.level
 
 -- What a commit makes room for: what the other entries have reserved, and the bytes of its own or those that it declared,
 -- whichever are more.
@@ -108,4 +119,4 @@ CommitCause number (WriteRefused c) old new = ⊥
 
 -- An entry that was filled with no more than it declared was not committed for want of memory: no file came or went.
 abbrev pub CommitsNothing : ℕ → DiskStore → DiskStore → Type 0
-CommitsNothing number old new = old.told ≡ true → (o : OpenEntry) → entry_at old.entries number ≡ Some o → length o.bytes ≤ o.size → same_maps old.level new.level
+CommitsNothing number old new = old.told ≡ true → (o : OpenEntry) → entry_at old.entries number ≡ Some o → length o.bytes ≤ o.size → SameFiles old.level new.level

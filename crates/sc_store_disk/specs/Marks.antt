@@ -34,6 +34,10 @@ abbrev pub after_fill : Option Bool → Bool → Bool
 after_fill None from_run = from_run
 after_fill (Some marked) from_run = false
 
+-- what an entry's fills come to by one more
+abbrev pub filled_by : Bool → Option Bool → Option Bool
+filled_by from_run fills = Some (after_fill fills from_run)
+
 abbrev pub mark_of : Option Bool → Bool
 mark_of None = false
 mark_of (Some marked) = marked

@@ -6,7 +6,7 @@ use Rattle.sc_entry.specs.Entries.{objects}
 use Rattle.sc_entry.specs.Keys.{IsStoreKey}
 use Rattle.sc_disk_pair.specs.declared.part.Part.{Part}
 use Rattle.sc_disk_pair.specs.declared.part.Part.TheVariants.{Main, Pre}
-use Rattle.sc_model.specs.World.{Files, Asks, Causes, Evicts, Later, Level, Spells, find_file, room_cause}
+use Rattle.sc_model.specs.World.{Files, Asks, Causes, Evicts, KeepsMarks, Later, Level, Spells, find_file, room_cause}
 use Rattle.sc_model.specs.declared.event.Answer.{Answer}
 use Rattle.sc_model.specs.declared.event.Answer.TheVariants.{Found, Hit, Miss, Refused, Size as SizeIs}
 use Rattle.sc_model.specs.declared.event.Mode.{Mode}
@@ -26,6 +26,8 @@ pub record Steady (old new : DiskStore) : Type 0 where
   pub later : Later old.level new.level
   pub main : new.level.main ≡ old.level.main
   pub pre : new.level.pre ≡ old.level.pre
+  pub marks : new.level.marks ≡ old.level.marks
+  pub written : new.level.written ≡ old.level.written
   pub reserved : new.reserved ≡ old.reserved
   pub entries : new.entries ≡ old.entries
 
@@ -66,24 +68,28 @@ hit_or_miss answer = answer
 abbrev pub AsksDisk : List ℕ → Mode → Answer → DiskStore → DiskStore → Type 0
 AsksDisk key mode answer old new = old.told ≡ true → Asks objects old.facts old.reserved key mode answer old.level new.level
 
--- Why a lookup was answered so, whether or not the disks tell what they hold. A preprocessor entry has no mark.
+-- Why a lookup was answered so, by the counts of faults, whether or not the disks tell what they hold. A preprocessor entry has no
+-- mark.
+abbrev pub AskCauseBy : Mode → Answer → List ℕ → ℕ → ℕ → Type 0
+AskCauseBy Whole (Hit bytes mark) key before now = IsStoreKey key × Spells (objects bytes)
+AskCauseBy Whole Miss key before now = IsStoreKey key
+AskCauseBy Whole (Refused BadKey) key before now = IsStoreKey key → ⊥
+AskCauseBy Whole (Refused BadEntry) key before now = IsStoreKey key
+AskCauseBy Whole (Refused Io) key before now = IsStoreKey key × Rose before now
+AskCauseBy Raw (Hit bytes mark) key before now = IsStoreKey key
+AskCauseBy Raw Miss key before now = IsStoreKey key
+AskCauseBy Raw (Refused BadKey) key before now = IsStoreKey key → ⊥
+AskCauseBy Raw (Refused Io) key before now = IsStoreKey key × Rose before now
+AskCauseBy Path (Found path) key before now = IsStoreKey key
+AskCauseBy Path Miss key before now = Unit {0}
+AskCauseBy PreMode (Hit bytes mark) key before now = IsStoreKey key × (mark ≡ false)
+AskCauseBy PreMode Miss key before now = Unit {0}
+AskCauseBy PreMode (Refused Io) key before now = IsStoreKey key × Rose before now
+AskCauseBy Sizes (SizeIs size counters) key before now = Unit {0}
+AskCauseBy mode answer key before now = ⊥
+
 abbrev pub AskCause : Mode → Answer → List ℕ → Level → Level → Type 0
-AskCause Whole (Hit bytes mark) key before now = IsStoreKey key × Spells (objects bytes)
-AskCause Whole Miss key before now = IsStoreKey key
-AskCause Whole (Refused BadKey) key before now = IsStoreKey key → ⊥
-AskCause Whole (Refused BadEntry) key before now = IsStoreKey key
-AskCause Whole (Refused Io) key before now = IsStoreKey key × Rose before.faults now.faults
-AskCause Raw (Hit bytes mark) key before now = IsStoreKey key
-AskCause Raw Miss key before now = IsStoreKey key
-AskCause Raw (Refused BadKey) key before now = IsStoreKey key → ⊥
-AskCause Raw (Refused Io) key before now = IsStoreKey key × Rose before.faults now.faults
-AskCause Path (Found path) key before now = IsStoreKey key
-AskCause Path Miss key before now = Unit {0}
-AskCause PreMode (Hit bytes mark) key before now = IsStoreKey key × (mark ≡ false)
-AskCause PreMode Miss key before now = Unit {0}
-AskCause PreMode (Refused Io) key before now = IsStoreKey key × Rose before.faults now.faults
-AskCause Sizes (SizeIs size counters) key before now = Unit {0}
-AskCause mode answer key before now = ⊥
+AskCause mode answer key before now = AskCauseBy mode answer key before.faults now.faults
 
 -- how a reservation ended
 abbrev pub written_of : Reservation → Written
@@ -98,8 +104,12 @@ pub record Stays (old new : DiskStore) : Type 0 where
 
 -- a reservation that was not made for want of memory: files went while they, the reservations and the wanted bytes took more
 -- than the capacity
+abbrev pub EvictsFiles : ℕ → DiskStore → DiskStore → Type 0
+EvictsFiles size old new = old.told ≡ true → (ps : List (Bool × List ℕ)) × Evicts old.facts.capacity (old.reserved + size) ps old.level new.level
+
+-- and with them their marks
 abbrev pub EvictsFor : ℕ → DiskStore → DiskStore → Type 0
-EvictsFor size old new = old.told ≡ true → (ps : List (Bool × List ℕ)) × Evicts old.facts.capacity (old.reserved + size) ps old.level new.level
+EvictsFor size old new = old.told ≡ true → ((ps : List (Bool × List ℕ)) × Evicts old.facts.capacity (old.reserved + size) ps old.level new.level) × KeepsMarks old.level new.level
 
 -- the same open entries, with the same bytes, and as much is reserved
 pub record SameEntries (old new : DiskStore) : Type 0 where
@@ -111,7 +121,7 @@ pub record Opens (path : List ℕ) (size : ℕ) (e : AddEntry) (old new : DiskSt
   pub key : e.key ≡ path
   pub divided : e.divided ≡ true
   pub free : entry_at old.entries e.number ≡ None
-  pub opened : entry_at new.entries e.number ≡ Some (record { path = path; size = size; bytes = [] })
+  pub opened : entry_at new.entries e.number ≡ Some (record { path = path; size = size; bytes = []; fills = None })
   pub others : (number : ℕ) → number ≢ e.number → entry_at new.entries number ≡ entry_at old.entries number
   pub reserved : new.reserved ≡ old.reserved + size
 
@@ -125,10 +135,13 @@ HasOpened (IsOpened e) s = IsOpen s e
 HasOpened (IsRefused c) s = Unit {0}
 
 -- Why an entry was opened or not, whether or not the disks tell what they hold.
+abbrev pub ReserveCauseBy : Causes → Reservation → ℕ → ℕ → Type 0
+ReserveCauseBy expected (IsOpened e) before now = expected.all ≡ None
+ReserveCauseBy expected (IsRefused Io) before now = (expected.early ≡ None) × Rose before now
+ReserveCauseBy expected (IsRefused c) before now = expected.all ≡ Some c
+
 abbrev pub ReserveCause : Causes → Reservation → Level → Level → Type 0
-ReserveCause expected (IsOpened e) before now = expected.all ≡ None
-ReserveCause expected (IsRefused Io) before now = (expected.early ≡ None) × Rose before.faults now.faults
-ReserveCause expected (IsRefused c) before now = expected.all ≡ Some c
+ReserveCause expected how before now = ReserveCauseBy expected how before.faults now.faults
 
 -- the causes of a reservation whose mode and key are good
 abbrev pub room_causes : ℕ → ℕ → ℕ → Causes

@@ -1,6 +1,6 @@
 //! Lookups at a disk store.
 ghost use Rattle.std.specs.Prelude.{◌≡◌, ◌+◌, ◌++◌, ◌∷◌, ℕ, List, true, false, is_some, Ok, IfOk};
-ghost use Rattle.sc_store_disk.specs.DiskStores.{count_of, held_disk, if_opened, indexed_bytes};
+ghost use Rattle.sc_store_disk.specs.DiskStores.{bare_disk, count_of, held_disk, if_opened, indexed_bytes};
 ghost use Rattle.sc_store_disk.specs.Marked.{TellsMark, marks_of, with_mark};
 ghost use Rattle.sc_store_disk.specs.Marks.{is_marked};
 ghost use Rattle.sc_store_disk.specs.Moving.{AskCause, AsksDisk, HasFile, OpensFor, ReadsAt, Steady, hit_or_miss, reads_key};
@@ -53,10 +53,10 @@ impl<D: Disk> EntryCache<D> {
     fn look(&mut self, part: Part, path: &FileKey, now: u64) -> Result<Answer, NoMemory>
         requires lent { is_some self.old.pair.opened ≡ true }
         requires key { is_file_key path.now ≡ true }
-        ensures steady { Steady (held_disk self.old) (held_disk self.new) }
+        ensures steady { Steady (bare_disk self.old) (bare_disk self.new) }
         ensures marks { marks_of self.new ≡ marks_of self.old }
-        ensures answer { IfOk result (λ answer. ReadsAt part path.now answer (held_disk self.old).told (held_disk self.old).level (held_disk self.new).level) }
-        ensures opened { (held_disk self.new).level.opened ≡ true }
+        ensures answer { IfOk result (λ answer. ReadsAt part path.now answer (bare_disk self.old).told (bare_disk self.old).level (bare_disk self.new).level) }
+        ensures opened { (bare_disk self.new).level.opened ≡ true }
     {
         let Some(cache) = self.pair.get() else {
             unreachable!()
@@ -70,10 +70,10 @@ impl<D: Disk> EntryCache<D> {
     fn touch(&mut self, path: &FileKey) -> Result<bool, NoMemory>
         requires lent { is_some self.old.pair.opened ≡ true }
         requires key { is_file_key path.now ≡ true }
-        ensures steady { Steady (held_disk self.old) (held_disk self.new) }
+        ensures steady { Steady (bare_disk self.old) (bare_disk self.new) }
         ensures marks { marks_of self.new ≡ marks_of self.old }
-        ensures there { IfOk result (λ there. HasFile path.now there (held_disk self.old).told (held_disk self.new).level) }
-        ensures opened { (held_disk self.new).level.opened ≡ true }
+        ensures there { IfOk result (λ there. HasFile path.now there (bare_disk self.old).told (bare_disk self.new).level) }
+        ensures opened { (bare_disk self.new).level.opened ≡ true }
     {
         let Some(cache) = self.pair.get() else {
             unreachable!()
@@ -96,10 +96,10 @@ impl<D: Disk + Drop> EntryCache<D> {
     /// What stands at a path of the main part; the store is opened for it.
     fn find(&mut self, path: &FileKey, now: u64) -> Result<Answer, NoMemory>
         requires { is_file_key path.now ≡ true }
-        ensures steady { Steady (held_disk self.old) (held_disk self.new) }
+        ensures steady { Steady (bare_disk self.old) (bare_disk self.new) }
         ensures marks { marks_of self.new ≡ marks_of self.old }
-        ensures answer { IfOk result (λ answer. ReadsAt Part.Main path.now answer (held_disk self.old).told (held_disk self.old).level (held_disk self.new).level) }
-        ensures opened { IfOk result (λ answer. OpensFor answer (held_disk self.new).level.opened) }
+        ensures answer { IfOk result (λ answer. ReadsAt Part.Main path.now answer (bare_disk self.old).told (bare_disk self.old).level (bare_disk self.new).level) }
+        ensures opened { IfOk result (λ answer. OpensFor answer (bare_disk self.new).level.opened) }
     {
         if !self.open(now)? {
             return Ok(Answer::Refused(Cause::Io));
@@ -107,13 +107,13 @@ impl<D: Disk + Drop> EntryCache<D> {
         self.look(Part::Main, path, now)
     }
 
-    /// What stands at a path of the main part, as this lookup tells it, without its mark.
+    /// What stands at a path of the main part, as this lookup tells it, but without its mark.
     fn ask_at(&mut self, path: &FileKey, mode: Mode, now: u64) -> Result<Answer, NoMemory>
         requires mode { reads_key mode ≡ true }
         requires key { is_file_key path.now ≡ true }
-        ensures steady { Steady (held_disk self.old) (held_disk self.new) }
+        ensures steady { Steady (bare_disk self.old) (bare_disk self.new) }
         ensures marks { marks_of self.new ≡ marks_of self.old }
-        ensures asked { IfOk result (λ answer. (key : List ℕ) → IsStoreKey key → path.now ≡ make_path key → AsksDisk key mode answer (held_disk self.old) (held_disk self.new)) }
+        ensures asked { IfOk result (λ answer. (key : List ℕ) → IsStoreKey key → path.now ≡ make_path key → AsksDisk key mode (with_mark (is_marked (marks_of self.old) (in_part Main path.now)) answer) (held_disk self.old) (held_disk self.new)) }
         ensures cause { IfOk result (λ answer. (key : List ℕ) → IsStoreKey key → path.now ≡ make_path key → AskCause mode answer key (held_disk self.old).level (held_disk self.new).level) }
     {
         let raw = self.find(path, now)?;
@@ -138,7 +138,7 @@ impl<D: Disk + Drop> EntryCache<D> {
     #[tactic(auto, using(crate::proofs::KeyPaths::entry_key))]
     fn ask_entry(&mut self, key: &Text, mode: Mode, now: u64) -> Result<Answer, NoMemory>
         requires { reads_key mode ≡ true }
-        ensures steady { Steady (held_disk self.old) (held_disk self.new) }
+        ensures steady { Steady (bare_disk self.old) (bare_disk self.new) }
         ensures marks { marks_of self.new ≡ marks_of self.old }
         ensures asked { IfOk result (λ answer. AsksDisk key.now mode answer (held_disk self.old) (held_disk self.new)) }
         ensures cause { IfOk result (λ answer. AskCause mode answer key.now (held_disk self.old).level (held_disk self.new).level) }
@@ -156,7 +156,7 @@ impl<D: Disk + Drop> EntryCache<D> {
     /// Looks a preprocessor entry up. A refused read is a miss, and so is a bad key; a refused opening alone is told.
     #[tactic(auto, using(crate::proofs::KeyPaths::pre_key))]
     fn ask_pre(&mut self, key: &Text, now: u64) -> Result<Answer, NoMemory>
-        ensures steady { Steady (held_disk self.old) (held_disk self.new) }
+        ensures steady { Steady (bare_disk self.old) (bare_disk self.new) }
         ensures marks { marks_of self.new ≡ marks_of self.old }
         ensures asked { IfOk result (λ answer. AsksDisk key.now Mode.Pre answer (held_disk self.old) (held_disk self.new)) }
         ensures cause { IfOk result (λ answer. AskCause Mode.Pre answer key.now (held_disk self.old).level (held_disk self.new).level) }
@@ -176,7 +176,7 @@ impl<D: Disk + Drop> EntryCache<D> {
     /// refused opening have none.
     #[tactic(auto, using(crate::proofs::KeyPaths::entry_key))]
     fn ask_path(&mut self, key: &Text, now: u64) -> Result<Answer, NoMemory>
-        ensures steady { Steady (held_disk self.old) (held_disk self.new) }
+        ensures steady { Steady (bare_disk self.old) (bare_disk self.new) }
         ensures marks { marks_of self.new ≡ marks_of self.old }
         ensures asked { IfOk result (λ answer. AsksDisk key.now Mode.Path answer (held_disk self.old) (held_disk self.new)) }
         ensures cause { IfOk result (λ answer. AskCause Mode.Path answer key.now (held_disk self.old).level (held_disk self.new).level) }

@@ -3,7 +3,7 @@ ghost use Rattle.std.specs.Prelude.{◌≡◌, ◌+◌, ◌≤◌, false, codes}
 ghost use Rattle.sc_store_disk.specs.DiskStores.{held_disk, indexed_bytes, unopened_store};
 ghost use Rattle.sc_store_disk.specs.Marked.{marks_of};
 ghost use Rattle.sc_store_disk.specs.Marks.{no_marks};
-ghost use Rattle.sc_model.specs.World.{part_size};
+ghost use Rattle.sc_model.specs.World.{KeepsMarks, part_size};
 ghost use Rattle.sc_model.specs.declared.level.LevelKind.TheVariants.{Disk as IsDisk};
 ghost use Rattle.sc_disk_pair.specs.Twos.{joined_state, joins};
 
@@ -31,11 +31,13 @@ impl<D: Disk> EntryCache<D> {
 
     /// What every disk store keeps, after each call and also after a refusal: the bytes of the files of both folders that it
     /// indexes and those that open entries have declared are at most its capacity, whether or not its disks tell what they
-    /// hold. The bytes of both maps and those that are declared are at most its capacity too.
+    /// hold. The bytes of both maps and those that are declared are at most its capacity too. No path is marked at which no file
+    /// stands.
     pub fn keeps(&self)
         ensures kind { (held_disk self.now).facts.kind ≡ IsDisk }
         ensures bare { (held_disk self.now).facts.wrapped ≡ false }
         ensures bound { indexed_bytes self.now + (held_disk self.now).reserved ≤ (held_disk self.now).facts.capacity }
+        ensures marks { KeepsMarks (held_disk self.now).level (held_disk self.now).level }
         ensures within { part_size (held_disk self.now).level + (held_disk self.now).reserved ≤ (held_disk self.now).facts.capacity }
     {
         let _limit = self.mode;

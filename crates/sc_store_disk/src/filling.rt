@@ -1,9 +1,9 @@
 //! Filling and committing entries of a disk store.
 ghost use Rattle.std.specs.Prelude.{◌≡◌, ◌<◌, ℕ, true, false, is_some, Err, IfOk, IfErr, IfSome, OnErr};
-ghost use Rattle.sc_store_disk.specs.DiskStores.{held_disk, opened_store};
-ghost use Rattle.sc_store_disk.specs.Entries.{ClosesEntry, CommitCause, CommitsEntry, CommitsNothing, FillsBy, GrowsEntry, GrowsNothing, IsOpenAt, KeepsOpen};
+ghost use Rattle.sc_store_disk.specs.DiskStores.{bare_disk, held_disk, opened_store};
+ghost use Rattle.sc_store_disk.specs.Entries.{ClosesEntry, CommitCause, CommitsEntry, CommitsNothing, FillsBy, GrowsEntry, GrowsNothing, IsOpenAt, KeepsOpen, SameFiles};
 ghost use Rattle.sc_store_disk.specs.Marked.{MarksCommitted, MarksFilled, SweptBy, marks_of};
-ghost use Rattle.sc_store_disk.specs.Marks.{Begins, Forgets};
+ghost use Rattle.sc_store_disk.specs.Marks.{Begins, Forgets, SameMarks, filled_by};
 ghost use Rattle.sc_store_disk.specs.Moving.{Stays};
 ghost use Rattle.sc_disk.specs.Refusals.{DiskRefusal};
 ghost use Rattle.sc_disk.specs.Store.{IsOpen};
@@ -58,7 +58,7 @@ pub(crate) fn fill<D: Disk>(
     requires { IsOpen cache.old.store entry }
     ensures stays { (mode : CacheMode) (capacity : ℕ) → Stays (opened_store mode capacity cache.old.store) (opened_store mode capacity cache.new.store) }
     ensures capacity { cache.new.store.capacity ≡ cache.old.store.capacity }
-    ensures filled { IfOk result (λ how. (mode : CacheMode) (capacity : ℕ) → FillsBy entry bytes.now how (opened_store mode capacity cache.old.store) (opened_store mode capacity cache.new.store)) }
+    ensures filled { IfOk result (λ how. (mode : CacheMode) (capacity : ℕ) → FillsBy entry bytes.now (λ fills. fills) how (opened_store mode capacity cache.old.store) (opened_store mode capacity cache.new.store)) }
     ensures closed { OnErr result ((mode : CacheMode) (capacity : ℕ) → ClosesEntry entry.number (opened_store mode capacity cache.old.store) (opened_store mode capacity cache.new.store)) }
     ensures kept { OnErr result ((mode : CacheMode) (capacity : ℕ) → same_maps (opened_store mode capacity cache.old.store).level (opened_store mode capacity cache.new.store).level) }
     ensures open { IfOk result (λ how. KeepsOpen how cache.new.store) }
@@ -123,8 +123,8 @@ impl<D: Disk> EntryCache<D> {
 
     /// The same, in the words of the opened pair of folders.
     fn has_open(&self, entry: &LruDiskCacheAddEntry) -> bool
-        ensures opened { result ≡ true → IsOpenAt entry.now (held_disk self.now) }
-        ensures other { result ≡ false → IsOpenAt entry.now (held_disk self.now) → ⊥ }
+        ensures opened { result ≡ true → IsOpenAt entry.now (bare_disk self.now) }
+        ensures other { result ≡ false → IsOpenAt entry.now (bare_disk self.now) → ⊥ }
         ensures lent { result ≡ true → IfSome self.now.pair.opened (λ c. IsOpen c.store entry.now) × (is_some self.now.pair.opened ≡ true) }
     {
         match self.pair.peek() {
@@ -142,13 +142,13 @@ impl<D: Disk> EntryCache<D> {
         entry: LruDiskCacheAddEntry,
         bytes: &[u8],
     ) -> Result<Filling, EntryError>
-        ensures stays { Stays (held_disk self.old) (held_disk self.new) }
+        ensures stays { Stays (bare_disk self.old) (bare_disk self.new) }
         ensures marks { marks_of self.new ≡ marks_of self.old }
-        ensures filled { IfOk result (λ how. IsOpenAt entry (held_disk self.old) × FillsBy entry bytes.now how (held_disk self.old) (held_disk self.new)) }
-        ensures closed { OnErr result (IsOpenAt entry (held_disk self.old) → ClosesEntry entry.number (held_disk self.old) (held_disk self.new)) }
-        ensures kept { OnErr result (same_maps (held_disk self.old).level (held_disk self.new).level) }
-        ensures not_open { IfErr result (λ refused. refused ≡ IsNotOpen → (IsOpenAt entry (held_disk self.old) → ⊥) × (self.new ≡ self.old)) }
-        ensures open { (IsOpenAt entry (held_disk self.old) → ⊥) → result ≡ Err IsNotOpen }
+        ensures filled { IfOk result (λ how. IsOpenAt entry (bare_disk self.old) × FillsBy entry bytes.now (λ fills. fills) how (bare_disk self.old) (bare_disk self.new)) }
+        ensures closed { OnErr result (IsOpenAt entry (bare_disk self.old) → ClosesEntry entry.number (bare_disk self.old) (bare_disk self.new)) }
+        ensures kept { OnErr result (same_maps (bare_disk self.old).level (bare_disk self.new).level) }
+        ensures not_open { IfErr result (λ refused. refused ≡ IsNotOpen → (IsOpenAt entry (bare_disk self.old) → ⊥) × (self.new ≡ self.old)) }
+        ensures open { (IsOpenAt entry (bare_disk self.old) → ⊥) → result ≡ Err IsNotOpen }
     {
         if !self.has_open(&entry) {
             return Err(EntryError::NotOpen);
@@ -164,14 +164,14 @@ impl<D: Disk> EntryCache<D> {
 
     /// Commits an open entry, but for its mark.
     fn commit_entry(&mut self, entry: LruDiskCacheAddEntry, now: u64) -> Result<Written, EntryError>
-        ensures stays { Stays (held_disk self.old) (held_disk self.new) }
+        ensures stays { Stays (bare_disk self.old) (bare_disk self.new) }
         ensures marks { marks_of self.new ≡ marks_of self.old }
-        ensures closed { IsOpenAt entry (held_disk self.old) → ClosesEntry entry.number (held_disk self.old) (held_disk self.new) }
-        ensures committed { IfOk result (λ how. IsOpenAt entry (held_disk self.old) × CommitsEntry entry.number how (held_disk self.old) (held_disk self.new)) }
-        ensures cause { IfOk result (λ how. CommitCause entry.number how (held_disk self.old) (held_disk self.new)) }
-        ensures kept { OnErr result (CommitsNothing entry.number (held_disk self.old) (held_disk self.new)) }
-        ensures not_open { IfErr result (λ refused. refused ≡ IsNotOpen → (IsOpenAt entry (held_disk self.old) → ⊥) × (self.new ≡ self.old)) }
-        ensures open { (IsOpenAt entry (held_disk self.old) → ⊥) → result ≡ Err IsNotOpen }
+        ensures closed { IsOpenAt entry (bare_disk self.old) → ClosesEntry entry.number (bare_disk self.old) (bare_disk self.new) }
+        ensures committed { IfOk result (λ how. IsOpenAt entry (bare_disk self.old) × CommitsEntry entry.number how (bare_disk self.old) (bare_disk self.new)) }
+        ensures cause { IfOk result (λ how. CommitCause entry.number how (bare_disk self.old) (bare_disk self.new)) }
+        ensures kept { OnErr result (CommitsNothing entry.number (bare_disk self.old) (bare_disk self.new)) }
+        ensures not_open { IfErr result (λ refused. refused ≡ IsNotOpen → (IsOpenAt entry (bare_disk self.old) → ⊥) × (self.new ≡ self.old)) }
+        ensures open { (IsOpenAt entry (bare_disk self.old) → ⊥) → result ≡ Err IsNotOpen }
     {
         if !self.has_open(&entry) {
             return Err(EntryError::NotOpen);
@@ -189,10 +189,10 @@ impl<D: Disk> EntryCache<D> {
     fn give_up(&mut self, entry: LruDiskCacheAddEntry)
         requires open { IfSome self.old.pair.opened (λ c. IsOpen c.store entry) }
         requires lent { is_some self.old.pair.opened ≡ true }
-        ensures stays { Stays (held_disk self.old) (held_disk self.new) }
+        ensures stays { Stays (bare_disk self.old) (bare_disk self.new) }
         ensures marks { marks_of self.new ≡ marks_of self.old }
-        ensures closed { ClosesEntry entry.number (held_disk self.old) (held_disk self.new) }
-        ensures kept { same_maps (held_disk self.old).level (held_disk self.new).level }
+        ensures closed { ClosesEntry entry.number (bare_disk self.old) (bare_disk self.new) }
+        ensures kept { same_maps (bare_disk self.old).level (bare_disk self.new).level }
     {
         let Some(cache) = self.pair.get() else {
             unreachable!()
@@ -209,13 +209,33 @@ impl<D: Disk> EntryCache<D> {
         from_run: bool,
     ) -> Result<Filling, EntryError>
         ensures stays { Stays (held_disk self.old) (held_disk self.new) }
-        ensures filled { IfOk result (λ how. IsOpenAt entry (held_disk self.old) × FillsBy entry bytes.now how (held_disk self.old) (held_disk self.new)) }
+        ensures filled { IfOk result (λ how. IsOpenAt entry (held_disk self.old) × FillsBy entry bytes.now (filled_by from_run) how (held_disk self.old) (held_disk self.new)) }
         ensures closed { OnErr result (IsOpenAt entry (held_disk self.old) → ClosesEntry entry.number (held_disk self.old) (held_disk self.new)) }
-        ensures kept { OnErr result (same_maps (held_disk self.old).level (held_disk self.new).level) }
+        ensures kept { OnErr result (SameFiles (held_disk self.old).level (held_disk self.new).level) }
         ensures marks { IfOk result (λ how. MarksFilled entry.number from_run how (marks_of self.old) (marks_of self.new)) }
         ensures forgotten { OnErr result (IsOpenAt entry (held_disk self.old) → Forgets entry.number (marks_of self.old) (marks_of self.new)) }
         ensures not_open { IfErr result (λ refused. refused ≡ IsNotOpen → (IsOpenAt entry (held_disk self.old) → ⊥) × (self.new ≡ self.old)) }
         ensures open { (IsOpenAt entry (held_disk self.old) → ⊥) → result ≡ Err IsNotOpen }
+    {
+        self.bare_fill(entry, bytes, from_run)
+    }
+
+    /// The same, as the store tells it without its marks.
+    fn bare_fill(
+        &mut self,
+        entry: LruDiskCacheAddEntry,
+        bytes: &[u8],
+        from_run: bool,
+    ) -> Result<Filling, EntryError>
+        ensures stays { Stays (bare_disk self.old) (bare_disk self.new) }
+        ensures filled { IfOk result (λ how. IsOpenAt entry (bare_disk self.old) × FillsBy entry bytes.now (λ fills. fills) how (bare_disk self.old) (bare_disk self.new)) }
+        ensures closed { OnErr result (IsOpenAt entry (bare_disk self.old) → ClosesEntry entry.number (bare_disk self.old) (bare_disk self.new)) }
+        ensures kept { OnErr result (same_maps (bare_disk self.old).level (bare_disk self.new).level) }
+        ensures marks { IfOk result (λ how. MarksFilled entry.number from_run how (marks_of self.old) (marks_of self.new)) }
+        ensures forgotten { OnErr result (IsOpenAt entry (bare_disk self.old) → Forgets entry.number (marks_of self.old) (marks_of self.new)) }
+        ensures marks_stay { OnErr result (SameMarks (marks_of self.old) (marks_of self.new)) }
+        ensures not_open { IfErr result (λ refused. refused ≡ IsNotOpen → (IsOpenAt entry (bare_disk self.old) → ⊥) × (self.new ≡ self.old)) }
+        ensures open { (IsOpenAt entry (bare_disk self.old) → ⊥) → result ≡ Err IsNotOpen }
     {
         if !self.has_open(&entry) {
             return Err(EntryError::NotOpen);
@@ -241,7 +261,7 @@ impl<D: Disk> EntryCache<D> {
 
     /// Makes ready to mark the path of an open entry: the path, and whether it got a mark for that.
     fn begin_mark(&mut self, entry: &LruDiskCacheAddEntry) -> Result<(FileKey, bool), NoMemory>
-        ensures held { held_disk self.new ≡ held_disk self.old }
+        ensures held { bare_disk self.new ≡ bare_disk self.old }
         ensures pair { self.new.pair ≡ self.old.pair }
         ensures began { IfOk result (λ ready. (ready.0 ≡ entry.now.key) × Begins entry.now.key entry.now.number ready.1 (marks_of self.old) (marks_of self.new)) }
         ensures err { OnErr result (marks_of self.new ≡ marks_of self.old) }
@@ -253,7 +273,7 @@ impl<D: Disk> EntryCache<D> {
 
     /// Forgets the marks of files that were evicted, where there are many, but for that of this path.
     fn sweep(&mut self, keep: &FileKey)
-        ensures held { held_disk self.new ≡ held_disk self.old }
+        ensures held { bare_disk self.new ≡ bare_disk self.old }
         ensures pair { self.new.pair ≡ self.old.pair }
         ensures swept { SweptBy self.old.pair.opened keep.now (marks_of self.old) (marks_of self.new) }
     {
@@ -274,6 +294,22 @@ impl<D: Disk> EntryCache<D> {
         ensures forgotten { OnErr result (IsOpenAt entry (held_disk self.old) → Forgets entry.number (marks_of self.old) (marks_of self.new)) }
         ensures not_open { IfErr result (λ refused. refused ≡ IsNotOpen → (IsOpenAt entry (held_disk self.old) → ⊥) × (self.new ≡ self.old)) }
         ensures open { (IsOpenAt entry (held_disk self.old) → ⊥) → result ≡ Err IsNotOpen }
+    {
+        self.bare_commit(entry, now)
+    }
+
+    /// The same, as the store tells it without its marks.
+    fn bare_commit(&mut self, entry: LruDiskCacheAddEntry, now: u64) -> Result<Written, EntryError>
+        ensures stays { Stays (bare_disk self.old) (bare_disk self.new) }
+        ensures closed { IsOpenAt entry (bare_disk self.old) → ClosesEntry entry.number (bare_disk self.old) (bare_disk self.new) }
+        ensures committed { IfOk result (λ how. IsOpenAt entry (bare_disk self.old) × CommitsEntry entry.number how (bare_disk self.old) (bare_disk self.new)) }
+        ensures cause { IfOk result (λ how. CommitCause entry.number how (bare_disk self.old) (bare_disk self.new)) }
+        ensures kept { OnErr result (CommitsNothing entry.number (bare_disk self.old) (bare_disk self.new)) }
+        ensures marks { IfOk result (λ how. MarksCommitted entry.number entry.key how (marks_of self.old) (marks_of self.new) (bare_disk self.new)) }
+        ensures forgotten { OnErr result (IsOpenAt entry (bare_disk self.old) → Forgets entry.number (marks_of self.old) (marks_of self.new)) }
+        ensures marks_stay { OnErr result (SameMarks (marks_of self.old) (marks_of self.new)) }
+        ensures not_open { IfErr result (λ refused. refused ≡ IsNotOpen → (IsOpenAt entry (bare_disk self.old) → ⊥) × (self.new ≡ self.old)) }
+        ensures open { (IsOpenAt entry (bare_disk self.old) → ⊥) → result ≡ Err IsNotOpen }
     {
         if !self.has_open(&entry) {
             return Err(EntryError::NotOpen);

@@ -2,7 +2,7 @@
 ghost use Rattle.std.specs.Prelude.{◌≡◌, ◌+◌, None, true, length, IfOk};
 ghost use Rattle.sc_disk.specs.Opening.{pairs_of};
 ghost use Rattle.sc_disk.specs.Store.{size_of};
-ghost use Rattle.sc_store_disk.specs.DiskStores.{count_of, held_disk};
+ghost use Rattle.sc_store_disk.specs.DiskStores.{bare_disk, count_of, held_disk};
 ghost use Rattle.sc_store_disk.specs.Reopened.{IsReopenedSize};
 ghost use Rattle.sc_lru.specs.LruCache.{suffix_within, total};
 ghost use Rattle.sc_model.specs.World.{part_size};
@@ -43,8 +43,8 @@ impl EntryCache<MemDisk> {
     // The size of a store that isn't opened.
     fn unopened_size(&self) -> Result<HeldSize, NoMemory>
         requires { self.now.pair.opened ≡ None }
-        ensures bytes { (held_disk self.now).told ≡ true → IfOk result (λ n. n.bytes ≡ part_size (held_disk self.now).level + (held_disk self.now).reserved) }
-        ensures files { (held_disk self.now).told ≡ true → IfOk result (λ n. n.files ≡ count_of (held_disk self.now).level.main + count_of (held_disk self.now).level.pre) }
+        ensures bytes { (bare_disk self.now).told ≡ true → IfOk result (λ n. n.bytes ≡ part_size (bare_disk self.now).level + (bare_disk self.now).reserved) }
+        ensures files { (bare_disk self.now).told ≡ true → IfOk result (λ n. n.files ≡ count_of (bare_disk self.now).level.main + count_of (bare_disk self.now).level.pre) }
     {
         let Some(disks) = self.pair.disks() else {
             unreachable!()

@@ -1,9 +1,9 @@
 //! Putting preprocessor entries in a disk store.
 ghost use Rattle.std.specs.Prelude.{◌≡◌, ℕ, length, true, is_some, Some, None, Ok, IfOk, OnErr};
-ghost use Rattle.sc_store_disk.specs.DiskStores.{held_disk, opened_store};
+ghost use Rattle.sc_store_disk.specs.DiskStores.{bare_disk, held_disk, opened_store};
 ghost use Rattle.sc_store_disk.specs.Marked.{marks_of};
-ghost use Rattle.sc_store_disk.specs.Moving.{EvictsFor, SameEntries, Stays};
-ghost use Rattle.sc_store_disk.specs.Preprocessor.{PreCause, PutsPre, StoresPre};
+ghost use Rattle.sc_store_disk.specs.Moving.{EvictsFiles, EvictsFor, SameEntries, Stays};
+ghost use Rattle.sc_store_disk.specs.Preprocessor.{PreCause, PutsPre, StoresKey, StoresPre};
 ghost use Rattle.sc_entry.specs.Keys.{is_file_key};
 ghost use Rattle.sc_entry.specs.declared.cache_mode.CacheMode.{CacheMode};
 ghost use Rattle.sc_model.specs.World.{early_cause as early};
@@ -31,7 +31,7 @@ fn store<D: Disk>(
     ensures capacity { cache.new.store.capacity ≡ cache.old.store.capacity }
     ensures entries { (mode : CacheMode) (capacity : ℕ) → SameEntries (opened_store mode capacity cache.old.store) (opened_store mode capacity cache.new.store) }
     ensures stored { IfOk result (λ how. (mode : CacheMode) → StoresPre path.now bytes.now how (opened_store mode cache.old.store.capacity cache.old.store) (opened_store mode cache.old.store.capacity cache.new.store)) }
-    ensures evicts { OnErr result ((mode : CacheMode) → EvictsFor (length bytes.now) (opened_store mode cache.old.store.capacity cache.old.store) (opened_store mode cache.old.store.capacity cache.new.store)) }
+    ensures evicts { OnErr result ((mode : CacheMode) → EvictsFiles (length bytes.now) (opened_store mode cache.old.store.capacity cache.old.store) (opened_store mode cache.old.store.capacity cache.new.store)) }
     ensures cause { IfOk result (λ how. (mode : CacheMode) → PreCause None bytes.now how (opened_store mode cache.old.store.capacity cache.old.store) (opened_store mode cache.old.store.capacity cache.new.store)) }
 {
     cache.keeps();
@@ -50,12 +50,12 @@ impl<D: Disk> EntryCache<D> {
     fn store_pre(&mut self, path: &FileKey, bytes: &[u8], now: u64) -> Result<Written, NoMemory>
         requires lent { is_some self.old.pair.opened ≡ true }
         requires key { is_file_key path.now ≡ true }
-        ensures stays { Stays (held_disk self.old) (held_disk self.new) }
+        ensures stays { Stays (bare_disk self.old) (bare_disk self.new) }
         ensures marks { marks_of self.new ≡ marks_of self.old }
-        ensures entries { SameEntries (held_disk self.old) (held_disk self.new) }
-        ensures stored { IfOk result (λ how. StoresPre path.now bytes.now how (held_disk self.old) (held_disk self.new)) }
-        ensures evicts { OnErr result (EvictsFor (length bytes.now) (held_disk self.old) (held_disk self.new)) }
-        ensures cause { IfOk result (λ how. PreCause None bytes.now how (held_disk self.old) (held_disk self.new)) }
+        ensures entries { SameEntries (bare_disk self.old) (bare_disk self.new) }
+        ensures stored { IfOk result (λ how. StoresPre path.now bytes.now how (bare_disk self.old) (bare_disk self.new)) }
+        ensures evicts { OnErr result (EvictsFiles (length bytes.now) (bare_disk self.old) (bare_disk self.new)) }
+        ensures cause { IfOk result (λ how. PreCause None bytes.now how (bare_disk self.old) (bare_disk self.new)) }
     {
         let Some(cache) = self.pair.get() else {
             unreachable!()
@@ -68,7 +68,6 @@ impl<D: Disk + Drop> EntryCache<D> {
     /// Puts a preprocessor entry under a key. The mode of a single store and then the key are looked at before the store is
     /// opened. The entry's size is not declared: it is measured once it was written, and files are evicted until it fits
     /// beside what open entries have declared.
-    #[tactic(auto, using(crate::proofs::KeyPaths::pre_key))]
     pub fn put_pre(
         &mut self,
         policy: &Policy,
@@ -83,6 +82,26 @@ impl<D: Disk + Drop> EntryCache<D> {
         ensures evicts { OnErr result (EvictsFor (length bytes.now) (held_disk self.old) (held_disk self.new)) }
         ensures cause { IfOk result (λ how. PreCause (early policy.now (held_disk self.old).facts key.now) bytes.now how (held_disk self.old) (held_disk self.new)) }
         ensures early { (c : CauseOf) → early policy.now (held_disk self.old).facts key.now ≡ Some c → (result ≡ Ok (IsNotWritten c)) × (self.new ≡ self.old) }
+    {
+        self.bare_put_pre(policy, key, bytes, now)
+    }
+
+    /// The same, as the store tells it without its marks.
+    #[tactic(auto, using(crate::proofs::KeyPaths::pre_key))]
+    fn bare_put_pre(
+        &mut self,
+        policy: &Policy,
+        key: &Text,
+        bytes: &[u8],
+        now: u64,
+    ) -> Result<Written, NoMemory>
+        ensures stays { Stays (bare_disk self.old) (bare_disk self.new) }
+        ensures marks { marks_of self.new ≡ marks_of self.old }
+        ensures entries { SameEntries (bare_disk self.old) (bare_disk self.new) }
+        ensures put { IfOk result (λ how. StoresKey policy.now key.now bytes.now how (bare_disk self.old) (bare_disk self.new)) }
+        ensures evicts { OnErr result (EvictsFiles (length bytes.now) (bare_disk self.old) (bare_disk self.new)) }
+        ensures cause { IfOk result (λ how. PreCause (early policy.now (bare_disk self.old).facts key.now) bytes.now how (bare_disk self.old) (bare_disk self.new)) }
+        ensures early { (c : CauseOf) → early policy.now (bare_disk self.old).facts key.now ≡ Some c → (result ≡ Ok (IsNotWritten c)) × (self.new ≡ self.old) }
     {
         if let Some(cause) = early_cause(policy, self.mode, key) {
             return Ok(Written::Refused(cause));

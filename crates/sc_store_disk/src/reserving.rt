@@ -1,8 +1,8 @@
 //! Opening entries in a disk store.
 ghost use Rattle.std.specs.Prelude.{◌≡◌, ℕ, [], true, is_some, Some, Ok, IfOk, OnErr};
-ghost use Rattle.sc_store_disk.specs.DiskStores.{disk_facts, entry_path, held_disk, level_of, opened_store};
+ghost use Rattle.sc_store_disk.specs.DiskStores.{bare_disk, disk_facts, entry_path, held_disk, level_of, opened_store};
 ghost use Rattle.sc_store_disk.specs.Marked.{MarksOpened, marks_of};
-ghost use Rattle.sc_store_disk.specs.Moving.{EvictsFor, HasOpened, OpensBy, ReserveCause, SameEntries, Stays, room_causes, written_of};
+ghost use Rattle.sc_store_disk.specs.Moving.{EvictsFiles, EvictsFor, HasOpened, OpensBy, ReserveCause, SameEntries, Stays, room_causes, written_of};
 ghost use Rattle.sc_store_disk.specs.declared.reserving.Reservation.TheVariants.{Refused as IsRefused};
 ghost use Rattle.sc_entry.specs.Keys.{is_file_key};
 ghost use Rattle.sc_entry.specs.declared.cache_mode.CacheMode.{CacheMode};
@@ -42,7 +42,7 @@ pub(crate) fn prepare<D: Disk>(
     ensures moved { IfOk result (λ how. is_some cache.old.store.disk.told ≡ true → Reserves cache.old.store.capacity (room_causes cache.old.store.capacity (reserved cache.old.store) size) (reserved cache.old.store) size (written_of how) (level_of true cache.old.store.index cache.old.store.disk) (level_of true cache.new.store.index cache.new.store.disk)) }
     ensures entry { IfOk result (λ how. (mode : CacheMode) (capacity : ℕ) → OpensBy (in_part part path.now) size how (opened_store mode capacity cache.old.store) (opened_store mode capacity cache.new.store)) }
     ensures kept { OnErr result ((mode : CacheMode) (capacity : ℕ) → SameEntries (opened_store mode capacity cache.old.store) (opened_store mode capacity cache.new.store)) }
-    ensures evicts { OnErr result ((mode : CacheMode) → EvictsFor size (opened_store mode cache.old.store.capacity cache.old.store) (opened_store mode cache.old.store.capacity cache.new.store)) }
+    ensures evicts { OnErr result ((mode : CacheMode) → EvictsFiles size (opened_store mode cache.old.store.capacity cache.old.store) (opened_store mode cache.old.store.capacity cache.new.store)) }
     ensures cause { IfOk result (λ how. ReserveCause (room_causes cache.old.store.capacity (reserved cache.old.store) size) how (level_of true cache.old.store.index cache.old.store.disk) (level_of true cache.new.store.index cache.new.store.disk)) }
     ensures open { IfOk result (λ how. HasOpened how cache.new.store) }
 {
@@ -97,14 +97,14 @@ impl<D: Disk> EntryCache<D> {
     fn prepare(&mut self, path: &FileKey, size: u64, now: u64) -> Result<Reservation, NoMemory>
         requires lent { is_some self.old.pair.opened ≡ true }
         requires key { is_file_key path.now ≡ true }
-        ensures stays { Stays (held_disk self.old) (held_disk self.new) }
+        ensures stays { Stays (bare_disk self.old) (bare_disk self.new) }
         ensures marks { marks_of self.new ≡ marks_of self.old }
-        ensures moved { IfOk result (λ how. (held_disk self.old).told ≡ true → Reserves (held_disk self.old).facts.capacity (room_causes (held_disk self.old).facts.capacity (held_disk self.old).reserved size) (held_disk self.old).reserved size (written_of how) (held_disk self.old).level (held_disk self.new).level) }
-        ensures entry { IfOk result (λ how. OpensBy (in_part Main path.now) size how (held_disk self.old) (held_disk self.new)) }
-        ensures kept { OnErr result (SameEntries (held_disk self.old) (held_disk self.new)) }
-        ensures evicts { OnErr result (EvictsFor size (held_disk self.old) (held_disk self.new)) }
-        ensures cause { IfOk result (λ how. ReserveCause (room_causes (held_disk self.old).facts.capacity (held_disk self.old).reserved size) how (held_disk self.old).level (held_disk self.new).level) }
-        ensures opened { (held_disk self.new).level.opened ≡ true }
+        ensures moved { IfOk result (λ how. (bare_disk self.old).told ≡ true → Reserves (bare_disk self.old).facts.capacity (room_causes (bare_disk self.old).facts.capacity (bare_disk self.old).reserved size) (bare_disk self.old).reserved size (written_of how) (bare_disk self.old).level (bare_disk self.new).level) }
+        ensures entry { IfOk result (λ how. OpensBy (in_part Main path.now) size how (bare_disk self.old) (bare_disk self.new)) }
+        ensures kept { OnErr result (SameEntries (bare_disk self.old) (bare_disk self.new)) }
+        ensures evicts { OnErr result (EvictsFiles size (bare_disk self.old) (bare_disk self.new)) }
+        ensures cause { IfOk result (λ how. ReserveCause (room_causes (bare_disk self.old).facts.capacity (bare_disk self.old).reserved size) how (bare_disk self.old).level (bare_disk self.new).level) }
+        ensures opened { (bare_disk self.new).level.opened ≡ true }
     {
         let Some(cache) = self.pair.get() else {
             unreachable!()
@@ -123,14 +123,14 @@ impl<D: Disk + Drop> EntryCache<D> {
         size: u64,
         now: u64,
     ) -> Result<Reservation, NoMemory>
-        ensures stays { Stays (held_disk self.old) (held_disk self.new) }
+        ensures stays { Stays (bare_disk self.old) (bare_disk self.new) }
         ensures marks { marks_of self.new ≡ marks_of self.old }
-        ensures moved { IfOk result (λ how. (held_disk self.old).told ≡ true → Reserves (held_disk self.old).facts.capacity (causes policy.now (held_disk self.old).facts (held_disk self.old).reserved key.now size) (held_disk self.old).reserved size (written_of how) (held_disk self.old).level (held_disk self.new).level) }
-        ensures entry { IfOk result (λ how. OpensBy (entry_path key.now) size how (held_disk self.old) (held_disk self.new)) }
-        ensures kept { OnErr result (SameEntries (held_disk self.old) (held_disk self.new)) }
-        ensures evicts { OnErr result (EvictsFor size (held_disk self.old) (held_disk self.new)) }
-        ensures cause { IfOk result (λ how. ReserveCause (causes policy.now (held_disk self.old).facts (held_disk self.old).reserved key.now size) how (held_disk self.old).level (held_disk self.new).level) }
-        ensures early { (c : CauseOf) → early policy.now (held_disk self.old).facts key.now ≡ Some c → (result ≡ Ok (IsRefused c)) × (self.new ≡ self.old) }
+        ensures moved { IfOk result (λ how. (bare_disk self.old).told ≡ true → Reserves (bare_disk self.old).facts.capacity (causes policy.now (bare_disk self.old).facts (bare_disk self.old).reserved key.now size) (bare_disk self.old).reserved size (written_of how) (bare_disk self.old).level (bare_disk self.new).level) }
+        ensures entry { IfOk result (λ how. OpensBy (entry_path key.now) size how (bare_disk self.old) (bare_disk self.new)) }
+        ensures kept { OnErr result (SameEntries (bare_disk self.old) (bare_disk self.new)) }
+        ensures evicts { OnErr result (EvictsFiles size (bare_disk self.old) (bare_disk self.new)) }
+        ensures cause { IfOk result (λ how. ReserveCause (causes policy.now (bare_disk self.old).facts (bare_disk self.old).reserved key.now size) how (bare_disk self.old).level (bare_disk self.new).level) }
+        ensures early { (c : CauseOf) → early policy.now (bare_disk self.old).facts key.now ≡ Some c → (result ≡ Ok (IsRefused c)) × (self.new ≡ self.old) }
     {
         if let Some(cause) = early_cause(policy, self.mode, key) {
             return Ok(Reservation::Refused(cause));
@@ -160,6 +160,27 @@ impl<D: Disk + Drop> EntryCache<D> {
         ensures evicts { OnErr result (EvictsFor size (held_disk self.old) (held_disk self.new)) }
         ensures cause { IfOk result (λ how. ReserveCause (causes policy.now (held_disk self.old).facts (held_disk self.old).reserved key.now size) how (held_disk self.old).level (held_disk self.new).level) }
         ensures early { (c : CauseOf) → early policy.now (held_disk self.old).facts key.now ≡ Some c → (result ≡ Ok (IsRefused c)) × (self.new ≡ self.old) }
+    {
+        self.bare_reserve(policy, key, size, now)
+    }
+
+    /// The same, as the store tells it without its marks.
+    fn bare_reserve(
+        &mut self,
+        policy: &Policy,
+        key: &Text,
+        size: u64,
+        now: u64,
+    ) -> Result<Reservation, NoMemory>
+        ensures stays { Stays (bare_disk self.old) (bare_disk self.new) }
+        ensures marks { IfOk result (λ how. MarksOpened how (marks_of self.old) (marks_of self.new)) }
+        ensures marks_stay { OnErr result (marks_of self.new ≡ marks_of self.old) }
+        ensures moved { IfOk result (λ how. (bare_disk self.old).told ≡ true → Reserves (bare_disk self.old).facts.capacity (causes policy.now (bare_disk self.old).facts (bare_disk self.old).reserved key.now size) (bare_disk self.old).reserved size (written_of how) (bare_disk self.old).level (bare_disk self.new).level) }
+        ensures entry { IfOk result (λ how. OpensBy (entry_path key.now) size how (bare_disk self.old) (bare_disk self.new)) }
+        ensures kept { OnErr result (SameEntries (bare_disk self.old) (bare_disk self.new)) }
+        ensures evicts { OnErr result (EvictsFiles size (bare_disk self.old) (bare_disk self.new)) }
+        ensures cause { IfOk result (λ how. ReserveCause (causes policy.now (bare_disk self.old).facts (bare_disk self.old).reserved key.now size) how (bare_disk self.old).level (bare_disk self.new).level) }
+        ensures early { (c : CauseOf) → early policy.now (bare_disk self.old).facts key.now ≡ Some c → (result ≡ Ok (IsRefused c)) × (self.new ≡ self.old) }
     {
         let how = self.reserve_entry(policy, key, size, now)?;
         if let Reservation::Open(entry) = &how {

@@ -70,7 +70,7 @@ pub evicted : (capacity wanted : ℕ) (ps : List (Bool × List ℕ)) (v w : Leve
 evicted capacity wanted [] v w Main p h = inl (ap (λ (m : Files). find_file m p) h.0)
 evicted capacity wanted [] v w Pre p h = inl (ap (λ (m : Files). find_file m p) h.1)
 evicted capacity wanted (q ∷ ps) v w part p h =
-    taken_first capacity wanted part p v (drop_part (q.0) (q.1) v) w h.0 (dropped_part (q.0) (q.1) v part p) (evicted capacity wanted ps (drop_part (q.0) (q.1) v) w part p h.1)
+    taken_first capacity wanted part p v (drop_part (q.0) (q.1) v) w h.0 (dropped_part (q.0) (q.1) v part p) (evicted capacity wanted ps (drop_part (q.0) (q.1) v) w part p h.2)
 
 -- ---- sizes
 
@@ -130,6 +130,6 @@ dropped_size false q v = let less : size_of (drop_file v.pre q) ≤ size_of v.pr
 pub evicted_size : (capacity wanted : ℕ) (ps : List (Bool × List ℕ)) (v w : Level) → Evicts capacity wanted ps v w → part_size w ≤ part_size v
 evicted_size capacity wanted [] v w h = subst (λ (n : ℕ). part_size w ≤ n + size_of v.pre) (ap size_of h.0) (subst (λ (n : ℕ). part_size w ≤ size_of w.main + n) (ap size_of h.1) (omega arith))
 evicted_size capacity wanted (q ∷ ps) v w h =
-    let rest : part_size w ≤ part_size (drop_part (q.0) (q.1) v) = evicted_size capacity wanted ps (drop_part (q.0) (q.1) v) w h.1 in
+    let rest : part_size w ≤ part_size (drop_part (q.0) (q.1) v) = evicted_size capacity wanted ps (drop_part (q.0) (q.1) v) w h.2 in
     let first : part_size (drop_part (q.0) (q.1) v) ≤ part_size v = dropped_size (q.0) (q.1) v in
     omega (arith, rest, first)

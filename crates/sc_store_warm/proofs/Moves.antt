@@ -8,7 +8,7 @@ use Rattle.sc_model.specs.World.{Causes, Evicts, Evicts_unless, Files, IsPart, L
 use Rattle.sc_model.specs.declared.event.Written.{Written}
 use Rattle.sc_model.specs.declared.event.Written.TheVariants.{Done, Refused}
 use Rattle.sc_model.specs.declared.level.Cause.{Cause}
-use Rattle.sc_model.specs.declared.level.Cause.TheVariants.{BadEntry, BadKey, FileTooLarge, Io, ReadOnly as ForReading, RemoteFault as RemoteRefused, Reserved as NoRoom}
+use Rattle.sc_model.specs.declared.level.Cause.TheVariants.{BadEntry, BadKey, FileTooLarge, Io, NotOpen, ReadOnly as ForReading, RemoteFault as RemoteRefused, Reserved as NoRoom}
 use Rattle.sc_model.specs.declared.level.LevelKind.{LevelKind}
 use Rattle.sc_model.specs.declared.level.LevelKind.TheVariants.{Disk, Remote}
 use Rattle.sc_store_alone.specs.Puts.{PutsEntry}
@@ -27,26 +27,27 @@ pub record DiskLeft (capacity wanted : ℕ) (path bytes : List ℕ) (how : Writt
   pub evicts : Evicts capacity wanted gone v mid
   pub leaves : LeavesAs how path bytes mid w
 
-unless : (x : Option Cause) (capacity wanted : ℕ) (v w : Level) → Evicts_unless x capacity wanted v w → (gone : List (Bool × List ℕ)) × Evicts capacity wanted gone v w
-unless None capacity wanted v w h = h
-unless (Some c) capacity wanted v w h = ([], h)
+unless : (x : Option Cause) (capacity wanted count : ℕ) (v w : Level) → Evicts_unless x capacity wanted count v w → (gone : List (Bool × List ℕ)) × Evicts capacity wanted gone v w
+unless None capacity wanted count v w h = (h.0, h.1)
+unless (Some c) capacity wanted count v w h = ([], h.0)
 
 nothing_left : (capacity wanted : ℕ) (path bytes : List ℕ) (c : Cause) (v w : Level) → (w.main ≡ v.main) × (w.pre ≡ v.pre) → DiskLeft capacity wanted path bytes (Refused c) v w
 nothing_left capacity wanted path bytes c v w h = record { mid = v; gone = []; evicts = (refl, refl); leaves = h }
 
-pub disk_left : (capacity : ℕ) (expected : Causes) (r : ℕ) (key bytes : List ℕ) (how : Written) (v w : Level) → PutsEntry capacity expected r key bytes how v w → DiskLeft capacity (r + length bytes) (make_key_path key) bytes how v w
-disk_left capacity expected r key bytes Done v w (none, (mid, evicts, main, pre), opened) =
-    let all : (gone : List (Bool × List ℕ)) × Evicts capacity (r + length bytes) gone v mid = unless expected.all capacity (r + length bytes) v mid evicts in
+pub disk_left : (capacity : ℕ) (expected : Causes) (r : ℕ) (key bytes : List ℕ) (mark : Bool) (how : Written) (v w : Level) → PutsEntry capacity expected r key bytes mark how v w → DiskLeft capacity (r + length bytes) (make_key_path key) bytes how v w
+disk_left capacity expected r key bytes mark Done v w ((none, (mid, (count, evicts), main, pre), opened, marks), written) =
+    let all : (gone : List (Bool × List ℕ)) × Evicts capacity (r + length bytes) gone v mid = unless expected.all capacity (r + length bytes) count v mid evicts in
     record { mid = mid; gone = all.0; evicts = all.1; leaves = (main, pre) }
-disk_left capacity expected r key bytes (Refused Io) v w (early, rose, evicts) =
-    let all : (gone : List (Bool × List ℕ)) × Evicts capacity (r + length bytes) gone v w = unless expected.all capacity (r + length bytes) v w evicts in
+disk_left capacity expected r key bytes mark (Refused Io) v w ((early, rose, (count, evicts), marks), written) =
+    let all : (gone : List (Bool × List ℕ)) × Evicts capacity (r + length bytes) gone v w = unless expected.all capacity (r + length bytes) count v w evicts in
     record { mid = w; gone = all.0; evicts = all.1; leaves = (refl, refl) }
-disk_left capacity expected r key bytes (Refused (RemoteRefused k)) v w h = absurd h.1
-disk_left capacity expected r key bytes (Refused FileTooLarge) v w h = nothing_left capacity (r + length bytes) (make_key_path key) bytes FileTooLarge v w h.1
-disk_left capacity expected r key bytes (Refused NoRoom) v w h = nothing_left capacity (r + length bytes) (make_key_path key) bytes NoRoom v w h.1
-disk_left capacity expected r key bytes (Refused BadKey) v w h = nothing_left capacity (r + length bytes) (make_key_path key) bytes BadKey v w h.1
-disk_left capacity expected r key bytes (Refused BadEntry) v w h = nothing_left capacity (r + length bytes) (make_key_path key) bytes BadEntry v w h.1
-disk_left capacity expected r key bytes (Refused (ForReading s)) v w h = nothing_left capacity (r + length bytes) (make_key_path key) bytes (ForReading s) v w h.1
+disk_left capacity expected r key bytes mark (Refused (RemoteRefused k)) v w h = absurd h.0.0.1
+disk_left capacity expected r key bytes mark (Refused FileTooLarge) v w h = nothing_left capacity (r + length bytes) (make_key_path key) bytes FileTooLarge v w h.0.0.1
+disk_left capacity expected r key bytes mark (Refused NoRoom) v w h = nothing_left capacity (r + length bytes) (make_key_path key) bytes NoRoom v w h.0.0.1
+disk_left capacity expected r key bytes mark (Refused BadKey) v w h = nothing_left capacity (r + length bytes) (make_key_path key) bytes BadKey v w h.0.0.1
+disk_left capacity expected r key bytes mark (Refused BadEntry) v w h = nothing_left capacity (r + length bytes) (make_key_path key) bytes BadEntry v w h.0.0.1
+disk_left capacity expected r key bytes mark (Refused (ForReading s)) v w h = nothing_left capacity (r + length bytes) (make_key_path key) bytes (ForReading s) v w h.0.0.1
+disk_left capacity expected r key bytes mark (Refused (NotOpen n)) v w h = nothing_left capacity (r + length bytes) (make_key_path key) bytes (NotOpen n) v w h.0.0.1
 
 -- a path that is none of a put's
 abbrev pub IsApart : Part → Written → List ℕ → List ℕ → Type 0
@@ -153,15 +154,15 @@ done_some : (path bytes : List ℕ) (v w : Level) → (w.main ≡ put_file v.mai
 done_some path bytes v w (inl same) = inl same
 done_some path bytes v w (inr (part, stands, rose)) = inr (part, rose)
 
-pub remote_left : (expected : Causes) (key bytes : List ℕ) (how : Written) (v w : Level) → Puts_remote Remote expected key bytes how v w → RemoteLeft (normalize_key key) bytes how v w
-remote_left expected key bytes Done v w (good, none, pre, opened, main) = record {
+pub remote_left : (expected : Causes) (key bytes : List ℕ) (mark : Bool) (how : Written) (v w : Level) → Puts_remote Remote expected key bytes mark how v w → RemoteLeft (normalize_key key) bytes how v w
+remote_left expected key bytes mark Done v w ((good, none, pre, main), calls, marks, reaches, opened, stale) = record {
   files = put_file v.main (normalize_key key) bytes;
   put = (refl, refl);
   some = done_some (normalize_key key) bytes v w main;
   stands = λ done. done_stands (normalize_key key) bytes v w main;
   pre = pre;
 }
-remote_left expected key bytes (Refused c) v w h = record { files = v.main; put = (refl, refl); some = h.1.0; stands = λ done. absurd (cc); pre = h.1.1 }
+remote_left expected key bytes mark (Refused c) v w h = record { files = v.main; put = (refl, refl); some = h.0.1.0; stands = λ done. absurd (cc); pre = h.0.1.1 }
 
 remote_others : (path bytes : List ℕ) (how : Written) (capacity wanted : ℕ) (v w : Level) (part : Part) (p : List ℕ) → RemoteLeft path bytes how v w → IsApart part how path p → StaysOrGoneBy Remote capacity wanted part p v w
 remote_others path bytes how capacity wanted v w Main p x apart = some_other x.files capacity wanted v w p x.some (leaves_other Main how path bytes v (record v { main = x.files }) p x.put apart)

@@ -2,6 +2,7 @@
 use Rattle.std.proofs.Common.{◌≡◌, ◌≢◌, ◌⊎◌, inl, inr, ℕ, ◌≤◌, IsTrue, true, List, [], ◌∷◌, Option, Some, None, refl, sym, ap, ◌∙◌, subst, arith}
 use Rattle.sc_entry.specs.Causes.{Rose}
 use Rattle.sc_model.proofs.Entries.{keeps_held}
+use Rattle.sc_model.specs.Devices.{Calls, Loses}
 use Rattle.sc_model.specs.World.{IsPart, Keeps_all, Level, find_file, held}
 use Rattle.sc_model.specs.declared.event.Answer.{Answer}
 use Rattle.sc_model.specs.declared.event.Answer.TheVariants.{Found, Hit, Miss, Refused as AnswersRefused, Size}
@@ -25,8 +26,13 @@ pub has_raw : (kind : LevelKind) → IsTrue (has_mode kind Raw)
 has_raw Disk = refl
 has_raw Remote = refl
 
+-- a count of losses never falls
+pub loses_later : (calls : Option Calls) (before now : ℕ) → Loses calls before now → before ≤ now
+loses_later None before now h = h
+loses_later (Some calls) before now h = omega (arith, h)
+
 looked : (key : List ℕ) (answer : Answer) (a b : HeldLevel) → KeepsAlone a b → LooksAlone key Raw answer a b → LooksOnly a b
-looked key answer a b k l = record { facts = k.facts; told = k.told; losses = l.later.losses; keeps = λ told. (l.asked told (has_raw a.facts.kind)).keeps }
+looked key answer a b k l = record { facts = k.facts; told = k.told; losses = loses_later a.level.calls a.level.losses b.level.losses l.later.losses; keeps = λ told. (l.asked told (has_raw a.facts.kind)).keeps }
 
 pub read_stays : (f g : State) (key : List ℕ) (found : Option (List ℕ)) → KeepsStore f g → GetsRaw f g key found → SourceStays f g
 read_stays f g key found k = by_kind (λ (x y : State). GetsRaw x y key found → SourceStays x y) (λ a b same r. looked key r.0 a b same r.1) (λ a b r. tt) (λ a b more. more) f g k

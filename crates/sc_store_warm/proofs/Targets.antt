@@ -9,7 +9,7 @@ use Rattle.sc_model.specs.World.{Puts_remote, causes, find_file, main_path, or_c
 use Rattle.sc_model.specs.declared.event.Written.{Written}
 use Rattle.sc_model.specs.declared.event.Written.TheVariants.{Done, Refused as WriteRefused}
 use Rattle.sc_model.specs.declared.level.Cause.{Cause}
-use Rattle.sc_model.specs.declared.level.Cause.TheVariants.{BadEntry, BadKey, FileTooLarge, Io, ReadOnly as ForReading, RemoteFault as RemoteRefused, Reserved as NoRoom}
+use Rattle.sc_model.specs.declared.level.Cause.TheVariants.{BadEntry, BadKey, FileTooLarge, Io, NotOpen, ReadOnly as ForReading, RemoteFault as RemoteRefused, Reserved as NoRoom}
 use Rattle.sc_model.specs.declared.level.LevelFacts.{LevelFacts}
 use Rattle.sc_model.specs.declared.level.LevelKind.{LevelKind}
 use Rattle.sc_model.specs.declared.level.LevelKind.TheVariants.{Disk, Remote}
@@ -25,7 +25,7 @@ use Rattle.sc_store_disk.specs.DiskStores.{entry_path}
 use Rattle.sc_store_disk.specs.Marks.{Marks, Sets, is_marked}
 use Rattle.sc_store_disk.specs.Moving.{part_files}
 use Rattle.sc_store_warm.proofs.Moves.{GoneBy, IsApart, Shifts, disk_left, disk_shifts, remote_left, remote_shifts}
-use Rattle.sc_store_warm.proofs.Sources.{read_holds, read_stays, was_held}
+use Rattle.sc_store_warm.proofs.Sources.{loses_later, read_holds, read_stays, was_held}
 use Rattle.sc_store_warm.specs.Causes.{IfTells, held_under}
 use Rattle.sc_store_warm.specs.Outcomes.{IsCopy, StaysOrGone, WhyGone}
 use Rattle.sc_store_warm.specs.Warming.{WarmsKey}
@@ -154,6 +154,7 @@ remote_fewer key q (WriteRefused BadKey) old new h e = ap (λ (m : Marks). is_ma
 remote_fewer key q (WriteRefused BadEntry) old new h e = ap (λ (m : Marks). is_marked m q) h ∙ e
 remote_fewer key q (WriteRefused Io) old new h e = ap (λ (m : Marks). is_marked m q) h ∙ e
 remote_fewer key q (WriteRefused (ForReading s)) old new h e = ap (λ (m : Marks). is_marked m q) h ∙ e
+remote_fewer key q (WriteRefused (NotOpen n)) old new h e = ap (λ (m : Marks). is_marked m q) h ∙ e
 
 disk_fewer : (key q : List ℕ) (how : Written) (t u : HeldLevel) → PutMarks (entry_path key) false how t.marks u.marks (disk_of u) → is_marked t.marks q ≡ false → is_marked u.marks q ≡ false
 disk_fewer key q Done t u h e =
@@ -174,17 +175,17 @@ put_unmarked kind key bytes (WriteRefused c) t u h done = absurd (cc)
 -- ---- what the target holds
 
 put_losses : (kind : LevelKind) (key bytes : List ℕ) (how : Written) (t u : HeldLevel) → PutsAlone kind key bytes how t u → t.level.losses ≤ u.level.losses
-put_losses Disk key bytes how t u h = h.0.later.losses
-put_losses Remote key bytes how t u h = h.later.losses
+put_losses Disk key bytes how t u h = loses_later t.level.calls t.level.losses u.level.losses h.0.later.losses
+put_losses Remote key bytes how t u h = loses_later t.level.calls t.level.losses u.level.losses h.later.losses
 
 put_shifts : (kind : LevelKind) (key bytes : List ℕ) (how : Written) (t u : HeldLevel) → kind ≡ t.facts.kind → PutsAlone kind key bytes how t u → t.told ≡ true
     → Shifts kind t.facts.capacity (t.room.reserved + length bytes) key bytes how t.level u.level
 put_shifts Disk key bytes how t u is h told =
     disk_shifts t.facts.capacity (t.room.reserved + length bytes) key bytes how t.level u.level
-    (disk_left t.facts.capacity (causes Single t.facts t.room.reserved key (length bytes)) t.room.reserved key bytes how t.level u.level (h.0.wrote told))
+    (disk_left t.facts.capacity (causes Single t.facts t.room.reserved key (length bytes)) t.room.reserved key bytes false how t.level u.level (h.0.wrote told))
 put_shifts Remote key bytes how t u is h told =
-    remote_shifts t.facts.capacity (t.room.reserved + length bytes) key bytes how t.level u.level (remote_left (causes Single t.facts 0 key (length bytes)) key bytes how t.level u.level
-    (subst (λ (k : LevelKind). Puts_remote k (causes Single t.facts 0 key (length bytes)) key bytes how t.level u.level) (sym is) (h.wrote told 0)))
+    remote_shifts t.facts.capacity (t.room.reserved + length bytes) key bytes how t.level u.level (remote_left (causes Single t.facts 0 key (length bytes)) key bytes false how t.level u.level
+    (subst (λ (k : LevelKind). Puts_remote k (causes Single t.facts 0 key (length bytes)) key bytes false how t.level u.level) (sym is) (h.wrote told 0)))
 
 -- an entry that was put stands under its key
 pub put_stands : (key bytes : List ℕ) (t u : HeldLevel) → KeepsAlone t u → PutsAlone t.facts.kind key bytes Done t u → u.told ≡ true → held_under u key ≡ Some bytes

@@ -14,6 +14,8 @@ returns g c =
           (idle_anew c.args.daemon.now c.requires.idle) refl c.in_ok-driver.ensures refl trace ends sent (if_left_of c.writes_left-background.result driven.background back c.writes_left-background.ensures ∙ left));
       reserved = if_four c.if_left.result c.if_left.ensures.trace c.if_left.ensures.ends c.if_left.ensures.sent c.if_left.ensures.background
           (λ driven trace ends sent back. reserved-told (anew c.args.daemon.now) c.all_steps.new.daemon c.args.inputs.now c.args.steps.now _ c.in_ok-driver.driver.events.items c.in_ok-driver.driver.conns.items driven c.in_ok-driver.ensures trace);
+      background = if_four c.if_left.result c.if_left.ensures.trace c.if_left.ensures.ends c.if_left.ensures.sent c.if_left.ensures.background
+          (λ driven trace ends sent back. if_left_of c.writes_left-background.result driven.background back c.writes_left-background.ensures ∙ left);
       told = if_any c.if_left.result c.in_ok-driver.ensures.told;
       config = if_any c.if_left.result c.in_ok-driver.ensures.config;
     }

@@ -13,6 +13,6 @@ returns-clause-store g c =
     let levels = c.in_ok-levels.levels.items in
     let policies = c.in_ok-policies.policies in
     let by : policies ≡ chain_policies config.level_policies config.write_error_policy (length config.chain) = c.in_ok-policies.ensures ∙ ap (λ n. chain_policies config.level_policies config.write_error_policy n) c.len.ensures in
-    let is : chain_levels (remote_as r.names r.held r.fault_count r.loss_count r.calls config.basedirs config.skip_cache_check) (disk_as g.D.Disk.state config.basedirs) config.chain config.disk config.remotes ≡ Ok (map held_level levels) = rw (← c.as_slice.ensures, ← c.as_slice-2.ensures, ← c.into_vec.ensures) c.in_ok-levels.ensures.levels in
+    let is : chain_levels (remote_as r.names r.held r.fault_count r.loss_count r.calls r.reached config.basedirs config.skip_cache_check) (disk_as g.D.Disk.state config.basedirs) config.chain config.disk config.remotes ≡ Ok (map held_level levels) = rw (← c.as_slice.ensures, ← c.as_slice-2.ensures, ← c.into_vec.ensures) c.in_ok-levels.ensures.levels in
     let kept : c.new.result ≡ held_levels levels (Levels policies) = search rules in
     chain_held policies _ _ levels c.new.result by is kept

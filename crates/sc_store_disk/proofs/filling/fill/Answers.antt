@@ -21,10 +21,10 @@ returns-in-Err-clause-filled g c =
     let mid = c.fill.new.self.store in
     let new = c.abandon-given_up.new.self.store in
     let gone = either-did c.abandon-given_up.result c.abandon-given_up.ensures.ok c.abandon-given_up.ensures.err in
-    if_ok c.refused_fill.result c.refused_fill.ensures (λ how h mode capacity. subst (λ (x : Filling). FillsBy c.args.entry c.args.bytes.now x (opened_store mode capacity old) (opened_store mode capacity new)) (sym h.0)
+    if_ok c.refused_fill.result c.refused_fill.ensures (λ how h mode capacity. subst (λ (x : Filling). FillsBy c.args.entry c.args.bytes.now (λ fills. fills) x (opened_store mode capacity old) (opened_store mode capacity new)) (sym h.0)
     (let given = gives-up mode capacity old mid new c.args.entry c.args.bytes.now c.requires c.keeps.ensures.sound c.keeps.ensures.distinct c.keeps.ensures.numbers c.in-Err.ensures.err c.fill.ensures.index c.fill.ensures.pending
     c.abandon-given_up.ensures.index c.abandon-given_up.ensures.closed gone in
-    (rose-since c.in-Err.refused _ _ old.disk mid.disk new.disk h.1 c.in-Err.ensures.cause gone, given.0.0, given.0.1)))
+    (((rose-since c.in-Err.refused _ _ old.disk mid.disk new.disk h.1 c.in-Err.ensures.cause gone, given.0.0), tt, (λ path. refl), (refl, refl, refl)), given.0.1)))
 
 pub returns-in-Err-clause-closed : goal.returns-in-Err-clause-closed
 returns-in-Err-clause-closed g c =

@@ -38,7 +38,7 @@ returns-in-Refused-2-clause-stays g c = λ mode capacity. stays-then (opened_sto
 pub returns-in-Refused-2-clause-entries : goal.returns-in-Refused-2-clause-entries
 returns-in-Refused-2-clause-entries g c = λ mode capacity.
     let f = is-refused c.in-Open.entry c.in-Refused-2.cause c.args.bytes.now c.in_ok-entry-2.field-0 (opened_store mode capacity c.prepare.new.cache.store) (opened_store mode capacity c.fill.new.cache.store) c.in-Refused-2.is (c.in_ok-entry-2.ensures.filled mode capacity) in
-    given-up (in_part Pre c.args.path.now) c.in_ok-entry.field-0 c.in-Open.entry (opened_store mode capacity c.args.cache.now.store) (opened_store mode capacity c.prepare.new.cache.store) (opened_store mode capacity c.fill.new.cache.store) c.in-Open.is (c.in_ok-entry.ensures.entry mode capacity) f.2
+    given-up (in_part Pre c.args.path.now) c.in_ok-entry.field-0 c.in-Open.entry (opened_store mode capacity c.args.cache.now.store) (opened_store mode capacity c.prepare.new.cache.store) (opened_store mode capacity c.fill.new.cache.store) c.in-Open.is (c.in_ok-entry.ensures.entry mode capacity) f.1
 
 pub returns-in-Refused-2-clause-stored : goal.returns-in-Refused-2-clause-stored
 returns-in-Refused-2-clause-stored g c = λ mode.

@@ -25,3 +25,9 @@ returns-clause-advances g c =
       advances = c.in_ok-what.ensures.advances;
       left = subst (λ (vs : List Write). c.settle.new.self ≡ with_write i (ends_write c.in_ok-what.what) then vs) c.self.view_is (went ws (set ws i then) c.settle.new.self i then c.is_end.result (ends_write c.in_ok-what.what) c.is_end.ensures refl c.settle.ensures.goes c.settle.ensures.stays);
     }
+
+pub returns-clause-moves : goal.returns-clause-moves
+returns-clause-moves g c n marks =
+    let i = c.args.place in
+    let w = c.in-Some.write.now in
+    c.in_ok-what.ensures.moves n (marks w (subst (λ (vs : List Write). write_at i vs ≡ Some w) c.self.view_is (at_slice c.self.inside.writes i w (sym c.get_mut.ensures.value ∙ ap (λ o. option_map (λ r. r.now) o) c.in-Some.is))))

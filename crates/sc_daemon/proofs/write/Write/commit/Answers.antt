@@ -1,5 +1,9 @@
-use Rattle.std.proofs.Common.{refl, sym, ◌∙◌}
+use Rattle.std.proofs.Common.{◌≡◌, ap, refl, sym, ◌∙◌}
 use Rattle.sc_daemon.proofs.Writes.{commits}
+use Rattle.sc_daemon.specs.Backlogs.{MarksAs, Write}
+use Rattle.sc_model.specs.Job.{mark_of}
+use Rattle.sc_model.specs.Machine.{stage_fills}
+use Rattle.sc_model.specs.World.{Need}
 use Rattle.sc_daemon.proofs.write.Write.commit.Goals as goal
 
 pub returns-clause-goes : goal.returns-clause-goes
@@ -7,3 +11,9 @@ returns-clause-goes g c =
     let e = c.in_ok-action.ensures in
     commits (g.H.Hold.config c.args.hold.now) (g.H.Hold.disk c.args.hold.now) (g.H.Hold.disk c.commit_entry.new.hold) _ c.args.self.now _ c.in_ok-action.action.what c.in-Some.held c.in_ok-action.action.written
     c.self.view_is c.requires.pending c.requires.filled (sym c.take.ensures.value ∙ c.in-Some.is) e.what e.hands e.others refl c.take.ensures.after
+
+pub returns-clause-moves : goal.returns-clause-moves
+returns-clause-moves g c n marks =
+    let w = c.args.self.now in
+    let filled : mark_of (stage_fills w.pending.stage w.pending.handed.marked) ≡ w.pending.handed.marked = ap (λ stage. mark_of (stage_fills stage w.pending.handed.marked)) c.requires.filled in
+    c.in_ok-action.ensures.moves n (marks ∙ filled ∙ ap (λ (v : Write). v.pending.handed.marked) (sym c.self.view_is))

@@ -5,7 +5,7 @@ use Rattle.sc_model.specs.Plan.{level_facts}
 use Rattle.sc_daemon_owned.proofs.Opened.{elsewhere, good_key, reserved}
 use Rattle.sc_daemon_owned.specs.State.{State, disk_at}
 use Rattle.sc_store.specs.Asking.{ReservesDisk}
-use Rattle.sc_store.specs.Held.{disk_in}
+use Rattle.sc_store.specs.Held.{disk_in, level_in}
 use Rattle.sc_daemon_owned.proofs.Staying.{config_stays, facts_stay}
 use Rattle.sc_daemon_owned.proofs.holding.OwnedHold.reserve.Goals as goal
 
@@ -31,7 +31,7 @@ returns-clause-opens g c =
     (subst (λ (size : ℕ). OpensBy (entry_path c.args.bytes.now.key) size c.in_ok-how.how (disk_in c.self.inside.levels l) (disk_in new l)) c.len-size.ensures c.in_ok-how.ensures.entry)
 
 pub returns-clause-good : goal.returns-clause-good
-returns-clause-good g c = good_key c.self.inside.levels.policy (level_facts c.self.inside.levels.facts c.args.level) _ c.args.bytes.now.key _ c.in_ok-how.how _ _ c.in_ok-how.ensures.cause
+returns-clause-good g c = good_key c.self.inside.levels.policy (level_facts c.self.inside.levels.facts c.args.level) _ c.args.bytes.now.key _ c.in_ok-how.how (level_in c.self.inside.levels.levels c.args.level) (level_in c.reserve.new.self.levels c.args.level) c.in_ok-how.ensures.cause
 
 pub returns-clause-elsewhere : goal.returns-clause-elsewhere
 returns-clause-elsewhere g c m apart =

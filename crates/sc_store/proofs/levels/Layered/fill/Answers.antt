@@ -2,10 +2,10 @@ use Rattle.std.proofs.Common.{rules, length, ◌<◌, ◌≡◌, map, slice_inde
 use Rattle.sc_store_disk.specs.DiskStores.{entry_at}
 use Rattle.sc_store_disk.specs.Entries.{ClosesEntry, FillsBy, IsOpenAt}
 use Rattle.sc_store_disk.specs.Marked.{MarksFilled}
-use Rattle.sc_store_disk.specs.Marks.{Forgets}
+use Rattle.sc_store_disk.specs.Marks.{Forgets, filled_by}
 use Rattle.sc_store.specs.Held.{AreWithin, disk_in, disk_of, held_of}
 use Rattle.sc_store.specs.Levels.{held_level}
-use Rattle.sc_store.proofs.Alone.{Alone, facts_at, within_stores, stays_within, alone_moved, disk_at, if_ok, later_at, maps_at, marks_at, moved, unmoved}
+use Rattle.sc_store.proofs.Alone.{Alone, facts_at, within_stores, stays_within, alone_moved, disk_at, if_ok, files_at, later_at, marks_at, moved, unmoved}
 use Rattle.sc_store.proofs.Disks.{closes_telling, fills_telling, if_err, on_err}
 use Rattle.sc_store.proofs.levels.Layered.fill.Goals as goal
 
@@ -31,9 +31,9 @@ returns g c =
       forgotten = on_err c.fill.result (λ h o. marks_at (λ a b. Forgets entry.number a b) old new l before after m (h (open_before o))) e.forgotten;
       alone = alone_moved old new l before after m;
       later = later_at old new l before after m e.later;
-      filled = if_ok c.fill.result (λ how h. (open_in h.0, disk_at (FillsBy entry c.args.bytes.now how) old new l before after m e.facts (fills_telling old.told new.told (disk_of before) (disk_of after) m.tells entry c.args.bytes.now how h.1))) e.filled;
+      filled = if_ok c.fill.result (λ how h. (open_in h.0, disk_at (FillsBy entry c.args.bytes.now (filled_by c.args.from_run) how) old new l before after m e.facts (fills_telling old.told new.told (disk_of before) (disk_of after) m.tells entry c.args.bytes.now (filled_by c.args.from_run) how h.1))) e.filled;
       closed = on_err c.fill.result (λ h o. disk_at (ClosesEntry entry.number) old new l before after m e.facts (closes_telling old.told new.told (disk_of before) (disk_of after) m.tells entry.number (h (open_before o)))) e.closed;
-      kept = on_err c.fill.result (maps_at old new l before after m) e.kept;
+      kept = on_err c.fill.result (files_at old new l before after m) e.kept;
       not_open = if_err c.fill.result (λ refused h is. (λ o. (h is).0 (open_before o), unmoved held_level old policy stores l store later c.self.view_is c.requires.level here (h is).1)) e.not_open;
       shut = λ o. e.shut (λ x. o (open_in x));
     }

@@ -1,54 +1,40 @@
-use Rattle.std.proofs.Common.{ℕ, List, sym, subst}
-use Rattle.sc_model.specs.declared.event.Written.{Written}
-use Rattle.sc_model.specs.declared.event.Written.TheVariants.{Done, Refused}
-use Rattle.sc_store_disk.specs.DiskStores.{DiskStore, held_disk}
-use Rattle.sc_store_disk.specs.Entries.{ClosesEntry, CommitsEntry, IsOpenAt}
-use Rattle.sc_store_disk.specs.Marked.{MarksDone, SweptBy, marks_of}
-use Rattle.sc_store_disk.specs.Marks.{Marks, Settles}
-use Rattle.sc_store_disk.proofs.Marking.{marks-done}
-use Rattle.sc_store_disk.proofs.Steadying.{stays-self}
+use Rattle.sc_store_disk.specs.DiskStores.{bare_disk}
+use Rattle.sc_store_disk.proofs.Lending.{if_errs, if_oks, on_err, on_errs}
+use Rattle.sc_store_disk.proofs.Askings.{if_ok}
+use Rattle.sc_store_disk.proofs.StoreMarks.{cause-marked, commits-marked, committed-closes, committed-told, is-open-alone, is-open-marked, nothing-marked, open-path, stays-marked}
 use Rattle.sc_store_disk.proofs.entry_cache.EntryCache.commit.Goals as goal
 
-pub returns-in-Ok-Done-clause-committed : goal.returns-in-Ok-Done-clause-committed
-returns-in-Ok-Done-clause-committed g c =
-    let h = c.in-Ok-Done.ensures.committed in
-    subst (λ (s : DiskStore). IsOpenAt c.args.entry s × CommitsEntry c.args.entry.number Done s (held_disk c.sweep.new.self)) c.begin_mark.ensures.held (
-      h.0,
-      subst (λ (s : DiskStore). CommitsEntry c.args.entry.number Done (held_disk c.begin_mark.new.self) s) (sym c.sweep.ensures.held)
-          (subst (λ (w : Written). CommitsEntry c.args.entry.number w (held_disk c.begin_mark.new.self) (held_disk c.commit_entry.new.self)) c.in-Ok-Done.field-0-is h.1),
-    )
-
-pub returns-in-Ok-Done-clause-marks : goal.returns-in-Ok-Done-clause-marks
-returns-in-Ok-Done-clause-marks g c =
-    let path = c.in-Ok.ensures.began.0 in
-    let settled : Settles c.args.entry.key c.args.entry.number (marks_of c.begin_mark.new.self) c.settle.new.self = subst (λ (p : List ℕ). Settles p c.args.entry.number (marks_of c.begin_mark.new.self) c.settle.new.self) path
-    (subst (λ (n : ℕ). Settles c.in-Ok.path n (marks_of c.begin_mark.new.self) c.settle.new.self) c.number-number.ensures
-    (subst (λ (m : Marks). Settles c.in-Ok.path c.number-number.result m c.settle.new.self) c.commit_entry.ensures.marks c.settle.ensures)) in
-    let swept : SweptBy c.commit_entry.new.self.pair.opened c.args.entry.key c.settle.new.self (marks_of c.sweep.new.self) = subst (λ (p : List ℕ). SweptBy c.commit_entry.new.self.pair.opened p c.settle.new.self (marks_of c.sweep.new.self)) path c.sweep.ensures.swept in
-    subst (λ (s : DiskStore). MarksDone c.args.entry.number c.args.entry.key (marks_of c.args.self.now) (marks_of c.sweep.new.self) s) (sym c.sweep.ensures.held)
-    (marks-done c.args.entry.key c.args.entry.number c.in-Ok.added (marks_of c.args.self.now) (marks_of c.begin_mark.new.self) c.settle.new.self (marks_of c.sweep.new.self) c.in-Ok.ensures.began.1 settled
-    c.commit_entry.new.self.mode c.commit_entry.new.self.pair.max_size c.commit_entry.new.self.pair.opened c.commit_entry.new.self.pair.disks swept)
-
-pub returns-in-Ok-Refused-clause-committed : goal.returns-in-Ok-Refused-clause-committed
-returns-in-Ok-Refused-clause-committed g c =
-    let h = c.in-Ok-Refused.ensures.committed in
-    subst (λ (s : DiskStore). IsOpenAt c.args.entry s × CommitsEntry c.args.entry.number (Refused c.in-Ok-Refused.cause) s (held_disk c.commit_entry.new.self)) c.begin_mark.ensures.held (
-      h.0,
-      subst (λ (w : Written). CommitsEntry c.args.entry.number w (held_disk c.begin_mark.new.self) (held_disk c.commit_entry.new.self)) c.in-Ok-Refused.field-0-is h.1,
-    )
-
-pub returns-then-not-has_open-clause-stays : goal.returns-then-not-has_open-clause-stays
-returns-then-not-has_open-clause-stays g c = stays-self (held_disk c.args.self.now)
-
-pub returns-in-Ok-Done-clause-closed : goal.returns-in-Ok-Done-clause-closed
-returns-in-Ok-Done-clause-closed g c is =
-    subst (λ (s : DiskStore). ClosesEntry c.args.entry.number s (held_disk c.sweep.new.self)) c.begin_mark.ensures.held
-    (subst (λ (s : DiskStore). ClosesEntry c.args.entry.number (held_disk c.begin_mark.new.self) s) (sym c.sweep.ensures.held) (c.commit_entry.ensures.closed (subst (IsOpenAt c.args.entry) (sym c.begin_mark.ensures.held) is)))
-
-pub returns-in-Ok-Refused-clause-closed : goal.returns-in-Ok-Refused-clause-closed
-returns-in-Ok-Refused-clause-closed g c is =
-    subst (λ (s : DiskStore). ClosesEntry c.args.entry.number s (held_disk c.commit_entry.new.self)) c.begin_mark.ensures.held (c.commit_entry.ensures.closed (subst (IsOpenAt c.args.entry) (sym c.begin_mark.ensures.held) is))
+pub returns-clause-stays : goal.returns-clause-stays
+returns-clause-stays g c = stays-marked c.args.self.now.marks c.bare_commit.new.self.marks (bare_disk c.args.self.now) (bare_disk c.bare_commit.new.self) c.bare_commit.ensures.stays
 
 pub returns-clause-closed : goal.returns-clause-closed
 returns-clause-closed g c is =
-    subst (λ (s : DiskStore). ClosesEntry c.args.entry.number s (held_disk c.commit_entry.new.self)) c.begin_mark.ensures.held (c.commit_entry.ensures.closed (subst (IsOpenAt c.args.entry) (sym c.begin_mark.ensures.held) is))
+    let m = c.args.self.now.marks in let n = c.bare_commit.new.self.marks in let s = bare_disk c.args.self.now in let t = bare_disk c.bare_commit.new.self in
+    let o = is-open-alone m s c.args.entry is in
+    committed-closes m n s t c.args.entry.number c.args.entry.key c.bare_commit.result c.bare_commit.ensures.marks (on_err c.bare_commit.result c.bare_commit.ensures.forgotten (λ k. k o)) (c.bare_commit.ensures.closed o)
+
+pub returns-clause-committed : goal.returns-clause-committed
+returns-clause-committed g c =
+    let m = c.args.self.now.marks in let n = c.bare_commit.new.self.marks in let s = bare_disk c.args.self.now in let t = bare_disk c.bare_commit.new.self in
+    if_oks c.bare_commit.result c.bare_commit.ensures.committed c.bare_commit.ensures.marks (λ how h k. (
+      is-open-marked m s c.args.entry h.0,
+      commits-marked m n s t c.args.entry.number c.args.entry.key how (open-path s c.args.entry h.0) c.bare_commit.ensures.stays.told k h.1,
+    ))
+
+pub returns-clause-cause : goal.returns-clause-cause
+returns-clause-cause g c = if_ok c.bare_commit.result c.bare_commit.ensures.cause (λ how h. cause-marked c.args.self.now.marks c.bare_commit.new.self.marks (bare_disk c.args.self.now) (bare_disk c.bare_commit.new.self) c.args.entry.number how h)
+
+pub returns-clause-kept : goal.returns-clause-kept
+returns-clause-kept g c = on_errs c.bare_commit.result c.bare_commit.ensures.kept c.bare_commit.ensures.marks_stay (λ h k. nothing-marked c.args.self.now.marks c.bare_commit.new.self.marks (bare_disk c.args.self.now) (bare_disk c.bare_commit.new.self) c.args.entry.number k h)
+
+pub returns-clause-marks : goal.returns-clause-marks
+returns-clause-marks g c = if_ok c.bare_commit.result c.bare_commit.ensures.marks (λ how k. committed-told c.args.self.now.marks c.bare_commit.new.self.marks c.bare_commit.new.self.marks (bare_disk c.bare_commit.new.self) c.args.entry.number c.args.entry.key how k)
+
+pub returns-clause-forgotten : goal.returns-clause-forgotten
+returns-clause-forgotten g c = on_err c.bare_commit.result c.bare_commit.ensures.forgotten (λ k is. k (is-open-alone c.args.self.now.marks (bare_disk c.args.self.now) c.args.entry is))
+
+pub returns-clause-not_open : goal.returns-clause-not_open
+returns-clause-not_open g c = if_errs c.bare_commit.result c.bare_commit.ensures.not_open (λ refused h e. let x = h e in ((λ is. x.0 (is-open-alone c.args.self.now.marks (bare_disk c.args.self.now) c.args.entry is)), x.1))
+
+pub returns-clause-open : goal.returns-clause-open
+returns-clause-open g c never = c.bare_commit.ensures.open (λ is. never (is-open-marked c.args.self.now.marks (bare_disk c.args.self.now) c.args.entry is))

@@ -3,7 +3,7 @@ use Rattle.sc_store_disk.specs.DiskStores.{opened_store}
 use Rattle.sc_store_disk.specs.Entries.{ClosesEntry, CommitCause, CommitsEntry, CommitsNothing}
 use Rattle.sc_store_disk.specs.Moving.{Stays}
 use Rattle.sc_store_disk.proofs.Lending.{lent, lent-limit, limit-of, of_some}
-use Rattle.sc_store_disk.specs.DiskStores.{held_disk}
+use Rattle.sc_store_disk.specs.DiskStores.{bare_disk}
 use Rattle.sc_store_disk.proofs.Steadying.{stays-self}
 use Rattle.sc_store_disk.proofs.entry_cache.EntryCache.commit_entry.Goals as goal
 
@@ -57,4 +57,4 @@ returns-in-Err-clause-kept g c = let h = of_some c.get.result _ c.in-Some.is (c.
     (c.get.follows.lender c.commit.new.cache).disks c.in-Some.cache.now c.commit.new.cache (sym c.in-Some.ensures.value) h.0 h.1 (CommitsNothing c.args.entry.number) (c.in-Err.ensures.kept c.args.self.now.mode c.args.self.now.pair.max_size)
 
 pub returns-then-not-has_open-clause-stays : goal.returns-then-not-has_open-clause-stays
-returns-then-not-has_open-clause-stays g c = stays-self (held_disk c.args.self.now)
+returns-then-not-has_open-clause-stays g c = stays-self (bare_disk c.args.self.now)

@@ -3,7 +3,7 @@ use Rattle.sc_model.specs.World.{same_maps}
 use Rattle.sc_store_disk.specs.Entries.{ClosesEntry, FillsBy}
 use Rattle.sc_store_disk.specs.Moving.{Stays}
 use Rattle.sc_store_disk.proofs.Lending.{lent, lent-limit, of_some}
-use Rattle.sc_store_disk.specs.DiskStores.{held_disk}
+use Rattle.sc_store_disk.specs.DiskStores.{bare_disk}
 use Rattle.sc_store_disk.proofs.Steadying.{stays-self}
 use Rattle.sc_store_disk.proofs.entry_cache.EntryCache.fill_entry.Goals as goal
 
@@ -30,7 +30,7 @@ pub returns-in-Ok-clause-filled : goal.returns-in-Ok-clause-filled
 returns-in-Ok-clause-filled g c = let h = of_some c.get.result _ c.in-Some.is (c.get.follows.holds c.fill.new.cache) in (
   c.if-not-has_open.ensures.opened refl,
   lent c.args.self.now.mode c.args.self.now.pair.max_size (c.get.follows.lender c.fill.new.cache).max_size c.args.self.now.pair.opened (c.get.follows.lender c.fill.new.cache).opened c.args.self.now.pair.disks
-      (c.get.follows.lender c.fill.new.cache).disks c.in-Some.cache.now c.fill.new.cache (sym c.in-Some.ensures.value) h.0 h.1 (FillsBy c.args.entry c.args.bytes.now c.in-Ok.how) (c.in-Ok.ensures.filled c.args.self.now.mode c.args.self.now.pair.max_size),
+      (c.get.follows.lender c.fill.new.cache).disks c.in-Some.cache.now c.fill.new.cache (sym c.in-Some.ensures.value) h.0 h.1 (FillsBy c.args.entry c.args.bytes.now (λ fills. fills) c.in-Ok.how) (c.in-Ok.ensures.filled c.args.self.now.mode c.args.self.now.pair.max_size),
 )
 
 pub returns-in-Err-clause-closed : goal.returns-in-Err-clause-closed
@@ -44,4 +44,4 @@ returns-in-Err-clause-kept g c = let h = of_some c.get.result _ c.in-Some.is (c.
     (c.get.follows.lender c.fill.new.cache).disks c.in-Some.cache.now c.fill.new.cache (sym c.in-Some.ensures.value) h.0 h.1 (λ a b. same_maps a.level b.level) (c.in-Err.ensures.kept c.args.self.now.mode c.args.self.now.pair.max_size)
 
 pub returns-then-not-has_open-clause-stays : goal.returns-then-not-has_open-clause-stays
-returns-then-not-has_open-clause-stays g c = stays-self (held_disk c.args.self.now)
+returns-then-not-has_open-clause-stays g c = stays-self (bare_disk c.args.self.now)

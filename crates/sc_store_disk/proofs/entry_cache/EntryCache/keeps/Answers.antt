@@ -1,6 +1,7 @@
 use Rattle.std.proofs.Common.{ℕ, ◌+◌, ◌≤◌, sym, subst}
 use Rattle.sc_model.specs.World.{part_size}
-use Rattle.sc_store_disk.specs.DiskStores.{held_disk, indexed_bytes}
+use Rattle.sc_store_disk.specs.DiskStores.{bare_disk, held_disk, indexed_bytes}
+use Rattle.sc_store_disk.proofs.LevelMarks.{marks-there}
 use Rattle.sc_store_disk.proofs.Within.{bound-opened, bound-unopened, capacity-is, within-opened, within-unopened}
 use Rattle.sc_store_disk.proofs.entry_cache.EntryCache.keeps.Goals as goal
 
@@ -23,3 +24,9 @@ pub returns-in_default-clause-bound : goal.returns-in_default-clause-bound
 returns-in_default-clause-bound g c = let s = c.args.self.now in
     subst (λ (n : ℕ). indexed_bytes s + (held_disk s).reserved ≤ n) (sym (capacity-is s.mode s.pair.max_size s.pair.opened s.pair.disks))
     (bound-unopened s.mode s.pair.max_size s.pair.opened s.pair.disks (sym c.in_default.ensures))
+
+pub returns-in-Some-clause-marks : goal.returns-in-Some-clause-marks
+returns-in-Some-clause-marks g c = marks-there c.args.self.now.marks (bare_disk c.args.self.now).level
+
+pub returns-in_default-clause-marks : goal.returns-in_default-clause-marks
+returns-in_default-clause-marks g c = marks-there c.args.self.now.marks (bare_disk c.args.self.now).level

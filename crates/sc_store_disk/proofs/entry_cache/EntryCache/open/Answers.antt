@@ -1,5 +1,5 @@
 use Rattle.std.proofs.Common.{refl, sym}
-use Rattle.sc_store_disk.specs.DiskStores.{held_disk}
+use Rattle.sc_store_disk.specs.DiskStores.{bare_disk}
 use Rattle.sc_store_disk.proofs.Askings.{steady-self}
 use Rattle.sc_store_disk.proofs.Lending.{open-limit}
 use Rattle.sc_store_disk.proofs.Steadying.{opens-steady, refuses-steady}
@@ -31,4 +31,4 @@ invariant_of-self g c = record {
 }
 
 pub returns-then-is_opened-clause-steady : goal.returns-then-is_opened-clause-steady
-returns-then-is_opened-clause-steady g c = steady-self (held_disk c.args.self.now)
+returns-then-is_opened-clause-steady g c = steady-self (bare_disk c.args.self.now)

@@ -4,7 +4,7 @@ use Rattle.sc_model.specs.World.{Reserves}
 use Rattle.sc_disk_pair.specs.Parts.{in_part}
 use Rattle.sc_disk_pair.specs.declared.part.Part.TheVariants.{Main}
 use Rattle.sc_store_disk.specs.DiskStores.{level_of, opened_store}
-use Rattle.sc_store_disk.specs.Moving.{EvictsFor, OpensBy, ReserveCause, SameEntries, Stays, room_causes, written_of}
+use Rattle.sc_store_disk.specs.Moving.{EvictsFiles, OpensBy, ReserveCause, SameEntries, Stays, room_causes, written_of}
 use Rattle.sc_store_disk.proofs.Askings.{if_ok}
 use Rattle.sc_store_disk.proofs.Lending.{lent, lent-limit, lent-opened, limit-of, of_some, on_err}
 use Rattle.sc_store_disk.proofs.entry_cache.EntryCache.prepare.Goals as goal
@@ -59,7 +59,7 @@ pub returns-clause-evicts : goal.returns-clause-evicts
 returns-clause-evicts g c = let h = of_some c.get.result _ c.in-Some.is (c.get.follows.holds c.prepare.new.cache) in let was = c.in-Some.cache.now in let w = c.prepare.new.cache in
     lent c.args.self.now.mode c.args.self.now.pair.max_size (c.get.follows.lender c.prepare.new.cache).max_size c.args.self.now.pair.opened (c.get.follows.lender c.prepare.new.cache).opened c.args.self.now.pair.disks
     (c.get.follows.lender c.prepare.new.cache).disks was w (sym c.in-Some.ensures.value) h.0 h.1
-    (λ a b. OnErr c.prepare.result (EvictsFor c.args.size a b)) (on_err c.prepare.result c.prepare.ensures.evicts (λ k.
-    subst (λ (n : ℕ). EvictsFor c.args.size (opened_store c.args.self.now.mode n was.store) (opened_store c.args.self.now.mode n w.store))
+    (λ a b. OnErr c.prepare.result (EvictsFiles c.args.size a b)) (on_err c.prepare.result c.prepare.ensures.evicts (λ k.
+    subst (λ (n : ℕ). EvictsFiles c.args.size (opened_store c.args.self.now.mode n was.store) (opened_store c.args.self.now.mode n w.store))
     (limit-of c.args.self.now.mode c.args.self.now.pair.max_size (c.get.follows.lender c.prepare.new.cache).max_size c.args.self.now.pair.opened (c.get.follows.lender c.prepare.new.cache).opened c.args.self.now.pair.disks
     (c.get.follows.lender c.prepare.new.cache).disks was w (sym c.in-Some.ensures.value) h.0 h.1 c.args.self.now.limit) (k c.args.self.now.mode)))

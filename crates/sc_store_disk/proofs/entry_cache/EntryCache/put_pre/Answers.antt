@@ -1,41 +1,20 @@
-use Rattle.std.proofs.Common.{sym, ◌∙◌}
-use Rattle.sc_model.specs.declared.event.Written.TheVariants.{Refused as NotWritten}
-use Rattle.sc_store_disk.specs.DiskStores.{held_disk}
-use Rattle.sc_store_disk.proofs.Askings.{disk-kind}
-use Rattle.sc_store_disk.proofs.Preprocessing.{put-cause, put-evicts, put-opened, unopened-put}
-use Rattle.sc_store_disk.proofs.Reservings.{early-held, same-refusal}
-use Rattle.sc_store_disk.proofs.Steadying.{stays-after, stays-self}
+use Rattle.std.proofs.Common.{length}
+use Rattle.sc_store_disk.specs.DiskStores.{bare_disk}
+use Rattle.sc_store_disk.proofs.Askings.{if_ok}
+use Rattle.sc_store_disk.proofs.Lending.{on_err, written-none}
+use Rattle.sc_store_disk.proofs.StoreMarks.{evicts-marked, puts-marked, same-entries, stays-marked}
 use Rattle.sc_store_disk.proofs.entry_cache.EntryCache.put_pre.Goals as goal
 
-pub returns-in-Some-clause-early : goal.returns-in-Some-clause-early
-returns-in-Some-clause-early g c cause is = let s = c.args.self.now in
-    same-refusal NotWritten s c.in-Some.cause cause (sym c.in-Some.is ∙ c.early_cause.ensures ∙ sym (early-held s.mode s.pair.max_size s.pair.opened s.pair.disks c.args.policy.now c.args.key.now) ∙ is)
+pub returns-clause-stays : goal.returns-clause-stays
+returns-clause-stays g c = stays-marked c.args.self.now.marks c.bare_put_pre.new.self.marks (bare_disk c.args.self.now) (bare_disk c.bare_put_pre.new.self) c.bare_put_pre.ensures.stays
 
-pub returns-then-not-branch-clause-put : goal.returns-then-not-branch-clause-put
-returns-then-not-branch-clause-put g c told = let s = c.args.self.now in
-    unopened-put (held_disk s) (held_disk c.open.new.self) c.args.policy.now c.args.key.now c.args.bytes.now
-    (early-held s.mode s.pair.max_size s.pair.opened s.pair.disks c.args.policy.now c.args.key.now ∙ sym c.early_cause.ensures ∙ c.in_default.is) ((c.in_ok-open.ensures.fault c.if-not-branch.true).0) c.in_ok-open.ensures.steady
+pub returns-clause-entries : goal.returns-clause-entries
+returns-clause-entries g c = same-entries c.args.self.now.marks c.bare_put_pre.new.self.marks (bare_disk c.args.self.now) (bare_disk c.bare_put_pre.new.self) c.bare_put_pre.ensures.marks c.bare_put_pre.ensures.entries
 
 pub returns-clause-put : goal.returns-clause-put
-returns-clause-put g c = let s = c.args.self.now in
-    put-opened (held_disk s) (held_disk c.open.new.self) (held_disk c.store_pre.new.self) c.open.ensures.steady (disk-kind s.mode s.pair.max_size s.pair.opened s.pair.disks) c.args.policy.now c.args.key.now c.args.bytes.now
-    (early-held s.mode s.pair.max_size s.pair.opened s.pair.disks c.args.policy.now c.args.key.now ∙ sym c.early_cause.ensures ∙ c.in_default.is) c.store_pre.result _ (c.new-path.ensures ∙ c.in_ok-normalize_key.ensures) c.store_pre.ensures.stored
-
-pub returns-clause-cause : goal.returns-clause-cause
-returns-clause-cause g c = let s = c.args.self.now in
-    put-cause (held_disk s) (held_disk c.open.new.self) (held_disk c.store_pre.new.self) c.open.ensures.steady (disk-kind s.mode s.pair.max_size s.pair.opened s.pair.disks) c.args.policy.now c.args.key.now c.args.bytes.now
-    (early-held s.mode s.pair.max_size s.pair.opened s.pair.disks c.args.policy.now c.args.key.now ∙ sym c.early_cause.ensures ∙ c.in_default.is) c.store_pre.result c.store_pre.ensures.cause
+returns-clause-put g c = let s = c.args.self.now in let t = c.bare_put_pre.new.self in
+    if_ok c.bare_put_pre.result c.bare_put_pre.ensures.put (λ how h. puts-marked s.marks t.marks (bare_disk s) (bare_disk t) c.bare_put_pre.ensures.marks
+    (written-none s.mode t.mode s.pair.max_size t.pair.max_size s.pair.opened t.pair.opened s.pair.disks t.pair.disks) c.args.policy.now c.args.key.now c.args.bytes.now how h)
 
 pub returns-clause-evicts : goal.returns-clause-evicts
-returns-clause-evicts g c = let s = c.args.self.now in
-    put-evicts (held_disk s) (held_disk c.open.new.self) (held_disk c.store_pre.new.self) c.open.ensures.steady (disk-kind s.mode s.pair.max_size s.pair.opened s.pair.disks) c.args.policy.now c.args.key.now c.args.bytes.now
-    (early-held s.mode s.pair.max_size s.pair.opened s.pair.disks c.args.policy.now c.args.key.now ∙ sym c.early_cause.ensures ∙ c.in_default.is) c.store_pre.result c.store_pre.ensures.evicts
-
-pub returns-in-Some-clause-stays : goal.returns-in-Some-clause-stays
-returns-in-Some-clause-stays g c = stays-self (held_disk c.args.self.now)
-
-pub returns-in_err-normalize_key-clause-stays : goal.returns-in_err-normalize_key-clause-stays
-returns-in_err-normalize_key-clause-stays g c = stays-self (held_disk c.args.self.now)
-
-pub returns-clause-stays : goal.returns-clause-stays
-returns-clause-stays g c = stays-after (held_disk c.args.self.now) (held_disk c.open.new.self) (held_disk c.store_pre.new.self) c.open.ensures.steady c.store_pre.ensures.stays
+returns-clause-evicts g c = on_err c.bare_put_pre.result c.bare_put_pre.ensures.evicts (λ h. evicts-marked c.args.self.now.marks c.bare_put_pre.new.self.marks (bare_disk c.args.self.now) (bare_disk c.bare_put_pre.new.self) c.bare_put_pre.ensures.marks (length c.args.bytes.now) h)
