@@ -1,5 +1,4 @@
 ghost use Rattle.std.specs.Prelude.{◌≡◌};
-ghost use Rattle.sc_stats_ledgers.specs.Numbers.{capped};
 ghost use Rattle.sc_stats_ledgers.specs.Stakes.{all_parts};
 
 use crate::counter::Counter;

@@ -1,6 +1,5 @@
-ghost use Rattle.std.specs.Prelude.{◌≡◌, ℕ, ◌+◌, ◌<◌};
+ghost use Rattle.std.specs.Prelude.{◌≡◌, ◌+◌, ◌<◌};
 ghost use Rattle.sc_stats.specs.Sums.{sat};
-ghost use Rattle.sc_stats_ledgers.specs.Stakes.{all_parts};
 
 use std::sync::ledger::{Blank, Book, Ledger, Share};
 

@@ -10,6 +10,8 @@ mod ledgers;
 mod numbers;
 mod shares;
 mod tallies;
+#[cfg(test)]
+mod tests;
 
 pub use blanks::Blanks;
 pub use ledgers::{Ledgers, Nth};
