@@ -1,7 +1,8 @@
 -- What placing answers.
 use Rattle.std.specs.Prelude.{◌≡◌, ℕ, List, [], Option, Some, None, option_map}
 use Rattle.sc_entry.specs.Causes.{Rose}
-use Rattle.sc_model.specs.World.{Place, and_one}
+use Rattle.sc_model.specs.Levels.{and_one}
+use Rattle.sc_model.specs.World.{Place}
 use Rattle.sc_compile_table.specs.Tables.{first_of}
 use Rattle.sc_compile.specs.declared.place_line.PlaceLine.{PlaceLine}
 

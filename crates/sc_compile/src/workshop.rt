@@ -2,7 +2,8 @@
 
 ghost use Rattle.std.specs.Prelude.{◌≡◌, ◌≤◌, IfOk, OnOk, List, ℕ, Option, true};
 ghost use Rattle.sc_entry.specs.Causes.{IfTold};
-ghost use Rattle.sc_model.specs.World.{Place, RunCause, and_one};
+ghost use Rattle.sc_model.specs.Levels.{and_one};
+ghost use Rattle.sc_model.specs.World.{Place, RunCause};
 ghost use Rattle.sc_model.specs.declared.event.RunAnswer.{RunAnswer};
 ghost use Rattle.sc_compile.specs.Answers.{told_answer};
 ghost use Rattle.sc_model.specs.GoodNames.{is_good_answer};

@@ -1,9 +1,12 @@
 -- A job goes on, and comes to its end.
 use Rattle.std.proofs.Common.{◌≡◌, ℕ, zero, suc, ◌+◌, ◌-◌, ◌*◌, ◌<◌, ◌≤◌, Bool, true, false, cond, not, ◌&&◌, nat_lt, List, [], ◌∷◌, length, Some, None, refl, arith}
 use Rattle.std.proofs.lemmas.Bool.{ltb-true}
-use Rattle.sc_model.specs.Follows.{Fits, kind_at, start_write}
-use Rattle.sc_model.specs.Job.{IsBroken, IsFailed, IsNotCacheable, IsNotCached, IsStored, Judged, forced, is_late, judge}
-use Rattle.sc_model.specs.Machine.{after, asked_miss, control_phase, dist_phase, due_at, judged_phase, key_phase, missed_phase, next_writes, noted, placed_phase, ran_phase, reserved_phase, filled_phase, whole_phase, work_of, work_phase}
+use Rattle.sc_model.specs.Dues.{kind_at, start_write}
+use Rattle.sc_model.specs.Follows.{Fits}
+use Rattle.sc_model.specs.Job.{forced, is_late}
+use Rattle.sc_model.specs.Judging.{IsBroken, IsFailed, IsNotCacheable, IsNotCached, IsStored, Judged, judge}
+use Rattle.sc_model.specs.DueAt.{due_at}
+use Rattle.sc_model.specs.Phases.{after, asked_miss, control_phase, dist_phase, judged_phase, key_phase, missed_phase, next_writes, noted, placed_phase, ran_phase, reserved_phase, filled_phase, whole_phase, work_of, work_phase}
 use Rattle.sc_model.specs.Plan.{goes_on, note, plan}
 use Rattle.sc_model.specs.Script.{Control, Default, ForceNoCache, ForceRecache, Setup, control}
 use Rattle.sc_model.specs.declared.event.Answer.{Answer}

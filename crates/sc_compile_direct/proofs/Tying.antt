@@ -5,22 +5,28 @@ use Rattle.sc_daemon_action.specs.Hands.{ActsWith, ServesWith, StandsWith}
 use Rattle.sc_daemon_action.specs.declared.acted.Action.{Action}
 use Rattle.sc_disk.specs.Store.{AddEntry}
 use Rattle.sc_store_disk.specs.DiskStores.{DiskStore}
+use Rattle.sc_daemon_job.specs.Askers.{Asker}
 use Rattle.sc_daemon_job.specs.Setups.{Config, setup}
 use Rattle.sc_model.proofs.Keeping.{keeps_step}
 use Rattle.sc_model.proofs.Requests.{Keeps}
 use Rattle.sc_model.proofs.Steps.{due_step}
-use Rattle.sc_model.specs.Follows.{Fits, due, kind_at}
+use Rattle.sc_model.specs.Dues.{kind_at}
+use Rattle.sc_model.specs.Follows.{Fits, due}
 use Rattle.sc_model.specs.Job.{At, Own}
-use Rattle.sc_model.specs.Machine.{after, due_at, need_at}
+use Rattle.sc_model.specs.Conns.{need_at, outcome_after, reserved_after}
+use Rattle.sc_model.specs.DueAt.{due_at}
+use Rattle.sc_model.specs.Phases.{after}
+use Rattle.sc_model.specs.Rows.{Direct, last_at, outcome_at, reserved_since}
 use Rattle.sc_model.specs.Script.{Setup}
-use Rattle.sc_model.specs.World.{Need, keys_of, placed_of}
+use Rattle.sc_model.specs.World.{keys_of, placed_of}
 use Rattle.sc_model.specs.declared.event.DistAnswer.{DistAnswer}
 use Rattle.sc_model.specs.declared.event.Placing.{Placing}
 use Rattle.sc_model.specs.declared.event.RunAnswer.{RunAnswer}
 use Rattle.sc_model.specs.declared.event.Task.{Task}
 use Rattle.sc_model.specs.declared.event.What.{What}
-use Rattle.sc_model.specs.declared.event.What.TheVariants.{Committed, Dist, Keyed, Placed, Ran}
+use Rattle.sc_model.specs.declared.event.What.TheVariants.{Committed, Dist, Keyed, Outcome, Placed, Ran, Reserved}
 use Rattle.sc_model.specs.declared.event.Written.{Written}
+use Rattle.sc_model.specs.declared.event.Written.TheVariants.{Done as WriteDone, Refused as WriteRefused}
 use Rattle.sc_model.specs.declared.message.Compile.{Compile as CompileRequest}
 use Rattle.sc_model.specs.declared.message.Request.{Request}
 use Rattle.sc_model.specs.declared.message.Request.TheVariants.{Compile}
@@ -29,7 +35,7 @@ use Rattle.sc_model.specs.declared.phase.Job.{Job}
 use Rattle.sc_model.specs.declared.phase.Phase.{Phase}
 use Rattle.sc_model.specs.declared.phase.Phase.TheVariants.{AtCommit, AtDist, AtEnded, AtFinish, AtKey, AtOver, AtPlace, AtRun, AtWrite, PrePut}
 use Rattle.sc_compile_direct.specs.Following.{Compiles, FollowOn, MovedBy, NeedsBy, begun, newest_first, own_of}
-use Rattle.sc_compile_direct.specs.Running.{Steps, StepsBy, ending_of, is_over}
+use Rattle.sc_compile_direct.specs.Running.{Steps, StepsBy, asker_at, ending_of, is_over}
 use Rattle.sc_compile_direct.specs.Answers.{answer_in}
 use Rattle.sc_compile_direct.specs.declared.answer.CompileAnswer.{CompileAnswer}
 use Rattle.sc_compile_direct.specs.declared.job_event.JobEvent.{JobEvent}
@@ -113,36 +119,64 @@ serves_of k d _ entry r j h = h
 
 -- ---- one action, and what is kept of it
 
-pub steps_by : {H : Type 0} (config : H → Config) (disk : H → ℕ → DiskStore) (moment : H → ℕ) (moves : H → Need → What → H → Type 0) (r : Request) (a b : H) (old new : Running) (action : Action) (m : ℕ) (p : Phase) → p ≡ old.phase → m ≡ moment a
-    → ActsWith (config a) (disk b) r p (moment a) action → moves a (need_at (setup (config a)) r p) action.what b → config b ≡ config a → new.phase ≡ action.phase → new.entry ≡ action.entry
-    → new.events ≡ old.events ++ record { moment = m; what = action.what } ∷ [] → StepsBy config disk moment moves r a b old new
-steps_by config disk moment moves r a b old new action m p at now acts mv same phase entry events =
+pub steps_by : {H : Type 0} (config : H → Config) (disk : H → ℕ → DiskStore) (moment : H → ℕ) (moves : H → Asker → What → H → Type 0) (r : Request) (a b : H) (old new : Running) (action : Action) (m : ℕ) (p : Phase) → p ≡ old.phase → m ≡ moment b
+    → ActsWith (config a) (disk b) r p (moment b) action → moves a (record { need = need_at (setup (config a)) r p; request = r; origin = Direct; last = old.last; outcome = old.outcome; reserved = old.reserved }) action.what b → config b ≡ config a → new.phase ≡ action.phase → new.entry ≡ action.entry
+    → new.events ≡ old.events ++ record { moment = m; what = action.what } ∷ [] → new.last ≡ m → new.outcome ≡ outcome_after old.outcome m action.what → new.reserved ≡ reserved_after old.reserved m action.what → StepsBy config disk moment moves r a b old new
+steps_by config disk moment moves r a b old new action m p at now acts mv same phase entry events last outcome reserved =
     let s = setup (config a) in (
       action.what,
       record {
         events = events ∙ ap (λ (t : ℕ). old.events ++ record { moment = t; what = action.what } ∷ []) now;
         fits = subst (λ (q : Phase). Fits s r (due_at s r q) action.what) at acts.fits;
-        then = phase ∙ acts.then ∙ ap (λ (q : Phase). after s r q (moment a) action.what) at;
+        then = phase ∙ acts.then ∙ ap (λ (q : Phase). after s r q (moment b) action.what) at;
         stands = subst (λ (q : Phase). StandsWith (config a) (disk b) q new.entry r) (sym phase) (subst (λ (e : Option AddEntry). StandsWith (config a) (disk b) action.phase e r) (sym entry) acts.stands);
+        last = last ∙ now;
+        outcome = outcome ∙ ap (λ (t : ℕ). outcome_after old.outcome t action.what) now;
+        reserved = reserved ∙ ap (λ (t : ℕ). reserved_after old.reserved t action.what) now;
       },
-      subst (λ (q : Phase). moves a (need_at s r q) action.what b) at mv,
+      subst (λ (q : Phase). moves a (record { need = need_at s r q; request = r; origin = Direct; last = old.last; outcome = old.outcome; reserved = old.reserved }) action.what b) at mv,
       same,
     )
 
+-- ---- what is kept of its moments
+
+pub record AreKept (own : List Own) (running : Running) : Type 0 where
+  pub last : running.last ≡ last_at own
+  pub outcome : running.outcome ≡ outcome_at own
+  pub reserved : running.reserved ≡ reserved_since own
+
+outcome_goes : (own : List Own) (n m : ℕ) (x : What) → n ≡ outcome_at own → outcome_after n m x ≡ outcome_at (At m x ∷ own)
+outcome_goes own n m (Outcome v task) same = refl
+outcome_goes own n m _ same = same
+
+reserved_goes : (own : List Own) (n m : ℕ) (x : What) → n ≡ reserved_since own → reserved_after n m x ≡ reserved_since (At m x ∷ own)
+reserved_goes own n m (Reserved l k size WriteDone) same = refl
+reserved_goes own n m (Reserved l k size (WriteRefused chain)) same = same
+reserved_goes own n m _ same = same
+
+kept_on : (k : Config) (d : ℕ → DiskStore) (r : Request) (own : List Own) (m : ℕ) (old new : Running) (x : What) → AreKept own old → Steps k d r m old new x → AreKept (At m x ∷ own) new
+kept_on k d r own m old new x kept st = record {
+  last = st.last;
+  outcome = st.outcome ∙ outcome_goes own old.outcome m x kept.outcome;
+  reserved = st.reserved ∙ reserved_goes own old.reserved m x kept.reserved;
+}
+
 -- ---- a job that is under way on a hold
 
-module _ {H : Type 0} (config : H → Config) (disk : H → ℕ → DiskStore) (moment : H → ℕ) (moves : H → Need → What → H → Type 0) where
+module _ {H : Type 0} (config : H → Config) (disk : H → ℕ → DiskStore) (moment : H → ℕ) (moves : H → Asker → What → H → Type 0) where
   pub record UnderWay (c : CompileRequest) (task : Task) (a b : H) (running : Running) : Type 0 where
     pub same : config b ≡ config a
     pub stands : StandsWith (config a) (disk b) running.phase running.entry (Compile c)
     pub tied : Tied (setup (config a)) c task (newest_first running.events) running.phase
+    pub kept : AreKept (newest_first running.events ++ begun (Compile c) task) running
     pub moved : MovedBy moment moves (setup (config a)) (Compile c) (begun (Compile c) task) a (newest_first running.events) b
 
-  pub begins : (c : CompileRequest) (task : Task) (a : H) (running : Running) → running.phase ≡ AtKey task true → running.entry ≡ None → running.events ≡ [] → UnderWay c task a a running
-  begins c task a running phase entry events = record {
+  pub begins : (c : CompileRequest) (task : Task) (a : H) (running : Running) → running.phase ≡ AtKey task true → running.entry ≡ None → running.events ≡ [] → running.last ≡ 0 → running.outcome ≡ 0 → running.reserved ≡ 0 → UnderWay c task a a running
+  begins c task a running phase entry events last outcome reserved = record {
     same = refl;
     stands = subst (λ (p : Phase). StandsWith (config a) (disk a) p running.entry (Compile c)) (sym phase) (tt, entry);
     tied = subst (λ (p : Phase). Tied (setup (config a)) c task (newest_first running.events) p) (sym phase) (subst (λ (es : List JobEvent). Tied (setup (config a)) c task (newest_first es) (AtKey task true)) (sym events) (tied_new (setup (config a)) c task));
+    kept = subst (λ (es : List JobEvent). AreKept (newest_first es ++ begun (Compile c) task) running) (sym events) (record { last = last; outcome = outcome; reserved = reserved });
     moved = subst (λ (es : List JobEvent). MovedBy moment moves (setup (config a)) (Compile c) (begun (Compile c) task) a (newest_first es) a) (sym events) refl;
   }
 
@@ -154,32 +188,33 @@ module _ {H : Type 0} (config : H → Config) (disk : H → ℕ → DiskStore) (
   grown : (old new : Running) (m : ℕ) (x : What) → new.events ≡ old.events ++ record { moment = m; what = x } ∷ [] → newest_first new.events ≡ At m x ∷ newest_first old.events
   grown old new m x is = ap newest_first is ∙ ap (λ (own : List Own). reverse own) (map_one old.events (record { moment = m; what = x })) ∙ reverse-append (map own_of old.events) (At m x ∷ [])
 
-  goes_on : (c : CompileRequest) (task : Task) (a b b2 : H) (old new : Running) (x : What) → UnderWay c task a b old → is_over old.phase ≡ false → Steps (config a) (disk b2) (Compile c) (moment b) old new x
-      → moves b (need_at (setup (config a)) (Compile c) old.phase) x b2 → config b2 ≡ config a → UnderWay c task a b2 new
+  goes_on : (c : CompileRequest) (task : Task) (a b b2 : H) (old new : Running) (x : What) → UnderWay c task a b old → is_over old.phase ≡ false → Steps (config a) (disk b2) (Compile c) (moment b2) old new x
+      → moves b (asker_at (config a) (Compile c) old) x b2 → config b2 ≡ config a → UnderWay c task a b2 new
   goes_on c task a b b2 old new x u o st mv same =
       let s = setup (config a) in
       let r = Compile c in
-      let more = grown old new (moment b) x st.events in
-      let tied = tied_step s c task (newest_first old.events) old.phase (moment b) x u.tied o st.fits in
+      let more = grown old new (moment b2) x st.events in
+      let tied = tied_step s c task (newest_first old.events) old.phase (moment b2) x u.tied o st.fits in
       record {
         same = same;
         stands = st.stands;
-        tied = subst (λ (own : List Own). Tied s c task own new.phase) (sym more) (subst (λ (p : Phase). Tied s c task (At (moment b) x ∷ newest_first old.events) p) (sym st.then) tied);
+        tied = subst (λ (own : List Own). Tied s c task own new.phase) (sym more) (subst (λ (p : Phase). Tied s c task (At (moment b2) x ∷ newest_first old.events) p) (sym st.then) tied);
+        kept = subst (λ (own : List Own). AreKept (own ++ begun r task) new) (sym more) (kept_on (config a) (disk b2) r (newest_first old.events ++ begun r task) (moment b2) old new x u.kept st);
         moved = subst (λ (own : List Own). MovedBy moment moves s r (begun r task) a own b2) (sym more)
-            (b, need_at s r old.phase, u.moved, refl, needs_at s r (newest_first old.events ++ begun r task) old.phase x u.tied.keeps st.fits, mv);
+            (b, asker_at (config a) r old, u.moved, refl, (needs_at s r (newest_first old.events ++ begun r task) old.phase x u.tied.keeps st.fits, refl, refl, u.kept.last, u.kept.outcome, u.kept.reserved), mv);
       }
 
   pub steps_on : (c : CompileRequest) (task : Task) (a b b2 : H) (old new : Running) → UnderWay c task a b old → is_over old.phase ≡ false → StepsBy config disk moment moves (Compile c) b b2 old new → UnderWay c task a b2 new
   steps_on c task a b b2 old new u o st =
-      goes_on c task a b b2 old new st.0 u o (subst (λ (k : Config). Steps k (disk b2) (Compile c) (moment b) old new st.0) u.same st.1)
-      (subst (λ (k : Config). moves b (need_at (setup k) (Compile c) old.phase) st.0 b2) u.same st.2) (st.3 ∙ u.same)
+      goes_on c task a b b2 old new st.0 u o (subst (λ (k : Config). Steps k (disk b2) (Compile c) (moment b2) old new st.0) u.same st.1)
+      (subst (λ (k : Config). moves b (asker_at k (Compile c) old) st.0 b2) u.same st.2) (st.3 ∙ u.same)
 
-  less : (c : CompileRequest) (task : Task) (a b b2 : H) (old new : Running) (x : What) → UnderWay c task a b old → is_over old.phase ≡ false → Steps (config a) (disk b2) (Compile c) (moment b) old new x → left_at (setup (config a)) new.phase < left_at (setup (config a)) old.phase
+  less : (c : CompileRequest) (task : Task) (a b b2 : H) (old new : Running) (x : What) → UnderWay c task a b old → is_over old.phase ≡ false → Steps (config a) (disk b2) (Compile c) (moment b2) old new x → left_at (setup (config a)) new.phase < left_at (setup (config a)) old.phase
   less c task a b b2 old new x u o st =
-      subst (λ (p : Phase). left_at (setup (config a)) p < left_at (setup (config a)) old.phase) (sym st.then) (job_goes (setup (config a)) c old.phase (moment b) x u.tied.job o st.fits).1
+      subst (λ (p : Phase). left_at (setup (config a)) p < left_at (setup (config a)) old.phase) (sym st.then) (job_goes (setup (config a)) c old.phase (moment b2) x u.tied.job o st.fits).1
 
   pub steps_less : (c : CompileRequest) (task : Task) (a b b2 : H) (old new : Running) → UnderWay c task a b old → is_over old.phase ≡ false → StepsBy config disk moment moves (Compile c) b b2 old new → left_at (setup (config a)) new.phase < left_at (setup (config a)) old.phase
-  steps_less c task a b b2 old new u o st = less c task a b b2 old new st.0 u o (subst (λ (k : Config). Steps k (disk b2) (Compile c) (moment b) old new st.0) u.same st.1)
+  steps_less c task a b b2 old new u o st = less c task a b b2 old new st.0 u o (subst (λ (k : Config). Steps k (disk b2) (Compile c) (moment b2) old new st.0) u.same st.1)
 
 -- ---- a job that is over
 

@@ -1,7 +1,8 @@
 -- What a compile answers, by its events, the newest first.
 use Rattle.std.specs.Prelude.{ℕ, List, [], ◌∷◌, Option, Some, None, codes}
 use Rattle.sc_entry.specs.Entries.{objects}
-use Rattle.sc_model.specs.Job.{At, Own, hit_of, stored_bytes}
+use Rattle.sc_model.specs.Finishing.{stored_bytes}
+use Rattle.sc_model.specs.Job.{At, Own, hit_of}
 use Rattle.sc_model.specs.declared.event.DistAnswer.{DistAnswer}
 use Rattle.sc_model.specs.declared.event.DistAnswer.TheVariants.{Done as DistDone, Http as DistHttp, TooLarge as DistTooLarge}
 use Rattle.sc_model.specs.declared.event.KeyStep.{KeyStep}

@@ -1,8 +1,12 @@
 -- What a compile does that is done at once.
 use Rattle.std.specs.Prelude.{◌≡◌, ℕ, List, [], ◌∷◌, ◌++◌, map, reverse}
-use Rattle.sc_model.specs.Follows.{Fits, ToFinish, due, what_of}
+use Rattle.sc_model.specs.Dues.{ToFinish}
+use Rattle.sc_model.specs.Follows.{Fits, due, what_of}
 use Rattle.sc_model.specs.Headline.{Carries, Stores}
-use Rattle.sc_model.specs.Job.{At, Own, entry_mark, finish, hit_of, job_of}
+use Rattle.sc_model.specs.Finishing.{finish}
+use Rattle.sc_model.specs.Job.{At, Own, entry_mark, hit_of, job_of}
+use Rattle.sc_daemon_job.specs.Askers.{Asker}
+use Rattle.sc_model.specs.Rows.{Direct, last_at, outcome_at, reserved_since}
 use Rattle.sc_model.specs.Script.{Setup}
 use Rattle.sc_model.specs.World.{Need, keys_of, placed_of}
 use Rattle.sc_model.specs.declared.event.Parsed.TheVariants.{Started}
@@ -42,14 +46,18 @@ NeedsBy s r own (Dist d) n = (n.key ≡ (job_of own).found.key) × (n.wanted ≡
 NeedsBy s r own (Committed l k b how) n = n.mark ≡ entry_mark own
 NeedsBy s r own _ n = Unit {0}
 
--- the hold moved by each of them in turn, from one to another; an event's moment is what it then told
-abbrev pub MovedBy : {H : Type 0} → (H → ℕ) → (H → Need → What → H → Type 0) → Setup → Request → List Own → H → List Own → H → Type 0
+-- what an event takes from its job: what it needs of the parts, and what it is counted by
+abbrev pub AsksBy : Setup → Request → List Own → What → Asker → Type 0
+AsksBy s r own x n = NeedsBy s r own x n.need × (n.request ≡ r) × (n.origin ≡ Direct) × (n.last ≡ last_at own) × (n.outcome ≡ outcome_at own) × (n.reserved ≡ reserved_since own)
+
+-- the hold moved by each of them in turn, from one to another; an event's moment is what it told as the event ended
+abbrev pub MovedBy : {H : Type 0} → (H → ℕ) → (H → Asker → What → H → Type 0) → Setup → Request → List Own → H → List Own → H → Type 0
 MovedBy {H = H} moment moves s r before a [] b = b ≡ a
 MovedBy {H = H} moment moves s r before a (At m x ∷ own) b =
-    (h : H) × (n : Need) × MovedBy moment moves s r before a own h × (m ≡ moment h) × NeedsBy s r (own ++ before) x n × moves h n x b
+    (h : H) × (n : Asker) × MovedBy moment moves s r before a own h × (m ≡ moment b) × AsksBy s r (own ++ before) x n × moves h n x b
 
 -- a compile's events move the hold; the first one stands first
-abbrev pub DoneBy : {H : Type 0} → (H → ℕ) → (H → Need → What → H → Type 0) → Setup → Request → Task → H → List JobEvent → H → Type 0
+abbrev pub DoneBy : {H : Type 0} → (H → ℕ) → (H → Asker → What → H → Type 0) → Setup → Request → Task → H → List JobEvent → H → Type 0
 DoneBy moment moves s r task a events b = MovedBy moment moves s r (begun r task) a (newest_first events) b
 
 -- what came of it: its events follow one another, and it is over; how it finished, and what it answers, is what they say

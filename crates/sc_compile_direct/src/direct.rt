@@ -10,7 +10,6 @@ use crate::running::Running;
 use sc_daemon_hold::Hold;
 use sc_entry::{Items, NoMemory};
 use sc_model::{Compile, Ending, Phase, Request, Task};
-use sc_stats::ServerStats;
 use std::alloc::Global;
 
 /// What a compile came to.
@@ -23,13 +22,12 @@ pub struct Compiled {
     pub ending: Ending,
 }
 
-/// The same with what no action of a job looks at: counters, and where replies would go.
+/// The same with what no action of a job looks at: where replies would go.
 fn compile_beside<H: Hold>(
     alloc: Global,
     hold: &mut H,
     compile: Compile,
     task: Task,
-    stats: &ServerStats,
     out: &mut Vec<u8>,
 ) -> Result<Compiled, NoMemory>
     ensures compiles { IfOk result (λ compiled. Compiles (setup (H.config hold.old)) (CompileOf compile) task compiled) }
@@ -40,10 +38,13 @@ fn compile_beside<H: Hold>(
     let mut running = Running {
         phase: Phase::AtKey(task, true),
         entry: None,
+        last: 0,
+        outcome: 0,
+        reserved: 0,
         events: Items::new(alloc),
     };
     while !running.is_over() {
-        running.step(alloc, hold, stats, &request, out)?;
+        running.step(alloc, hold, &request, out)?;
     }
     let answer = answer_in(alloc, running.events.as_slice())?;
     let (events, ending) = running.ended();
@@ -56,7 +57,7 @@ fn compile_beside<H: Hold>(
 
 /// Compiles what was begun, over any hold: finds its key, looks it up at each level, places a hit or runs the compiler here or
 /// elsewhere, and stores what a run left. Each event is the one that is due behind those before it, and the hold moves by
-/// them. It takes no token.
+/// them. What they count, the hold counts. It takes no token.
 pub fn get_cached_or_compile<H: Hold>(
     alloc: Global,
     hold: &mut H,
@@ -67,8 +68,7 @@ pub fn get_cached_or_compile<H: Hold>(
     ensures moves { IfOk result (λ compiled. DoneBy H.moment H.moves (setup (H.config hold.old)) (CompileOf compile) task hold.old compiled.events hold.new) }
     ensures same { IfOk result (λ _. H.config hold.new ≡ H.config hold.old) }
 {
-    let stats = ServerStats::new(alloc);
     let mut out = Vec::new(alloc);
-    let compiled = compile_beside(alloc, hold, compile, task, &stats, &mut out)?;
+    let compiled = compile_beside(alloc, hold, compile, task, &mut out)?;
     Ok(compiled)
 }

@@ -1,6 +1,6 @@
 -- What is due, and what a making makes of it.
 use Rattle.std.proofs.Common.{◌≡◌, ℕ, Bool, true, false, subst, sym}
-use Rattle.sc_model.specs.World.{Container, MakerCause, Makes_next, Renews, Renews_where, is_due, made_state}
+use Rattle.sc_model.specs.Containers.{Container, MakerCause, Makes_next, Renews, Renews_where, is_due, made_state}
 use Rattle.sc_model.specs.declared.level.Making.{Making}
 
 -- what isn't due stays

@@ -2,7 +2,7 @@
 use Rattle.std.proofs.Common.{◌≡◌, ◌≤◌, ℕ, Bool, true, false}
 use Rattle.sc_compile_dist.specs.Makings.{is_made}
 use Rattle.sc_entry.specs.Causes.{Rose}
-use Rattle.sc_model.specs.World.{MakerCause}
+use Rattle.sc_model.specs.Containers.{MakerCause}
 use Rattle.sc_model.specs.declared.level.Making.{Making}
 use Rattle.sc_model.specs.declared.level.Making.TheVariants.{Made, NoToken, Unreachable}
 

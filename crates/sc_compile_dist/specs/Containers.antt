@@ -1,7 +1,7 @@
 -- A distributed client with its maker, and where it stands.
 use Rattle.std.specs.Prelude.{◌≡◌, ℕ, ◌/◌, ◌%◌, List, ◌++◌, Option, codes, decimal}
 use Rattle.sc_model.specs.Script.{Scheduler}
-use Rattle.sc_model.specs.World.{Container, Renews, Tells_status}
+use Rattle.sc_model.specs.Containers.{Container, Renews, Tells_status}
 use Rattle.sc_model.specs.declared.level.DistClientState.{DistClientState}
 use Rattle.sc_model.specs.declared.level.Making.{Making}
 use Rattle.sc_model.specs.declared.level.DistClientState.TheVariants.{Disabled, FailWithMessage, Made, RetryCreateAt}

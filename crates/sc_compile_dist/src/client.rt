@@ -6,7 +6,8 @@ ghost use Rattle.sc_compile_dist.specs.GoodJobs.{is_good_dist};
 ghost use Rattle.sc_compile_dist.specs.Jobs.{Jobs, told_dist};
 ghost use Rattle.sc_compile_dist.specs.declared.dist_line.DistLine.{DistLine};
 ghost use Rattle.sc_entry.specs.Causes.{IfTold};
-ghost use Rattle.sc_model.specs.World.{DistCause, and_one};
+ghost use Rattle.sc_model.specs.Levels.{and_one};
+ghost use Rattle.sc_model.specs.World.{DistCause};
 ghost use Rattle.sc_stats.specs.declared.counters.DistInfo.{DistInfo};
 
 use sc_entry::{FileObjectSource, NoMemory, Text};

@@ -7,7 +7,9 @@ ghost use Rattle.sc_compile_dist.specs.GoodJobs.{is_good_dist};
 ghost use Rattle.sc_compile_dist.specs.Jobs.{told_dist};
 ghost use Rattle.sc_compile_dist.specs.Waiting.{is_disabled};
 ghost use Rattle.sc_entry.specs.Causes.{IfTold};
-ghost use Rattle.sc_model.specs.World.{DistCause, Tells_status, and_one, is_due, made_state, reset};
+ghost use Rattle.sc_model.specs.Containers.{Tells_status, is_due, made_state, reset};
+ghost use Rattle.sc_model.specs.Levels.{and_one};
+ghost use Rattle.sc_model.specs.World.{DistCause};
 ghost use Rattle.sc_model.specs.declared.level.DistClientState.TheVariants as states;
 ghost use Rattle.sc_stats.specs.declared.counters.DistInfo.TheVariants.{NotConnected};
 

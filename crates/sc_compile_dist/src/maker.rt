@@ -1,7 +1,7 @@
 //! What connects a distributed client with its scheduler.
 
 ghost use Rattle.std.specs.Prelude.{◌≡◌, List, Option, ℕ, IfOk, OnOk};
-ghost use Rattle.sc_model.specs.World.{MakerCause, Makes_next};
+ghost use Rattle.sc_model.specs.Containers.{MakerCause, Makes_next};
 ghost use Rattle.sc_model.specs.declared.level.Making.{Making as Answer};
 
 use crate::client::DistClient;

@@ -2,7 +2,7 @@
 
 ghost use Rattle.std.specs.Prelude.{◌≡◌, Some};
 ghost use Rattle.sc_compile_dist.specs.Makings.{is_made};
-ghost use Rattle.sc_model.specs.World.{Makes_next};
+ghost use Rattle.sc_model.specs.Containers.{Makes_next};
 
 use crate::maker::DistMaker;
 use crate::script_dist::ScriptDist;

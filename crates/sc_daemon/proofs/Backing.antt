@@ -4,7 +4,8 @@ use Rattle.sc_daemon.proofs.Handing.{same_write}
 use Rattle.sc_daemon.specs.Backlogs.{Advances, AdvancesAt, MarksAs, Write, with_write, write_at}
 use Rattle.sc_daemon.specs.Daemons.{BacksAt, BacksEvent, Kept}
 use Rattle.sc_daemon_job.specs.Setups.{setup}
-use Rattle.sc_model.specs.Machine.{counted_level, need_back}
+use Rattle.sc_model.specs.Machine.{counted_level}
+use Rattle.sc_model.specs.Pendings.{need_back}
 use Rattle.sc_model.specs.Rows.{Origin_of_put, by_backfill, level_row}
 use Rattle.sc_model.specs.Trace.{ends_write}
 use Rattle.sc_model.specs.World.{Need}

@@ -1,22 +1,23 @@
 -- A served event that was counted.
-use Rattle.std.proofs.Common.{◌≡◌, ℕ, ◌+◌, ◌≤◌, ◌++◌, true, false, length, Result, Ok, Err, refl, sym, ap, ◌∙◌, subst, arith}
+use Rattle.std.proofs.Common.{◌≡◌, ℕ, true, false, Result, Ok, Err, refl, sym, ◌∙◌, subst}
 use Rattle.std.specs.Prelude.{IfOk, IsOk, OnOk}
-use Rattle.sc_daemon_action.specs.Telling.{SaysCounted}
-use Rattle.sc_daemon.specs.Backlogs.{fresh_writes}
-use Rattle.sc_daemon.specs.Daemons.{Kept, ServesEvent, kept_after}
-use Rattle.sc_daemon.specs.Lines.{Line, conn_of}
+use Rattle.sc_daemon.specs.Daemons.{Kept, ServesEvent}
+use Rattle.sc_daemon.specs.Lines.{Line, asker_at, conn_of}
+use Rattle.sc_daemon.specs.Moving.{KeptMoves}
+use Rattle.sc_daemon.specs.Says.{counted}
 use Rattle.sc_daemon.specs.Turns.{Serves_one}
 use Rattle.sc_daemon_job.specs.Setups.{setup}
-use Rattle.sc_model.specs.Machine.{counted_level, current, free_after, need_at, pend}
-use Rattle.sc_model.specs.Rows.{Direct, count, level_row, row, zeroes}
-use Rattle.sc_model.specs.Trace.{hands}
+use Rattle.sc_daemon_owned.specs.Facts.{config_of}
+use Rattle.sc_daemon_owned.specs.State.{disk_at}
+use Rattle.sc_model.specs.Conns.{current}
+use Rattle.sc_model.specs.Rows.{count, row, zeroes}
+use Rattle.sc_model.specs.Script.{Setup}
 use Rattle.sc_model.specs.declared.event.Owner.TheVariants.{Request as OfRequest}
 use Rattle.sc_model.specs.declared.event.What.{What}
 use Rattle.sc_model.specs.declared.event.What.TheVariants.{Asked, Began, Closed, Committed, Dist, Filled, Idle, Keyed, Outcome, Passed, Placed, Ran, Reserved, Sent, Taken, TokenTaken, TooLong, WriteEnded, Wrote}
-use Rattle.sc_daemon_owned.specs.Moving.{OwnedMoves}
-use Rattle.sc_daemon_owned.specs.State.{State, disk_at}
+use Rattle.sc_model.specs.declared.message.Request.{Request}
+use Rattle.sc_stats.specs.Sums.{no_stats, sum}
 use Rattle.sc_stats.specs.declared.counters.ServerStats.{ServerStats}
-use Rattle.sc_daemon_owned.specs.Facts.{DaemonFacts, config_of}
 
 err_ok : false ≡ true → ⊥
 err_ok e = absurd (cc)
@@ -36,55 +37,49 @@ pub if_any : {A E : Type 0} {Q : Type 0} (r : Result A E) → Q → IfOk r (λ x
 if_any (Ok a) q = q
 if_any (Err e) q = tt
 
--- at most one token comes back
-pub free_most : (n : ℕ) (x : What) → free_after n x ≤ n + 1
-free_most n Idle = omega arith
-free_most n (Passed a) = omega arith
-free_most n (Taken a b) = omega arith
-free_most n (Closed a) = omega arith
-free_most n (Began a b) = omega arith
-free_most n (Keyed a b d) = omega arith
-free_most n (Asked a b d f g) = omega arith
-free_most n (Placed a) = omega arith
-free_most n TokenTaken = omega arith
-free_most n (Ran a) = omega arith
-free_most n (Dist a) = omega arith
-free_most n (Outcome a b) = omega arith
-free_most n (Reserved a b d f) = omega arith
-free_most n (Filled a b d f g) = omega arith
-free_most n (Committed a b d f) = omega arith
-free_most n (Wrote a b d f g h) = omega arith
-free_most n (WriteEnded a b) = omega arith
-free_most n (Sent a) = omega arith
-free_most n (TooLong a) = omega arith
+-- what an event counts, whether or not it counts anything, where nothing added changes nothing
+counted_count : (s : Setup) (r : Request) (since m : ℕ) (x : What) (before : ServerStats) → sum before no_stats ≡ before → counted x before (row s r since m x) ≡ count (zeroes x) before (row s r since m x)
+counted_count s r since m Idle before none = sym none
+counted_count s r since m (Passed a) before none = sym none
+counted_count s r since m (Taken a b) before none = sym none
+counted_count s r since m (Closed a) before none = sym none
+counted_count s r since m (Began q told) before none = refl
+counted_count s r since m (Keyed true client step) before none = refl
+counted_count s r since m (Keyed false client step) before none = sym none
+counted_count s r since m (Asked l k mode a hs) before none = sym none
+counted_count s r since m (Placed p) before none = sym none
+counted_count s r since m TokenTaken before none = sym none
+counted_count s r since m (Ran a) before none = sym none
+counted_count s r since m (Dist a) before none = sym none
+counted_count s r since m (Outcome v task) before none = refl
+counted_count s r since m (Reserved l k z how) before none = sym none
+counted_count s r since m (Filled l k b mark how) before none = sym none
+counted_count s r since m (Committed l k b how) before none = sym none
+counted_count s r since m (Wrote l k b mode mark how) before none = sym none
+counted_count s r since m (WriteEnded put hs) before none = refl
+counted_count s r since m (Sent g) before none = sym none
+counted_count s r since m (TooLong z) before none = sym none
 
-pub serves_event : (c j moment last reserved : ℕ) (x : What) (d d2 : Kept) (state2 : State) (stats2 : ServerStats) (old new : Line) → j ≡ old.at → moment ≡ d.state.world.moment → last ≡ old.last → reserved ≡ old.reserved
-    → Serves_one (config_of d.state.config) (disk_at d.state) (disk_at state2) d.state.world.moment d.free x old new → SaysCounted d.state.config.policy d.stats d.levels x
-    → OwnedMoves d.state (need_at (setup (config_of d.state.config)) (current (conn_of old)) old.phase) x state2 → state2.config ≡ d.state.config
-    → stats2 ≡ count (zeroes x) d.stats (row (setup (config_of d.state.config)) (current (conn_of old)) old.outcome d.state.world.moment x)
-    → d2 ≡ kept_after (record d { state = state2; stats = stats2 }) last reserved moment x
-    → ServesEvent c (record { moment = moment; owner = OfRequest c j; what = x }) d d2 old new
-serves_event c j moment last reserved x d d2 state2 stats2 old new number now at since one says moves same counted is_d2 =
+pub serves_event : (c j : ℕ) (x : What) (d d2 : Kept) (old new : Line) → j ≡ old.at → sum d.stats no_stats ≡ d.stats → Serves_one (config_of d.state.config) (disk_at d.state) (disk_at d2.state) d2.state.world.moment d.free x old new
+    → KeptMoves d (asker_at (config_of d.state.config) old) x d2 → ServesEvent c (record { moment = d2.state.world.moment; owner = OfRequest c j; what = x }) d d2 old new
+serves_event c j x d d2 old new number none one moves =
     let k = config_of d.state.config in
+    let still : d2.state.world.moment ≡ d.state.world.moment = moves.moves.1.moment in
     record {
-      moment = now;
+      moment = still;
       serves = (
         refl,
         record {
           number = number;
-          one = subst (λ (e : Kept). Serves_one k (disk_at d.state) (disk_at e.state) d.state.world.moment d.free x old new) (sym is_d2) one;
-          says = says;
-          moves = subst (λ (e : Kept). OwnedMoves d.state (need_at (setup k) (current (conn_of old)) old.phase) x e.state) (sym is_d2) moves;
-          config = ap (λ (e : Kept). e.state.config) is_d2 ∙ same;
-          free = ap (λ (e : Kept). e.free) is_d2;
-          levels = ap (λ (e : Kept). e.levels) is_d2
-              ∙ ap (λ (f : DaemonFacts). counted_level f.policy (level_row Direct last reserved moment x) x d.levels) same
-              ∙ ap (λ (n : ℕ). counted_level k.policy (level_row Direct n reserved moment x) x d.levels) at
-              ∙ ap (λ (n : ℕ). counted_level k.policy (level_row Direct old.last n moment x) x d.levels) since
-              ∙ ap (λ (n : ℕ). counted_level k.policy (level_row Direct old.last old.reserved n x) x d.levels) now;
-          background = ap (λ (e : Kept). e.background) is_d2 ∙ ap (λ (n : ℕ). d.background ++ fresh_writes (pend (hands d.handed n x))) now;
-          handed = ap (λ (e : Kept). e.handed) is_d2 ∙ ap (λ (n : ℕ). d.handed + length (hands d.handed n x)) now;
-          stats = ap (λ (e : Kept). e.stats) is_d2 ∙ counted;
+          one = subst (λ (m : ℕ). Serves_one k (disk_at d.state) (disk_at d2.state) m d.free x old new) still one;
+          says = moves.says;
+          moves = moves.moves;
+          config = moves.moves.4;
+          free = moves.free;
+          levels = moves.levels;
+          background = moves.background;
+          handed = moves.handed;
+          stats = moves.stats ∙ counted_count (setup k) (current (conn_of old)) old.outcome d.state.world.moment x d.stats none;
         },
       );
     }

@@ -1,8 +1,7 @@
 -- A whole drive is a run of the machine.
-use Rattle.std.proofs.Common.{◌≡◌, ℕ, zero, suc, ◌+◌, ◌^◌, ◌<◌, Bool, true, false, ◌&&◌, nat_lt, arith, List, [], ◌∷◌, None, ◌++◌, length, map, drop, reverse, get_or, refl, sym, ap, ◌∙◌, subst, append_assoc, add-one, Result, Ok, Err}
+use Rattle.std.proofs.Common.{◌≡◌, ℕ, zero, suc, ◌+◌, ◌<◌, true, List, [], ◌∷◌, None, ◌++◌, length, map, drop, reverse, get_or, refl, sym, ap, ◌∙◌, subst, append_assoc, add-one, Result, Ok, Err}
 use Rattle.std.specs.Prelude.{IfOk}
 use Rattle.std.proofs.Math.Seq.{drop-cons}
-use Rattle.std.proofs.lemmas.Bool.{ltb-true}
 use Rattle.std.proofs.lemmas.List.{append-nil, length-map, reverse-append}
 use Rattle.sc_wire_conn.specs.Ends.{end_of}
 use Rattle.sc_daemon.specs.Backlogs.{AreNumbered, ArePending, Write, pending_of}
@@ -15,16 +14,17 @@ use Rattle.sc_store_disk.specs.DiskStores.{DiskStore}
 use Rattle.sc_daemon_job.specs.Setups.{Config, setup}
 use Rattle.sc_model.proofs.Streams.{reads_on}
 use Rattle.sc_model.specs.Headline.{Headline, Result_of_run}
-use Rattle.sc_model.specs.Machine.{Conn, IsIdle, Machine, Runs, end_at, new_conn, result_of_run, shown_levels}
+use Rattle.sc_model.specs.Conns.{Conn, new_conn}
+use Rattle.sc_model.specs.Machine.{IsIdle, Machine, Runs, end_at, result_of_run, shown_levels}
 use Rattle.sc_model.specs.Script.{End, Script}
-use Rattle.sc_model.specs.Trace.{Open, if_too_long, open_runs, reservations, reserved_at, reserved_by}
+use Rattle.sc_model.specs.Trace.{Open, if_too_long, reservations, reserved_at, reserved_by}
 use Rattle.sc_model.specs.declared.event.Event.{Event}
 use Rattle.sc_model.specs.declared.event.Owner.TheVariants.{Request as OfRequest}
 use Rattle.sc_model.specs.declared.event.Step.{Step}
 use Rattle.sc_model.specs.declared.level.Handed.{Handed}
 use Rattle.sc_model.specs.declared.phase.Pending.{Pending}
-use Rattle.sc_daemon_owned.specs.Laws.{one_level, within_limits}
-use Rattle.sc_daemon_owned.specs.State.{State, disk_at, reserved_in}
+use Rattle.sc_daemon_owned.specs.Laws.{one_level}
+use Rattle.sc_daemon_owned.specs.State.{disk_at, reserved_in}
 use Rattle.sc_wire.specs.Requests.{read_served}
 use Rattle.sc_wire.specs.Streams.{served_reader}
 use Rattle.sc_daemon_owned.specs.Facts.{DaemonFacts, config_of}
@@ -170,30 +170,6 @@ pub reserved-told : (d0 d : Kept) (inputs : List (List ℕ)) (steps left : List 
     → (l : ℕ) → reserved_in d.state l ≡ reserved_at l (reservations (reverse driven.trace))
 reserved-told d0 d inputs steps left events lines driven progress trace l =
     sym (progress.tied.reserved l) ∙ ap (λ (os : List Open). reserved_at l os) (progress.listed ∙ ap (λ (es : List Event). reservations (reverse es)) (sym trace))
-
-right_of : (a b : Bool) → (a && b) ≡ true → b ≡ true
-right_of true b e = e
-right_of false b e = (cc)
-
-left_of : (a b : Bool) → (a && b) ≡ true → a ≡ true
-left_of true b e = refl
-left_of false b e = e
-
-tokens_few : (o : State) → o.config.tokens < 65536
-tokens_few o =
-    let t = o.config.tokens in
-    let l = o.config.limit in
-    ltb-true t 65536 (right_of (nat_lt 0 t) (nat_lt t 65536) (left_of (nat_lt 0 t && nat_lt t 65536) (nat_lt 0 l && nat_lt l 16777217) (within_limits o)))
-
--- no more tokens are free than there are
-pub free_few : ((s : Script) (m0 : Machine) (steps : List Step) (t : List Event) (m : Machine) → IsIdle s m0 → Runs s m0 steps t m → Headline s m0.world steps t m.world (result_of_run s m))
-    → (d0 d : Kept) (inputs : List (List ℕ)) (steps left : List Step) (events : List Event) (lines : List Line)
-    → IsIdleDaemon d0 → d0.handed ≡ 0 → Progress d0 d inputs steps left events lines → d.free + 1 < 2 ^ 64
-free_few every d0 d inputs steps left events lines idle first progress =
-    let h = every (script_of d0 inputs) (machine_of d0 (lines_of d0.state.config.limit (length inputs)) []) (reverse progress.done) (reverse events) (machine_of d lines progress.opens) (is_idle d0 inputs idle first) progress.runs in
-    let few = tokens_few d0.state in
-    let all : d.free + length (open_runs (reverse events)) ≡ d0.state.config.tokens = h.tokens in
-    omega (arith, few, all)
 
 -- the step of that number is the first of those that are left
 pub next_step : (steps : List Step) (i : ℕ) (p : Step) → i < length steps → drop i steps ≡ get_or steps i p ∷ drop (i + 1) steps

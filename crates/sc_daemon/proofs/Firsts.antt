@@ -1,7 +1,7 @@
 -- The first request of a connection.
 use Rattle.std.proofs.Common.{◌≡◌, List, [], ◌∷◌, ◌++◌, drop, Option, Some, None, ap, subst, sym}
 use Rattle.sc_daemon.specs.Lines.{Line, conn_of, first_of, listed}
-use Rattle.sc_model.specs.Machine.{current}
+use Rattle.sc_model.specs.Conns.{current}
 use Rattle.sc_model.specs.Trace.{request}
 use Rattle.sc_model.specs.declared.message.Request.{Request}
 use Rattle.sc_wire.specs.Requests.{AreServed}

@@ -12,7 +12,9 @@ use Rattle.sc_store_disk.specs.DiskStores.{DiskStore}
 use Rattle.sc_daemon_hold.specs.Holding.{hand_at}
 use Rattle.sc_daemon_job.specs.Setups.{Config}
 use Rattle.sc_model.specs.Follows.{bytes_in}
-use Rattle.sc_model.specs.Machine.{Conn, advanced, after, current, pend, settle, told_by}
+use Rattle.sc_model.specs.Conns.{Conn, advanced, current, settle, told_by}
+use Rattle.sc_model.specs.Pendings.{pend}
+use Rattle.sc_model.specs.Phases.{after}
 use Rattle.sc_model.specs.Script.{Setup}
 use Rattle.sc_model.specs.There.{AreHanded, handed_in}
 use Rattle.sc_model.specs.Trace.{Open, hands, numbered}

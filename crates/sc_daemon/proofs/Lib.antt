@@ -1,10 +1,13 @@
+pub mod Backing
 pub mod Beginning
 pub mod Counted
 pub mod Driving
 pub mod Firsts
 pub mod Handing
 pub mod Leaving
+pub mod Lending
 pub mod Machines
+pub mod Moved
 pub mod Plain
 pub mod Serving
 pub mod Sessions
@@ -12,4 +15,3 @@ pub mod Staying
 pub mod Stepping
 pub mod Tying
 pub mod Writes
-pub mod Backing

@@ -8,8 +8,12 @@ use Rattle.sc_daemon.specs.Lines.{IsDone, Line, conn_of}
 use Rattle.sc_daemon.specs.Turns.{IsIdleLine, TakesMore}
 use Rattle.sc_daemon.proofs.Plain.{due_ended, due_takes, ended_due, says_counted, takes_due, ticked_own}
 use Rattle.sc_daemon_job.specs.Setups.{setup}
-use Rattle.sc_model.specs.Follows.{Fits, ToTake}
-use Rattle.sc_model.specs.Machine.{Conn, DoesBack, DoesRead, DoesServe, Machine, Says, advanced, backed, conn, counted_level, current, due_at, free_after, more, need_at, need_back, new_conn, pend, pending_after, pending_at, step_pending}
+use Rattle.sc_model.specs.Dues.{ToTake}
+use Rattle.sc_model.specs.Follows.{Fits}
+use Rattle.sc_model.specs.Conns.{Conn, advanced, current, free_after, more, need_at, new_conn}
+use Rattle.sc_model.specs.DueAt.{due_at}
+use Rattle.sc_model.specs.Machine.{DoesBack, DoesRead, DoesServe, Machine, Says, backed, conn, counted_level}
+use Rattle.sc_model.specs.Pendings.{need_back, pend, pending_after, pending_at, step_pending}
 use Rattle.sc_model.specs.Next.{Ended, at_moment, ticked}
 use Rattle.sc_model.specs.Rows.{Direct, count, level_row, row, zeroes}
 use Rattle.sc_model.specs.Script.{BadFrame, Script, Setup, input}

@@ -1,11 +1,12 @@
 -- What a served event is, and what is due at a phase.
 use Rattle.std.proofs.Common.{◌≡◌, ℕ, List, [], ◌∷◌, refl}
 use Rattle.sc_daemon_action.specs.Hands.{IsOwn}
-use Rattle.sc_daemon_action.specs.Telling.{SaysCounted}
+use Rattle.sc_daemon.specs.Says.{SaysCounted}
 use Rattle.sc_daemon.specs.Standings.{standing_of}
 use Rattle.sc_daemon.specs.declared.standing.Standing.TheVariants.{Ended as HasEnded, Takes}
-use Rattle.sc_model.specs.Follows.{Due, ToReserve, ToTake, ToWrite, start_write}
-use Rattle.sc_model.specs.Machine.{Machine, Says, due_at}
+use Rattle.sc_model.specs.Dues.{Due, ToReserve, ToTake, ToWrite, start_write}
+use Rattle.sc_model.specs.DueAt.{due_at}
+use Rattle.sc_model.specs.Machine.{Machine, Says}
 use Rattle.sc_model.specs.Next.{Ended, ticked}
 use Rattle.sc_model.specs.Plan.{level_facts}
 use Rattle.sc_model.specs.Script.{Setup}

@@ -12,7 +12,9 @@ use Rattle.sc_store_disk.specs.DiskStores.{DiskStore}
 use Rattle.sc_daemon_hold.specs.Holding.{Hand, HandsBy}
 use Rattle.sc_daemon_job.specs.Setups.{Config, setup}
 use Rattle.sc_model.specs.Follows.{Fits}
-use Rattle.sc_model.specs.Machine.{Conn, after, current, due_at, long_after, outcome_after, reserved_after, settle, told_by}
+use Rattle.sc_model.specs.Conns.{Conn, current, long_after, outcome_after, reserved_after, settle, told_by}
+use Rattle.sc_model.specs.DueAt.{due_at}
+use Rattle.sc_model.specs.Phases.{after}
 use Rattle.sc_model.specs.Trace.{request}
 use Rattle.sc_model.specs.declared.event.What.{What}
 use Rattle.sc_model.specs.declared.message.Request.{Request}

@@ -16,7 +16,9 @@ use Rattle.sc_daemon.proofs.Staying.{all_pending, all_writes, back_pending, back
 use Rattle.sc_daemon.proofs.Tying.{never, owner_ties, reserves_step}
 use Rattle.sc_disk.specs.Store.{AddEntry}
 use Rattle.sc_daemon_job.specs.Setups.{Config, setup}
-use Rattle.sc_model.specs.Machine.{Conn, DoesBack, DoesRead, DoesServe, conn, new_conn, pend}
+use Rattle.sc_model.specs.Conns.{Conn, new_conn}
+use Rattle.sc_model.specs.Machine.{DoesBack, DoesRead, DoesServe, conn}
+use Rattle.sc_model.specs.Pendings.{pend}
 use Rattle.sc_model.specs.Next.{ticked}
 use Rattle.sc_model.specs.Plan.{is_disk}
 use Rattle.sc_model.specs.Script.{Script, Setup, input}
@@ -150,8 +152,8 @@ serves_tied c Nobody _ d d2 lines opens l new lt t serves rests = absurd serves
 serves_tied c (OfWrite n) x d d2 lines opens l new lt t serves rests = absurd serves
 
 pub steps_serve : (s : Script) (d d2 : Kept) (lines : List Line) (opens : List Open) (c : ℕ) (l new : Line) (e : Event) → s.setup ≡ setup (config_of d.state.config) → Tied d lines opens → d.state.told ≡ true → c < length lines
-    → ServesEvent c e d d2 (get_or lines c l) new → Rests (config_of d.state.config) (disk_at d2.state) new.phase new.entry new.waiting → AreLevelsWithin d2.state → d2.free ≤ d.free + 1 → Steps s (Serve c) e d d2 lines (set lines c new) opens
-steps_serve s d d2 lines opens c l new e is_setup t told lt serves rests most free =
+    → ServesEvent c e d d2 (get_or lines c l) new → Rests (config_of d.state.config) (disk_at d2.state) new.phase new.entry new.waiting → AreLevelsWithin d2.state → Steps s (Serve c) e d d2 lines (set lines c new) opens
+steps_serve s d d2 lines opens c l new e is_setup t told lt serves rests most =
     let old = get_or lines c l in
     let same = config_stays c e.owner e.what d d2 old new serves.serves in
     let tied = serves_tied c e.owner e.what d d2 lines opens l new lt t serves.serves rests in
@@ -164,7 +166,6 @@ steps_serve s d d2 lines opens c l new e is_setup t told lt serves rests most fr
       config = same;
       told = told_stays c e.owner e.what d d2 old new serves.serves;
       count = length-set lines c new;
-      free = free;
       tied = tied;
     }
 
@@ -241,7 +242,6 @@ steps_read s inputs d lines opens c n l new b e of t most lt count reads =
       config = refl;
       told = refl;
       count = length-set lines c new;
-      free = omega arith;
       tied = subst (λ (r : List Open). Tied d (set lines c new) r) (sym none) tied;
     }
 
@@ -257,7 +257,6 @@ steps_past s d lines opens c e is_setup t most le is_idle =
       config = refl;
       told = refl;
       count = refl;
-      free = omega arith;
       tied = t;
     }
 
@@ -270,7 +269,6 @@ steps_unread s inputs d lines opens c n e of t most count le is_idle =
       config = refl;
       told = refl;
       count = refl;
-      free = omega arith;
       tied = t;
     }
 
@@ -323,7 +321,6 @@ write_steps s d d2 lines opens i w e is_setup t told most at backs =
       config = backs.config;
       told = backs.moves.0;
       count = refl;
-      free = let same : d2.free ≡ d.free = ap (λ (k : Kept). k.free) backs.same in omega (arith, same);
       tied = tied;
     }
 
@@ -340,7 +337,6 @@ idle_steps s d d2 lines opens i e is_setup t most past is_idle same =
       config = refl;
       told = refl;
       count = refl;
-      free = omega arith;
       tied = t;
     })
 
@@ -363,7 +359,6 @@ steps_pass s d d2 lines opens n e is_setup t most is_passed is_pass =
       config = refl;
       told = refl;
       count = refl;
-      free = omega arith;
       tied = passed_tied d n lines opens t;
     })
 

@@ -7,8 +7,10 @@ use Rattle.sc_disk.specs.Store.{AddEntry}
 use Rattle.sc_store_disk.specs.DiskStores.{DiskStore}
 use Rattle.sc_daemon_hold.specs.Holding.{Hand, HandsBy, HeldBy, KeepsHands, SameRoom, hand_at}
 use Rattle.sc_daemon_job.specs.Setups.{Config, setup}
-use Rattle.sc_model.specs.Follows.{Fits, ToCommit, ToFill, ToReserve, ToWrite, bytes_in, kind_at}
-use Rattle.sc_model.specs.Machine.{due_pending, due_stage, reserved_after, stage_after}
+use Rattle.sc_model.specs.Dues.{ToCommit, ToFill, ToReserve, ToWrite, kind_at}
+use Rattle.sc_model.specs.Follows.{Fits, bytes_in}
+use Rattle.sc_model.specs.Conns.{reserved_after}
+use Rattle.sc_model.specs.Pendings.{due_pending, due_stage, stage_after}
 use Rattle.sc_model.specs.Trace.{ends_write, no_request}
 use Rattle.sc_model.specs.declared.event.Mode.TheVariants.{Whole}
 use Rattle.sc_model.specs.declared.event.What.{What}

@@ -6,9 +6,11 @@ use Rattle.sc_disk.specs.Store.{AddEntry}
 use Rattle.sc_store_disk.specs.DiskStores.{DiskStore}
 use Rattle.sc_daemon_hold.specs.Holding.{Hand, HandsBy, IsHeld, KeepsHands, hand_at}
 use Rattle.sc_daemon_job.specs.Setups.{Config, setup}
-use Rattle.sc_model.specs.Follows.{Fits, bytes_in, kind_at}
+use Rattle.sc_model.specs.Dues.{kind_at}
+use Rattle.sc_model.specs.Follows.{Fits, bytes_in}
 use Rattle.sc_model.specs.Job.{mark_of}
-use Rattle.sc_model.specs.Machine.{due_pending, reserved_after, stage_after, stage_fills}
+use Rattle.sc_model.specs.Conns.{reserved_after}
+use Rattle.sc_model.specs.Pendings.{due_pending, stage_after, stage_fills}
 use Rattle.sc_model.specs.Trace.{ends_write, no_request}
 use Rattle.sc_model.specs.World.{Need}
 use Rattle.sc_model.specs.contracts.phase.Pending as pending_type

@@ -1,13 +1,15 @@
 -- A daemon: its state, what it counted, and its free tokens.
 use Rattle.std.specs.Prelude.{◌≡◌, ◌⊎◌, ℕ, ◌+◌, ◌≤◌, List, [], ◌++◌, length, map, Some, refl}
 use Rattle.std.specs.Coded.{Coded, code_by, coded×, coded_list, coded_ℕ}
-use Rattle.sc_daemon_action.specs.Telling.{SaysCounted}
 use Rattle.sc_daemon.specs.Backlogs.{Advances, Write, fresh_writes, pending_of, with_write, write_at, write_code}
 use Rattle.sc_daemon.specs.Lines.{Line, conn_of}
+use Rattle.sc_daemon.specs.Says.{SaysCounted}
 use Rattle.sc_daemon.specs.Turns.{IsIdleLine, Reads, Serves_one}
 use Rattle.sc_daemon.specs.declared.reading.Reading.TheVariants as readings
 use Rattle.sc_daemon_job.specs.Setups.{setup}
-use Rattle.sc_model.specs.Machine.{Machine, counted_level, current, free_after, need_at, need_back, pend}
+use Rattle.sc_model.specs.Conns.{current, free_after, need_at}
+use Rattle.sc_model.specs.Machine.{Machine, counted_level}
+use Rattle.sc_model.specs.Pendings.{need_back, pend}
 use Rattle.sc_model.specs.Next.{at_moment}
 use Rattle.sc_model.specs.Rows.{Direct, by_backfill, count, level_row, row, zeroes}
 use Rattle.sc_model.specs.Script.{Script}
@@ -59,16 +61,6 @@ pub record IsIdleDaemon (d : Kept) : Type 0 where
 -- writes that are handed on from now are numbered from 0
 abbrev pub anew : Kept → Kept
 anew d = record d { handed = 0 }
-
--- what an event of a request leaves, beside what it counts of the daemon; last: the request's event before; reserved: its last
--- reservation
-abbrev pub kept_after : Kept → ℕ → ℕ → ℕ → What → Kept
-kept_after d last reserved m x = record d {
-  free = free_after d.free x;
-  levels = counted_level d.state.config.policy (level_row Direct last reserved m x) x d.levels;
-  background = d.background ++ fresh_writes (pend (hands d.handed m x));
-  handed = d.handed + length (hands d.handed m x);
-}
 
 -- time passed
 abbrev pub passed : Kept → ℕ → Kept

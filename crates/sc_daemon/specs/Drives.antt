@@ -1,5 +1,5 @@
 -- Steps of a drive.
-use Rattle.std.specs.Prelude.{◌≡◌, ℕ, zero, suc, ◌+◌, ◌≤◌, true, List, [], ◌∷◌, ◌++◌, length, map, reverse, slice_index_or}
+use Rattle.std.specs.Prelude.{◌≡◌, ℕ, zero, suc, ◌+◌, true, List, [], ◌∷◌, ◌++◌, length, map, reverse, slice_index_or}
 use Rattle.sc_wire_conn.specs.Ends.{end_of}
 use Rattle.sc_daemon.specs.Backlogs.{AreNumbered, ArePending, Write, hand_in}
 use Rattle.sc_daemon.specs.Daemons.{Kept, machine_of, script_of}
@@ -65,7 +65,6 @@ pub record Steps (s : Script) (p : Step) (e : Event) (d d2 : Kept) (lines lines2
   pub config : d2.state.config ≡ d.state.config
   pub told : d2.state.told ≡ d.state.told
   pub count : length lines2 ≡ length lines
-  pub free : d2.free ≤ d.free + 1
   pub tied : Tied d2 lines2 (reserved_by e.owner e.what opens)
 
 -- one step of a drive: its event is the last

@@ -2,6 +2,8 @@ pub mod Backlogs
 pub mod Daemons
 pub mod Drives
 pub mod Lines
+pub mod Moving
+pub mod Says
 pub mod Sessions
 pub mod Standings
 pub mod Ties

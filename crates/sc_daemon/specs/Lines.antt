@@ -7,7 +7,10 @@ use Rattle.sc_daemon.specs.Standings.{standing_of}
 use Rattle.sc_daemon.specs.declared.standing.Standing.TheVariants.{Ended}
 use Rattle.sc_disk.specs.Store.{AddEntry}
 use Rattle.sc_daemon_hold.specs.Holding.{Hand}
-use Rattle.sc_model.specs.Machine.{Conn}
+use Rattle.sc_daemon_job.specs.Askers.{Asker}
+use Rattle.sc_daemon_job.specs.Setups.{Config, setup}
+use Rattle.sc_model.specs.Conns.{Conn, current, need_at}
+use Rattle.sc_model.specs.Rows.{Direct}
 use Rattle.sc_model.specs.Script.{BadFrame}
 use Rattle.sc_model.specs.contracts.message.Request as request_type
 use Rattle.sc_model.specs.contracts.phase.Phase as phase_type
@@ -71,3 +74,7 @@ conn_of l = record { queue = l.waiting; rest = l.rest; got = l.got; closed = l.c
 -- nothing more is read: it is closed, its bytes spell no request, or a reply was too long
 abbrev pub IsDone : Line → Type 0
 IsDone l = ((l.closed ≡ true) ⊎ ((served_reader l.limit).ends l.rest false ≡ BadFrame)) ⊎ ((0 < length l.waiting) × (standing_of l.phase ≡ Ended))
+
+-- what the next event of its first request takes from it
+abbrev pub asker_at : Config → Line → Asker
+asker_at k l = record { need = need_at (setup k) (current (conn_of l)) l.phase; request = current (conn_of l); origin = Direct; last = l.last; outcome = l.outcome; reserved = l.reserved }

@@ -1,7 +1,6 @@
 -- What a step does to one connection.
 use Rattle.std.specs.Prelude.{◌≡◌, ℕ, ◌+◌, ◌<◌, ◌≤◌, true, List, [], ◌∷◌, ◌++◌, length, take, drop, Option, Some, None, ◌⊎◌}
 use Rattle.sc_daemon_action.specs.Hands.{ActsWith, IsOwn, hand_of}
-use Rattle.sc_daemon_action.specs.Telling.{SaysCounted}
 use Rattle.sc_daemon_action.specs.Sends.{Adds}
 use Rattle.sc_daemon_action.specs.declared.acted.Action.{Action}
 use Rattle.sc_daemon.specs.Lines.{IsDone, Line, conn_of, line_hand}
@@ -11,19 +10,16 @@ use Rattle.sc_daemon.specs.declared.reading.Reading.TheVariants.{Closed, Nothing
 use Rattle.sc_daemon.specs.declared.standing.Standing.TheVariants.{Ended, Takes}
 use Rattle.sc_store_disk.specs.DiskStores.{DiskStore}
 use Rattle.sc_daemon_hold.specs.Holding.{HandsBy, KeepsHands}
+use Rattle.sc_daemon_job.specs.Askers.{Asker}
 use Rattle.sc_daemon_job.specs.Setups.{Config, setup}
 use Rattle.sc_model.specs.Follows.{Fits}
-use Rattle.sc_model.specs.Machine.{advanced, current, due_at}
+use Rattle.sc_model.specs.Conns.{advanced, current}
+use Rattle.sc_model.specs.DueAt.{due_at}
 use Rattle.sc_model.specs.Trace.{sent_by}
-use Rattle.sc_model.specs.World.{Need}
 use Rattle.sc_model.specs.declared.event.What.{What}
 use Rattle.sc_model.specs.declared.message.Request.{Request}
 use Rattle.sc_model.specs.declared.phase.Phase.TheVariants.{AtOver}
-use Rattle.sc_model.specs.Rows.{count, row, zeroes}
 use Rattle.sc_model.specs.There.{AreHanded, handed_in}
-use Rattle.sc_model.specs.declared.level.Policy.{Policy}
-use Rattle.sc_stats.specs.declared.counters.LevelStats.{LevelStats}
-use Rattle.sc_stats.specs.declared.counters.ServerStats.{ServerStats}
 use Rattle.sc_wire.specs.Requests.{AreServed}
 use Rattle.sc_wire.specs.Streams.{served_reader}
 
@@ -74,7 +70,7 @@ ServesLine k d d2 moment free None old new = IsIdleLine free old × (new ≡ old
 ServesLine k d d2 moment free (Some x) old new = Serves_one k d d2 moment free x old new
 
 -- a hold moves by the event, where there is one
-abbrev pub MovesFirst : {H : Type 0} → (H → Need → What → H → Type 0) → Need → Option Action → H → H → Type 0
+abbrev pub MovesFirst : {H : Type 0} → (H → Asker → What → H → Type 0) → Asker → Option Action → H → H → Type 0
 MovesFirst moves n None old new = new ≡ old
 MovesFirst moves n (Some a) old new = moves old n a.what new
 
@@ -82,24 +78,6 @@ abbrev pub ActsFirst_or_none : Config → (ℕ → DiskStore) → (ℕ → DiskS
 ActsFirst_or_none k d d2 moment None old new = (old.waiting ≡ []) × (new ≡ old)
 ActsFirst_or_none k d d2 moment (Some a) old new = ActsFirst k d d2 moment a old new
 
-abbrev pub MovesHold : {H : Type 0} → (H → Need → What → H → Type 0) → Need → Option What → H → H → Type 0
+abbrev pub MovesHold : {H : Type 0} → (H → Asker → What → H → Type 0) → Asker → Option What → H → H → Type 0
 MovesHold moves n None old new = new ≡ old
 MovesHold moves n (Some x) old new = moves old n x new
-
--- what the event of the first request counts, where there is one
-abbrev pub CountsFirst : Config → ℕ → Option Action → Line → ServerStats → ServerStats → Type 0
-CountsFirst k moment None l old new = new ≡ old
-CountsFirst k moment (Some a) l old new = new ≡ count (zeroes a.what) old (row (setup k) (current (conn_of l)) l.outcome moment a.what)
-
-abbrev pub CountsLine : Config → ℕ → Option What → Line → ServerStats → ServerStats → Type 0
-CountsLine k moment None l old new = new ≡ old
-CountsLine k moment (Some x) l old new = new ≡ count (zeroes x) old (row (setup k) (current (conn_of l)) l.outcome moment x)
-
--- what the event tells of what was counted is so, where there is one
-abbrev pub SaysFirst : Policy → ServerStats → List LevelStats → Option Action → Type 0
-SaysFirst p stats levels None = Unit {0}
-SaysFirst p stats levels (Some a) = SaysCounted p stats levels a.what
-
-abbrev pub SaysLine : Policy → ServerStats → List LevelStats → Option What → Type 0
-SaysLine p stats levels None = Unit {0}
-SaysLine p stats levels (Some x) = SaysCounted p stats levels x

@@ -1,13 +1,16 @@
 //! The writes that were handed on and are not done.
-ghost use Rattle.std.specs.Prelude.{◌≡◌, ℕ, ◌+◌, ◌<◌, ◌≤◌, ◌^◌, ◌++◌, [], true, false, Some, length, IsTrue, ◌↔◌, IfNone, IfOk, IfSome, OnOk};
+ghost use Rattle.std.specs.Prelude.{◌≡◌, ◌+◌, ◌<◌, ◌≤◌, ◌^◌, ◌++◌, [], true, false, Some, length, IsTrue, ◌↔◌, IfNone, IfOk, IfSome, OnOk};
 ghost use Rattle.std.specs.List.{remove};
 ghost use Rattle.sc_daemon.specs.Backlogs.{AdvancesAt, ArePending, MarksAt, fresh_writes, write_at};
-ghost use Rattle.sc_model.specs.Machine.{pend};
-ghost use Rattle.sc_model.specs.Trace.{hands, numbered};
+ghost use Rattle.sc_daemon_job.specs.Askers.{asker};
+ghost use Rattle.sc_model.specs.Pendings.{pend};
+ghost use Rattle.sc_model.specs.Trace.{numbered};
 ghost use Rattle.sc_model.specs.World.{Need};
+ghost use Rattle.sc_model.specs.declared.message.Request.{Request as Asks};
 
 use crate::write::{Write, is_end};
 use sc_daemon_hold::Hold;
+use sc_daemon_job::Since;
 use sc_daemon_ranked::RankedList;
 use sc_entry::NoMemory;
 use sc_model::{Handed, What};
@@ -28,17 +31,6 @@ impl Model for Backlog {
     ghost Value = { List Held };
 
     ghost view = { λ b. b.writes };
-}
-
-/// How many writes an event hands on.
-pub fn handed_count(what: &What) -> u64
-    ensures { (n moment : ℕ) → result ≡ length (hands n moment what.now) }
-{
-    match what {
-        What::Asked(_, _, _, _, handed) => handed.len() as u64,
-        What::WriteEnded(_, handed) => handed.len() as u64,
-        _ => 0,
-    }
 }
 
 /// Drops a write in a call of its own: dropped at the end of a branch it takes the check minutes.
@@ -81,17 +73,18 @@ impl Backlog {
         alloc: Global,
         hold: &mut H,
         place: usize,
+        since: Since,
     ) -> Result<What, NoMemory>
         requires place { place < length self.old }
         requires pending { ArePending (H.config hold.old) (H.disk hold.old) self.old }
-        ensures advances { IfOk result (λ what. AdvancesAt (H.config hold.old) (H.moment hold.old) (H.disk hold.old) (H.disk hold.new) place what self.old self.new) }
-        ensures moves { IfOk result (λ what. (n : Need) → MarksAt place self.old n → H.moves hold.old n what hold.new) }
+        ensures advances { IfOk result (λ what. AdvancesAt (H.config hold.old) (H.moment hold.new) (H.disk hold.old) (H.disk hold.new) place what self.old self.new) }
+        ensures moves { IfOk result (λ what. (n : Need) (r : Asks) → MarksAt place self.old n → H.moves hold.old (asker since n r) what hold.new) }
         ensures same { IfOk result (λ _. H.config hold.new ≡ H.config hold.old) }
     {
         let Some(write) = self.writes.get_mut(place) else {
             unreachable!()
         };
-        let what = write.advance(alloc, hold)?;
+        let what = write.advance(alloc, hold, since)?;
         self.settle(place, is_end(&what));
         Ok(what)
     }
@@ -109,7 +102,7 @@ impl Backlog {
 
     /// Adds writes that are handed on at this moment, under the numbers from `first` on. Where memory runs out, a front
     /// part of them is added.
-    fn append(
+    pub(crate) fn append(
         &mut self,
         first: u64,
         moment: u64,
@@ -128,17 +121,5 @@ impl Backlog {
             left = rest;
         }
         Ok(())
-    }
-
-    /// Adds the writes that an event hands on, under the numbers from `first` on.
-    pub fn append_event(&mut self, first: u64, moment: u64, what: &What) -> Result<(), NoMemory>
-        requires { first + length (hands first moment what.now) < 2 ^ 64 }
-        ensures { OnOk result (self.new ≡ self.old ++ fresh_writes (pend (hands first moment what.now))) }
-    {
-        match what {
-            What::Asked(_, _, _, _, handed) => self.append(first, moment, true, handed.as_slice()),
-            What::WriteEnded(_, handed) => self.append(first, moment, false, handed.as_slice()),
-            _ => Ok(()),
-        }
     }
 }

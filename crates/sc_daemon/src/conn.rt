@@ -1,14 +1,13 @@
 //! A connection: what comes over it, the request that is served, and what was sent.
-ghost use Rattle.std.specs.Prelude.{◌≡◌, ◌+◌, ◌<◌, ◌≤◌, ◌^◌, false, true, [], Some, length, take, drop, IfOk, IfSome, IsOk, OnOk};
+ghost use Rattle.std.specs.Prelude.{◌≡◌, ◌+◌, ◌<◌, ◌≤◌, ◌^◌, false, true, [], Some, length, take, drop, IfOk, OnOk};
 ghost use Rattle.sc_daemon_action.specs.Hands.{ServesWith};
 ghost use Rattle.sc_wire_conn.specs.Ends.{end_of};
-ghost use Rattle.sc_daemon.specs.Lines.{IsDone, conn_of, new_line};
+ghost use Rattle.sc_daemon.specs.Lines.{IsDone, asker_at, conn_of, new_line};
 ghost use Rattle.sc_daemon.specs.Sessions.{Feeds};
 ghost use Rattle.sc_daemon.specs.Standings.{Rests, standing_of};
-ghost use Rattle.sc_daemon.specs.Turns.{ActsFirst_or_none, CountsFirst, CountsLine, IsIdleLine, MovesFirst, MovesHold, Reads, SaysFirst, SaysLine, ServesLine, TakesMore};
+ghost use Rattle.sc_daemon.specs.Turns.{ActsFirst_or_none, IsIdleLine, MovesFirst, MovesHold, Reads, ServesLine, TakesMore};
 ghost use Rattle.sc_daemon.specs.declared.standing.Standing.TheVariants.{Ended, Takes};
-ghost use Rattle.sc_daemon_job.specs.Setups.{setup};
-ghost use Rattle.sc_model.specs.Machine.{current, long_after, need_at, outcome_after, reserved_after, settle};
+ghost use Rattle.sc_model.specs.Conns.{current, long_after, outcome_after, reserved_after, settle};
 ghost use Rattle.sc_model.specs.Trace.{if_too_long};
 ghost use Rattle.sc_wire.specs.Streams.{served_reader};
 
@@ -17,11 +16,10 @@ use crate::standing::{Standing, standing_at};
 use crate::waiting::Waiting;
 use sc_daemon_action::{Action, act};
 use sc_daemon_hold::Hold;
-use sc_daemon_job::count_event;
+use sc_daemon_job::{Origin, Since};
 use sc_disk::LruDiskCacheAddEntry;
 use sc_entry::{ByteText, NoMemory};
 use sc_model::{Phase, What, Written};
-use sc_stats::{LevelStats, ServerStats};
 use sc_wire_conn::{End, Inbox};
 use std::alloc::Global;
 use std::marker::Model;
@@ -80,25 +78,6 @@ fn next_piece(input: &[u8], got: usize, count: u64) -> &[u8]
         &left[..count as usize]
     } else {
         left
-    }
-}
-
-/// Drops an action in a call of its own: dropped at the end of a branch it takes the check minutes.
-fn discard(acted: Action) {
-    drop(acted);
-}
-
-/// The action, once its event is counted.
-fn if_counted(counted: Result<(), NoMemory>, acted: Action) -> Result<Option<Action>, NoMemory>
-    ensures acted { IfOk result (λ a. a ≡ Some acted) }
-    ensures counted { IsOk result → IsOk counted }
-{
-    match counted {
-        Ok(()) => Ok(Some(acted)),
-        Err(refused) => {
-            discard(acted);
-            Err(refused)
-        }
     }
 }
 
@@ -271,66 +250,52 @@ impl Conn {
         }
     }
 
-    /// Does the action that is due of the first request, and counts it. `levels` is what was counted of each level.
+    /// Does the action that is due of the first request.
     fn act_first<H: Hold>(
         &mut self,
         alloc: Global,
         hold: &mut H,
-        stats: &mut ServerStats,
-        levels: &[LevelStats],
     ) -> Result<Option<Action>, NoMemory>
         requires { ServesWith (H.config hold.old) (H.disk hold.old) self.old.phase self.old.entry (current (conn_of self.old)) }
-        ensures acts { IfOk result (λ acted. ActsFirst_or_none (H.config hold.old) (H.disk hold.old) (H.disk hold.new) (H.moment hold.old) acted self.old self.new) }
-        ensures moves { IfOk result (λ acted. MovesFirst H.moves (need_at (setup (H.config hold.old)) (current (conn_of self.old)) self.old.phase) acted hold.old hold.new) }
+        ensures acts { IfOk result (λ acted. ActsFirst_or_none (H.config hold.old) (H.disk hold.old) (H.disk hold.new) (H.moment hold.new) acted self.old self.new) }
+        ensures moves { IfOk result (λ acted. MovesFirst H.moves (asker_at (H.config hold.old) self.old) acted hold.old hold.new) }
         ensures same { IfOk result (λ _. H.config hold.new ≡ H.config hold.old) }
-        ensures says { IfOk result (λ acted. SaysFirst (H.config hold.old).policy stats.old levels.now acted) }
-        ensures counts { IfOk result (λ acted. CountsFirst (H.config hold.old) (H.moment hold.old) acted self.old stats.old stats.new) }
     {
         let Some(request) = self.waiting.first() else {
             return Ok(None);
         };
-        let now = hold.now();
+        let since = Since {
+            origin: Origin::Direct,
+            last: self.last,
+            outcome: self.outcome,
+            reserved: self.reserved,
+        };
         let phase = std::mem::replace(&mut self.phase, Phase::AtOver);
         let entry = self.entry.take();
-        let acted = act(
-            alloc,
-            hold,
-            stats,
-            levels,
-            request,
-            phase,
-            entry,
-            &mut self.out,
-        )?;
-        let counted = count_event(alloc, stats, request, self.outcome, now, &acted.what);
-        if_counted(counted, acted)
+        let acted = act(alloc, hold, request, phase, entry, &mut self.out, since)?;
+        Ok(Some(acted))
     }
 
-    /// Does the action that is due of the served request, where one is, and counts it: its event. `levels` is what was
-    /// counted of each level.
+    /// Does the action that is due of the served request, where one is: its event. `free` is how many tokens are free.
     pub fn serve<H: Hold>(
         &mut self,
         alloc: Global,
         hold: &mut H,
-        stats: &mut ServerStats,
-        levels: &[LevelStats],
         free: u64,
     ) -> Result<Option<What>, NoMemory>
         requires { Rests (H.config hold.old) (H.disk hold.old) self.old.phase self.old.entry self.old.waiting }
-        ensures serves { IfOk result (λ what. ServesLine (H.config hold.old) (H.disk hold.old) (H.disk hold.new) (H.moment hold.old) free what self.old self.new) }
-        ensures moves { IfOk result (λ what. MovesHold H.moves (need_at (setup (H.config hold.old)) (current (conn_of self.old)) self.old.phase) what hold.old hold.new) }
+        ensures serves { IfOk result (λ what. ServesLine (H.config hold.old) (H.disk hold.old) (H.disk hold.new) (H.moment hold.new) free what self.old self.new) }
+        ensures moves { IfOk result (λ what. MovesHold H.moves (asker_at (H.config hold.old) self.old) what hold.old hold.new) }
         ensures same { IfOk result (λ _. H.config hold.new ≡ H.config hold.old) }
-        ensures says { IfOk result (λ what. SaysLine (H.config hold.old).policy stats.old levels.now what) }
-        ensures counts { IfOk result (λ what. CountsLine (H.config hold.old) (H.moment hold.old) what self.old stats.old stats.new) }
         ensures rests { IfOk result (λ _. Rests (H.config hold.old) (H.disk hold.new) self.new.phase self.new.entry self.new.waiting) }
     {
         if self.is_idle(free) {
             return Ok(None);
         }
-        let now = hold.now();
-        let Some(acted) = self.act_first(alloc, hold, stats, levels)? else {
+        let Some(acted) = self.act_first(alloc, hold)? else {
             return Ok(None);
         };
+        let now = hold.now();
         let Action { what, phase, entry } = acted;
         self.note_event(now, &what);
         self.move_to(phase, entry);

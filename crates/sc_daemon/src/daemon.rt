@@ -1,20 +1,18 @@
 //! A daemon: its state, what it counted, and its tokens.
-ghost use Rattle.std.specs.Prelude.{◌≡◌, ◌↔◌, ◌+◌, ◌<◌, ◌≤◌, ◌^◌, ◌++◌, IsTrue, IfOk, IsOk, OnOk, length};
-ghost use Rattle.sc_daemon.specs.Backlogs.{ArePending, fresh_writes};
-ghost use Rattle.sc_daemon.specs.Daemons.{BacksEvent, IsIdleDaemon, ReadsEvent, ServesEvent, anew, kept_after, new_daemon, passed};
+ghost use Rattle.std.specs.Prelude.{◌≡◌, ◌↔◌, ◌<◌, IsTrue, IfOk};
+ghost use Rattle.sc_daemon.specs.Backlogs.{ArePending};
+ghost use Rattle.sc_daemon.specs.Daemons.{BacksEvent, IsIdleDaemon, ReadsEvent, ServesEvent, anew, new_daemon, passed};
 ghost use Rattle.sc_daemon.specs.Standings.{Rests};
 ghost use Rattle.sc_daemon_job.specs.LevelRows.{origin_of};
-ghost use Rattle.sc_model.specs.Machine as machine;
-ghost use Rattle.sc_model.specs.Rows.{by_backfill, level_row};
-ghost use Rattle.sc_model.specs.Trace.{hands};
+ghost use Rattle.sc_model.specs.Rows.{by_backfill};
 ghost use Rattle.sc_daemon_owned.specs.State.{AreLevelsWithin, disk_at};
 ghost use Rattle.sc_daemon_owned.specs.Facts.{config_of};
 
-use crate::backlog::{Backlog, handed_count};
+use crate::backlog::Backlog;
 use crate::conn::Conn;
 use crate::reading::Reading;
 use sc_daemon_hold::Hold;
-use sc_daemon_job::{Origin, count_level};
+use sc_daemon_job::{Origin, Since, adds_nothing};
 use sc_daemon_owned::{Owned, Parts};
 use sc_entry::NoMemory;
 use sc_model::{Event, Owner, What};
@@ -26,12 +24,12 @@ use std::marker::Model;
 /// writes that were handed on and are not done.
 #[derive(Drop)]
 pub struct Daemon<P: Parts> {
-    owned: Owned<P>,
-    stats: ServerStats,
-    free: u64,
-    levels: Vec<LevelStats>,
-    background: Backlog,
-    handed: u64,
+    pub(crate) owned: Owned<P>,
+    pub(crate) stats: ServerStats,
+    pub(crate) free: u64,
+    pub(crate) levels: Vec<LevelStats>,
+    pub(crate) background: Backlog,
+    pub(crate) handed: u64,
 }
 
 impl<P: Parts> Model for Daemon<P> {
@@ -44,18 +42,6 @@ impl<P: Parts> Model for Daemon<P> {
     ghost view = { λ d. record { state = d.owned; stats = d.stats; free = d.free; levels = d.levels.items; background = d.background; handed = d.handed } };
 }
 
-/// The free tokens after an event.
-fn free_after(free: u64, what: &What) -> u64
-    requires { free + 1 < 2 ^ 64 }
-    ensures { result ≡ machine.free_after free what.now }
-{
-    match what {
-        What::TokenTaken => free.saturating_sub(1),
-        What::Ran(_) => free + 1,
-        _ => free,
-    }
-}
-
 /// Whose a handed write is, which was handed on at this moment.
 fn handed_origin(backfill: bool, at: u64) -> Origin
     ensures { origin_of result ≡ by_backfill backfill at }
@@ -64,25 +50,6 @@ fn handed_origin(backfill: bool, at: u64) -> Origin
         Origin::Backfill
     } else {
         Origin::FromPut(at)
-    }
-}
-
-/// Drops an event in a call of its own: dropped at the end of a branch it takes the check minutes.
-fn discard(event: Event) {
-    drop(event);
-}
-
-/// The event, once what it leaves is kept.
-fn if_kept(kept: Result<(), NoMemory>, event: Event) -> Result<Event, NoMemory>
-    ensures event { IfOk result (λ e. e ≡ event) }
-    ensures kept { IsOk result → IsOk kept }
-{
-    match kept {
-        Ok(()) => Ok(event),
-        Err(refused) => {
-            discard(event);
-            Err(refused)
-        }
     }
 }
 
@@ -222,62 +189,6 @@ impl<P: Parts> Daemon<P> {
         }
     }
 
-    /// Keeps the writes that an event hands on.
-    fn keep_handed(&mut self, moment: u64, what: &What) -> Result<(), NoMemory>
-        ensures { OnOk result (self.new ≡ record self.old { background = self.old.background ++ fresh_writes (machine.pend (hands self.old.handed moment what.now)); handed = self.old.handed + length (hands self.old.handed moment what.now) }) }
-    {
-        let count = handed_count(what);
-        let Some(handed) = self.handed.checked_add(count) else {
-            return Err(NoMemory);
-        };
-        self.background.append_event(self.handed, moment, what)?;
-        self.handed = handed;
-        Ok(())
-    }
-
-    /// Adds what an event counts at the level that it names, where levels are counted.
-    fn count(
-        &mut self,
-        alloc: Global,
-        origin: Origin,
-        last: u64,
-        since: u64,
-        moment: u64,
-        what: &What,
-    )
-        ensures { self.new ≡ record self.old { levels = machine.counted_level self.old.state.config.policy (level_row (origin_of origin) last since moment what.now) what.now self.old.levels } }
-    {
-        let single = self.owned.is_single();
-        count_level(
-            alloc,
-            &mut self.levels,
-            single,
-            origin,
-            last,
-            since,
-            moment,
-            what,
-        );
-    }
-
-    /// Keeps what an event of a request counts at a level, which tokens it takes or gives back, and the writes that it hands
-    /// on. `last` is the moment of the request's event before, `reserved` that of its last reservation.
-    fn keep(
-        &mut self,
-        alloc: Global,
-        last: u64,
-        reserved: u64,
-        moment: u64,
-        what: &What,
-    ) -> Result<(), NoMemory>
-        requires { self.old.free + 1 < 2 ^ 64 }
-        ensures { OnOk result (self.new ≡ kept_after self.old last reserved moment what.now) }
-    {
-        self.count(alloc, Origin::Direct, last, reserved, moment, what);
-        self.free = free_after(self.free, what);
-        self.keep_handed(moment, what)
-    }
-
     /// Does the action that is due at a connection, where one is.
     pub(crate) fn serve(
         &mut self,
@@ -286,37 +197,23 @@ impl<P: Parts> Daemon<P> {
         conn: &mut Conn,
     ) -> Result<Event, NoMemory>
         requires rests { Rests (config_of self.old.state.config) (disk_at self.old.state) conn.old.phase conn.old.entry conn.old.waiting }
-        requires free { self.old.free + 1 < 2 ^ 64 }
         ensures serves { IfOk result (λ event. ServesEvent number event self.old self.new conn.old conn.new) }
         ensures rests { IfOk result (λ _. Rests (config_of self.old.state.config) (disk_at self.new.state) conn.new.phase conn.new.entry conn.new.waiting) }
-        ensures free { IfOk result (λ _. self.new.free ≤ self.old.free + 1) }
     {
-        let moment = self.now();
         let at = conn.at();
-        let last = conn.last();
-        let reserved = conn.reserved();
-        match conn.serve(
-            alloc,
-            &mut self.owned,
-            &mut self.stats,
-            &self.levels,
-            self.free,
-        )? {
+        let free = self.free;
+        adds_nothing(&self.stats);
+        match conn.serve(alloc, self, free)? {
             None => Ok(self.event(What::Idle)),
-            Some(what) => {
-                let kept = self.keep(alloc, last, reserved, moment, &what);
-                let owner = Owner::Request(number, at);
-                let event = Event {
-                    moment,
-                    owner,
-                    what,
-                };
-                if_kept(kept, event)
-            }
+            Some(what) => Ok(Event {
+                moment: self.now(),
+                owner: Owner::Request(number, at),
+                what,
+            }),
         }
     }
 
-    /// Does the next event of the handed write at this place among those that are left, where there is one, and counts it.
+    /// Does the next event of the handed write at this place among those that are left, where there is one.
     pub(crate) fn back(&mut self, alloc: Global, place: u64) -> Result<Event, NoMemory>
         requires pending { ArePending (config_of self.old.state.config) (disk_at self.old.state) self.old.background }
         ensures backs { IfOk result (λ event. BacksEvent place event self.old self.new) }
@@ -325,17 +222,20 @@ impl<P: Parts> Daemon<P> {
             return Ok(self.event(What::Idle));
         };
         let owner = Owner::Write(write.number());
-        let origin = handed_origin(write.is_backfill(), write.at());
-        let since = write.since();
-        let moment = self.now();
-        let what = self
-            .background
-            .advance(alloc, &mut self.owned, place as usize)?;
-        self.count(alloc, origin, 0, since, moment, &what);
+        let since = Since {
+            origin: handed_origin(write.is_backfill(), write.at()),
+            last: 0,
+            outcome: 0,
+            reserved: write.since(),
+        };
+        // Lent out for the step, and put back: none is handed on by it.
+        let mut backlog = std::mem::replace(&mut self.background, Backlog::new(alloc));
+        let what = backlog.advance(alloc, self, place as usize, since);
+        self.background = backlog;
         Ok(Event {
-            moment,
+            moment: self.now(),
             owner,
-            what,
+            what: what?,
         })
     }
 }

@@ -129,12 +129,10 @@ fn step_all<P: Parts>(
 ) -> Result<(), NoMemory>
     requires idle { IsIdleDaemon daemon.old }
     requires told { daemon.old.state.told ≡ true }
-    requires handed { daemon.old.handed ≡ 0 }
     requires conns { driver.old.conns.items ≡ lines_of daemon.old.state.config.limit (length inputs.now) }
     requires events { driver.old.events.items ≡ [] }
     ensures { IfOk result (λ _. Progress daemon.old daemon.new inputs.now steps.now [] driver.new.events.items driver.new.conns.items) }
 {
-    every_run();
     for step in steps {
         driver.step(alloc, daemon, inputs, step)?;
     }

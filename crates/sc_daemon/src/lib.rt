@@ -7,6 +7,7 @@ mod daemon;
 mod driven;
 mod driver;
 mod drives;
+mod holding;
 mod reading;
 mod session;
 mod standing;

@@ -1,5 +1,5 @@
 //! A daemon that serves one connection after the other.
-ghost use Rattle.std.specs.Prelude.{◌≡◌, ◌+◌, ◌<◌, ◌^◌, [], true, false, IfOk, OnErr, OnOk};
+ghost use Rattle.std.specs.Prelude.{◌≡◌, [], true, false, IfOk, OnErr, OnOk};
 ghost use Rattle.sc_wire_conn.specs.Ends.{end_of};
 ghost use Rattle.sc_daemon.specs.Daemons.{BacksEvent, IsIdleDaemon, ServesEvent, anew, passed};
 ghost use Rattle.sc_daemon.specs.Drives.{line_end};
@@ -35,14 +35,6 @@ impl<P: Parts> Model for Session<P> {
     ghost view = { λ s. record { daemon = s.daemon; line = s.conn; lost = s.lost } };
 
     ghost invariant = { λ s. s.lost ≡ false → IsServing s.daemon s.conn };
-}
-
-/// Whether no action is done any more: memory ran out within one, or no token more could be counted.
-fn is_stopped(lost: bool, free: u64) -> bool
-    ensures fine { result ≡ false → lost ≡ false }
-    ensures free { result ≡ false → free + 1 < 2 ^ 64 }
-{
-    lost || free == u64::MAX
 }
 
 impl<P: Parts> Session<P> {
@@ -138,9 +130,9 @@ impl<P: Parts> Session<P> {
         ensures serves { IfOk result (λ event. ServesEvent 0 event self.old.daemon self.new.daemon self.old.line self.new.line) }
         ensures stays { IfOk result (λ _. (self.old.lost ≡ false) × (self.new.lost ≡ false)) }
     {
-        let stopped = is_stopped(self.lost, self.daemon.free());
+        let lost = self.lost;
         self.lost = true;
-        if stopped {
+        if lost {
             return Err(NoMemory);
         }
         let event = self.daemon.serve(alloc, 0, &mut self.conn)?;

@@ -1,15 +1,19 @@
 //! A write that was handed on and is not done.
-ghost use Rattle.std.specs.Prelude.{◌≡◌, ◌<◌, false, length, None, Some, IfOk};
+ghost use Rattle.std.specs.Prelude.{◌≡◌, ◌<◌, false, None, Some, IfOk};
 ghost use Rattle.sc_daemon.specs.Backlogs.{Advances, Goes, IsPending, MarksAs};
-ghost use Rattle.sc_model.specs.Machine.{reserved_after, stage_after};
-ghost use Rattle.sc_model.specs.Follows.{kind_at};
+ghost use Rattle.sc_daemon_job.specs.Askers.{asker};
+ghost use Rattle.sc_model.specs.Conns.{reserved_after};
+ghost use Rattle.sc_model.specs.Pendings.{stage_after};
+ghost use Rattle.sc_model.specs.Dues.{kind_at};
 ghost use Rattle.sc_model.specs.Trace.{ends_write};
 ghost use Rattle.sc_model.specs.World.{Need};
+ghost use Rattle.sc_model.specs.declared.message.Request.{Request as Asks};
 ghost use Rattle.sc_model.specs.declared.level.LevelKind.TheVariants.{Disk, Remote};
 ghost use Rattle.sc_model.specs.declared.phase.Stage.TheVariants.{Filled as IsFilled, Fresh, Reserved as IsReserved};
 
-use sc_daemon_action::{EntryAction, commit_entry, fill_entry, open_entry};
+use sc_daemon_action::{commit_entry, fill_entry, open_entry};
 use sc_daemon_hold::Hold;
+use sc_daemon_job::Since;
 use sc_disk::LruDiskCacheAddEntry;
 use sc_entry::NoMemory;
 use sc_model::{Bytes, Handed, LevelKind, Mode, Stage, What, Written};
@@ -146,91 +150,101 @@ impl Write {
     }
 
     /// Opens an entry at its disk level.
-    fn open<H: Hold>(&mut self, hold: &mut H) -> Result<What, NoMemory>
+    fn open<H: Hold>(&mut self, alloc: Global, hold: &mut H, since: Since) -> Result<What, NoMemory>
         requires pending { IsPending (H.config hold.old) (H.disk hold.old) self.old }
         requires fresh { self.old.pending.stage ≡ Fresh }
         requires disk { kind_at (H.config hold.old).levels self.old.pending.handed.level ≡ Disk }
         ensures goes { IfOk result (λ what. Goes (H.config hold.old) (H.disk hold.old) (H.disk hold.new) what self.old self.new) }
-        ensures moves { IfOk result (λ what. (n : Need) → H.moves hold.old n what hold.new) }
+        ensures moves { IfOk result (λ what. (n : Need) (r : Asks) → H.moves hold.old (asker since n r) what hold.new) }
         ensures same { IfOk result (λ _. H.config hold.new ≡ H.config hold.old) }
     {
-        let action = open_entry(hold, self.level, &self.bytes)?;
+        let action = open_entry(alloc, hold, self.level, &self.bytes, since)?;
         self.entry = action.entry;
         Ok(action.what)
     }
 
     /// Writes at its remote level.
-    fn put<H: Hold>(&mut self, alloc: Global, hold: &mut H) -> Result<What, NoMemory>
+    fn put<H: Hold>(&mut self, alloc: Global, hold: &mut H, since: Since) -> Result<What, NoMemory>
         requires pending { IsPending (H.config hold.old) (H.disk hold.old) self.old }
         requires fresh { self.old.pending.stage ≡ Fresh }
         requires remote { kind_at (H.config hold.old).levels self.old.pending.handed.level ≡ Remote }
         ensures goes { IfOk result (λ what. Goes (H.config hold.old) (H.disk hold.old) (H.disk hold.new) what self.old self.new) }
-        ensures moves { IfOk result (λ what. (n : Need) → H.moves hold.old n what hold.new) }
+        ensures moves { IfOk result (λ what. (n : Need) (r : Asks) → H.moves hold.old (asker since n r) what hold.new) }
         ensures same { IfOk result (λ _. H.config hold.new ≡ H.config hold.old) }
     {
         let key = self.bytes.key.try_clone()?;
         let bytes = self.bytes.bytes.try_clone()?;
-        let written = hold.write(alloc, self.level, &self.bytes)?;
+        let written = hold.write(alloc, self.level, &self.bytes, since)?;
         Ok(What::Wrote(self.level, key, bytes, Mode::Whole, self.bytes.run, written))
     }
 
     /// Fills the entry that it holds.
-    fn fill<H: Hold>(&mut self, hold: &mut H) -> Result<What, NoMemory>
+    fn fill<H: Hold>(&mut self, alloc: Global, hold: &mut H, since: Since) -> Result<What, NoMemory>
         requires pending { IsPending (H.config hold.old) (H.disk hold.old) self.old }
         requires reserved { self.old.pending.stage ≡ IsReserved }
         ensures goes { IfOk result (λ what. Goes (H.config hold.old) (H.disk hold.old) (H.disk hold.new) what self.old self.new) }
-        ensures moves { IfOk result (λ what. (n : Need) → H.moves hold.old n what hold.new) }
+        ensures moves { IfOk result (λ what. (n : Need) (r : Asks) → H.moves hold.old (asker since n r) what hold.new) }
         ensures same { IfOk result (λ _. H.config hold.new ≡ H.config hold.old) }
     {
         let Some(held) = self.entry.take() else {
             unreachable!()
         };
-        let action = fill_entry(hold, self.level, held, &self.bytes)?;
+        let action = fill_entry(alloc, hold, self.level, held, &self.bytes, since)?;
         self.entry = action.entry;
         Ok(action.what)
     }
 
     /// Commits the entry that it holds.
-    fn commit<H: Hold>(&mut self, hold: &mut H) -> Result<What, NoMemory>
+    fn commit<H: Hold>(
+        &mut self,
+        alloc: Global,
+        hold: &mut H,
+        since: Since,
+    ) -> Result<What, NoMemory>
         requires pending { IsPending (H.config hold.old) (H.disk hold.old) self.old }
         requires filled { self.old.pending.stage ≡ IsFilled }
         ensures goes { IfOk result (λ what. Goes (H.config hold.old) (H.disk hold.old) (H.disk hold.new) what self.old self.new) }
-        ensures moves { IfOk result (λ what. (n : Need) → MarksAs n self.old.pending → H.moves hold.old n what hold.new) }
+        ensures moves { IfOk result (λ what. (n : Need) (r : Asks) → MarksAs n self.old.pending → H.moves hold.old (asker since n r) what hold.new) }
         ensures same { IfOk result (λ _. H.config hold.new ≡ H.config hold.old) }
     {
         let Some(held) = self.entry.take() else {
             unreachable!()
         };
-        let action = commit_entry(hold, self.level, held, &self.bytes)?;
+        let action = commit_entry(alloc, hold, self.level, held, &self.bytes, since)?;
         Ok(action.what)
     }
 
     /// Does its next event, with the entry that it holds.
-    fn act<H: Hold>(&mut self, alloc: Global, hold: &mut H) -> Result<What, NoMemory>
+    fn act<H: Hold>(&mut self, alloc: Global, hold: &mut H, since: Since) -> Result<What, NoMemory>
         requires pending { IsPending (H.config hold.old) (H.disk hold.old) self.old }
         ensures goes { IfOk result (λ what. Goes (H.config hold.old) (H.disk hold.old) (H.disk hold.new) what self.old self.new) }
-        ensures moves { IfOk result (λ what. (n : Need) → MarksAs n self.old.pending → H.moves hold.old n what hold.new) }
+        ensures moves { IfOk result (λ what. (n : Need) (r : Asks) → MarksAs n self.old.pending → H.moves hold.old (asker since n r) what hold.new) }
         ensures same { IfOk result (λ _. H.config hold.new ≡ H.config hold.old) }
     {
         match self.stage {
             Stage::Fresh => match hold.kind(self.level) {
-                LevelKind::Disk => self.open(hold),
-                LevelKind::Remote => self.put(alloc, hold),
+                LevelKind::Disk => self.open(alloc, hold, since),
+                LevelKind::Remote => self.put(alloc, hold, since),
             },
-            Stage::Reserved => self.fill(hold),
-            Stage::Filled => self.commit(hold),
+            Stage::Reserved => self.fill(alloc, hold, since),
+            Stage::Filled => self.commit(alloc, hold, since),
         }
     }
 
     /// Does its next event.
-    pub fn advance<H: Hold>(&mut self, alloc: Global, hold: &mut H) -> Result<What, NoMemory>
+    pub fn advance<H: Hold>(
+        &mut self,
+        alloc: Global,
+        hold: &mut H,
+        since: Since,
+    ) -> Result<What, NoMemory>
         requires { IsPending (H.config hold.old) (H.disk hold.old) self.old }
-        ensures advances { IfOk result (λ what. Advances (H.config hold.old) (H.moment hold.old) (H.disk hold.old) (H.disk hold.new) what self.old self.new) }
-        ensures moves { IfOk result (λ what. (n : Need) → MarksAs n self.old.pending → H.moves hold.old n what hold.new) }
+        ensures advances { IfOk result (λ what. Advances (H.config hold.old) (H.moment hold.new) (H.disk hold.old) (H.disk hold.new) what self.old self.new) }
+        ensures moves { IfOk result (λ what. (n : Need) (r : Asks) → MarksAs n self.old.pending → H.moves hold.old (asker since n r) what hold.new) }
         ensures same { IfOk result (λ _. H.config hold.new ≡ H.config hold.old) }
     {
+        let what = self.act(alloc, hold, since)?;
         let now = hold.now();
-        let what = self.act(alloc, hold)?;
         self.stage = stage_after(self.stage, &what);
         self.since = since_after(self.since, now, &what);
         Ok(what)

@@ -2,7 +2,7 @@
 use Rattle.std.proofs.Common.{◌≡◌, ◌≢◌, ◌==◌, ℕ, ◌++◌, Bool, true, false, List, [], length, Option, Some, None, refl, ap, sym, subst, ◌∙◌, eqb-true, eq-eqb}
 use Rattle.sc_daemon_action.specs.Hands.{ActsWith, IsOwn, ServesWith, StandsWith, writes}
 use Rattle.sc_daemon_action.specs.Serves.{Serves, Stands}
-use Rattle.sc_daemon_action.specs.Telling.{ActsFor, IsStill}
+use Rattle.sc_daemon_action.specs.Acts.{Acts, IsStill}
 use Rattle.sc_daemon_action.specs.declared.acted.Acted.{Acted}
 use Rattle.sc_disk.specs.Store.{AddEntry}
 use Rattle.sc_store_disk.specs.DiskStores.{DiskStore, OpenEntry, entry_at, entry_path}
@@ -205,5 +205,5 @@ stands_none k d (SizeAsk a b f) r stands = (stands, refl)
 stands_none k d (AtEnded a) r stands = (stands, refl)
 stands_none k d AtOver r stands = (stands, refl)
 
-pub acts_none : (k : Config) (d : ℕ → DiskStore) (r : Request) (p : Phase) (m : ℕ) (a : Acted) → ActsFor k r p m a → ActsWith k d r p m (record { what = a.what; phase = a.phase; entry = None })
+pub acts_none : (k : Config) (d : ℕ → DiskStore) (r : Request) (p : Phase) (m : ℕ) (a : Acted) → Acts k r p m a → ActsWith k d r p m (record { what = a.what; phase = a.phase; entry = None })
 acts_none k d r p m a acts = record { fits = acts.fits; then = acts.then; stands = stands_none k d a.phase r acts.stands; own = still_own a.what acts.still; there = acts.there }

@@ -8,7 +8,8 @@ use Rattle.sc_store_disk.specs.DiskStores.{DiskStore}
 use Rattle.sc_daemon_hold.specs.Holding.{Hand, HandsBy, KeepsHands}
 use Rattle.sc_daemon_job.specs.Setups.{Config, setup}
 use Rattle.sc_model.specs.Follows.{Fits}
-use Rattle.sc_model.specs.Machine.{after, due_at, next_writes}
+use Rattle.sc_model.specs.DueAt.{due_at}
+use Rattle.sc_model.specs.Phases.{after, next_writes}
 use Rattle.sc_model.specs.Plan.{goes_on}
 use Rattle.sc_model.specs.There.{AreHanded, AreLevels, handed_in}
 use Rattle.sc_model.specs.declared.event.What.{What}

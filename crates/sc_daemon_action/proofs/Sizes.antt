@@ -1,7 +1,7 @@
 -- What levels told, one after the other.
 use Rattle.std.proofs.Common.{◌≡◌, List, [], ◌∷◌, ◌++◌, Option, Some, None, refl, ap, sym, ◌∙◌, append_assoc}
 use Rattle.sc_daemon_action.specs.Sizes.{counters_of}
-use Rattle.sc_model.specs.Follows.{counters_in}
+use Rattle.sc_model.specs.Describing.{counters_in}
 use Rattle.sc_model.specs.declared.phase.Sized.{Sized}
 use Rattle.sc_stats.specs.declared.counters.LevelStats.{LevelStats}
 

@@ -1,8 +1,10 @@
 -- What holds of each request whose reply tells statistics.
 use Rattle.std.proofs.Common.{◌≡◌, [], refl}
-use Rattle.sc_daemon_action.specs.Serves.{IsCompile, IsGetRaw, TellsStatistics}
-use Rattle.sc_model.specs.Follows.{Begins, server_info, stats_reply}
-use Rattle.sc_model.specs.Machine.{begin_phase, phase_next}
+use Rattle.sc_daemon_action.specs.Serves.{IsCompile, IsGetRaw}
+use Rattle.sc_daemon_hold.specs.Beginning.{TellsStatistics}
+use Rattle.sc_model.specs.Describing.{server_info, stats_reply}
+use Rattle.sc_model.specs.Follows.{Begins}
+use Rattle.sc_model.specs.Phases.{begin_phase, phase_next}
 use Rattle.sc_model.specs.Script.{Setup}
 use Rattle.sc_model.specs.declared.event.Told.TheVariants.{Stats as TellsStats}
 use Rattle.sc_model.specs.declared.message.Request.{Request}

@@ -6,8 +6,10 @@ use Rattle.sc_disk.specs.Store.{AddEntry}
 use Rattle.sc_store_disk.specs.DiskStores.{DiskStore}
 use Rattle.sc_daemon_hold.specs.Holding.{Hand, IsHeld, hand_at}
 use Rattle.sc_daemon_job.specs.Setups.{Config, setup}
-use Rattle.sc_model.specs.Follows.{Fits, kind_at}
-use Rattle.sc_model.specs.Machine.{after, due_at}
+use Rattle.sc_model.specs.Dues.{kind_at}
+use Rattle.sc_model.specs.Follows.{Fits}
+use Rattle.sc_model.specs.DueAt.{due_at}
+use Rattle.sc_model.specs.Phases.{after}
 use Rattle.sc_model.specs.There.{AreHanded, AreLevels, handed_in}
 use Rattle.sc_model.specs.declared.event.What.{What}
 use Rattle.sc_model.specs.declared.event.What.TheVariants.{Passed}

@@ -6,4 +6,3 @@ pub mod Ran
 pub mod Sends
 pub mod Serves
 pub mod Sizes
-pub mod Telling

@@ -1,8 +1,10 @@
 -- Where a job stands after a run that gave an output, by its judgement.
 use Rattle.std.specs.Prelude.{ℕ, Bool, List}
 use Rattle.sc_daemon_job.specs.Setups.{Config, setup}
-use Rattle.sc_model.specs.Job.{Judged, finish_judged, judged_verdict, run_bytes}
-use Rattle.sc_model.specs.Machine.{ending_of, judged_phase}
+use Rattle.sc_model.specs.Finishing.{finish_judged}
+use Rattle.sc_model.specs.Job.{run_bytes}
+use Rattle.sc_model.specs.Judging.{Judged, judged_verdict}
+use Rattle.sc_model.specs.Phases.{ending_of, judged_phase}
 use Rattle.sc_model.specs.declared.event.RunOutput.{RunOutput}
 use Rattle.sc_model.specs.declared.message.Compile.{Compile as CompileRequest}
 use Rattle.sc_model.specs.declared.message.Request.TheVariants.{Compile}

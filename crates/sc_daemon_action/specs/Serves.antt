@@ -2,10 +2,10 @@
 use Rattle.std.specs.Prelude.{◌<◌, length, Option, Some, None}
 use Rattle.sc_model.specs.There.{AreLevels}
 use Rattle.sc_wire.specs.Requests.{IsServed}
-use Rattle.sc_daemon_hold.specs.Quiet.{IsQuietVerdict}
+use Rattle.sc_daemon_hold.specs.Beginning.{TellsStatistics}
 use Rattle.sc_daemon_job.specs.Setups.{Config}
 use Rattle.sc_model.specs.declared.message.Request.{Request}
-use Rattle.sc_model.specs.declared.message.Request.TheVariants.{Compile, GetStats, Shutdown, StorageGetRaw, StoragePutRaw}
+use Rattle.sc_model.specs.declared.message.Request.TheVariants.{Compile, StorageGetRaw, StoragePutRaw}
 use Rattle.sc_model.specs.declared.phase.Ending.{Ending}
 use Rattle.sc_model.specs.declared.phase.Phase.{Phase}
 use Rattle.sc_model.specs.declared.phase.Phase.TheVariants.{AtAsk, AtBegin, AtDist, AtEnd, AtEnded, AtFinish, AtKey, AtOver, AtPlace, AtRun, AtSend, AtStarted, AtStore, AtTake, AtWrite, RawAsk, SizeAsk}
@@ -13,12 +13,6 @@ use Rattle.sc_model.specs.declared.phase.Phase.TheVariants.{AtAsk, AtBegin, AtDi
 abbrev pub IsCompile : Request → Type 0
 IsCompile (Compile c) = Unit {0}
 IsCompile _ = ⊥
-
--- a request whose reply tells statistics
-abbrev pub TellsStatistics : Request → Type 0
-TellsStatistics GetStats = Unit {0}
-TellsStatistics Shutdown = Unit {0}
-TellsStatistics _ = ⊥
 
 abbrev pub IsGetRaw : Request → Type 0
 IsGetRaw (StorageGetRaw k) = Unit {0}
@@ -42,7 +36,7 @@ Serves k (AtDist work) r = IsCompile r
 Serves k (AtTake work) r = IsCompile r
 Serves k (AtRun work) r = IsCompile r
 Serves k (AtEnd v task ending) r = IsCompile r
-Serves k (AtStore v task b ending) r = IsCompile r × IsQuietVerdict v
+Serves k (AtStore v task b ending) r = IsCompile r
 Serves k (AtWrite b ls f ending) r = AreLevels (length k.levels) ls × IsWriter r ending
 Serves k (AtFinish ns last) r = IsCompile r
 Serves k (RawAsk l key) r = IsGetRaw r × (l < length k.levels)

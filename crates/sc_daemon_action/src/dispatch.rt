@@ -1,19 +1,18 @@
 //! One action of a request.
-ghost use Rattle.std.specs.Prelude.{◌≡◌, false, List, IfOk};
+ghost use Rattle.std.specs.Prelude.{◌≡◌, false, IfOk};
 ghost use Rattle.sc_daemon_action.specs.Acts.{Acts};
 ghost use Rattle.sc_daemon_action.specs.Hands.{ActsWith, ServesWith, hand_of, writes};
 ghost use Rattle.sc_daemon_action.specs.Sends.{Adds};
-ghost use Rattle.sc_daemon_action.specs.Serves.{Serves, TellsStatistics};
-ghost use Rattle.sc_daemon_action.specs.Telling.{ActsFor, SaysCounted};
+ghost use Rattle.sc_daemon_action.specs.Serves.{Serves};
+ghost use Rattle.sc_daemon_hold.specs.Beginning.{TellsStatistics};
 ghost use Rattle.sc_daemon_hold.specs.Holding.{HandsBy, KeepsHands};
+ghost use Rattle.sc_daemon_job.specs.Askers.{asker};
 ghost use Rattle.sc_daemon_job.specs.Setups.{setup};
-ghost use Rattle.sc_model.specs.Machine.{need_at};
+ghost use Rattle.sc_daemon_job.specs.declared.since.Since.{Since as Moments};
+ghost use Rattle.sc_model.specs.Conns.{need_at};
 ghost use Rattle.sc_model.specs.Trace.{sent_by};
 ghost use Rattle.sc_model.specs.declared.message.Request.TheVariants.{Compile as CompileOf, StorageGetRaw, StoragePutRaw};
 ghost use Rattle.sc_model.specs.declared.message.Request.TheVariants as requests;
-ghost use Rattle.sc_model.specs.declared.level.Policy.{Policy as PolicyType};
-ghost use Rattle.sc_stats.specs.declared.counters.LevelStats.{LevelStats as Counters};
-ghost use Rattle.sc_stats.specs.declared.counters.ServerStats.{ServerStats as Stats};
 
 use crate::acted::{Acted, Action, holding_none};
 use crate::early::{act_begin, act_key};
@@ -27,10 +26,11 @@ use crate::telling::{
 };
 use crate::writing::{act_writing, is_write};
 use sc_daemon_hold::Hold;
+use sc_daemon_job::Since;
 use sc_disk::LruDiskCacheAddEntry;
 use sc_entry::{ByteText, NoMemory, Text};
 use sc_model::{Compile, Phase, Request};
-use sc_stats::{LevelStats, ServerStats};
+use sc_stats::ServerStats;
 use std::alloc::Global;
 
 /// Does the action that is due of a compile.
@@ -40,11 +40,12 @@ fn act_compile<H: Hold>(
     request: &Compile,
     phase: Phase,
     out: &mut Vec<u8>,
+    since: Since,
 ) -> Result<Acted, NoMemory>
     requires serves { Serves (H.config hold.old) phase (CompileOf request.now) }
     requires plain { writes phase ≡ false }
-    ensures acts { IfOk result (λ a. Acts (H.config hold.old) (CompileOf request.now) phase (H.moment hold.old) a) }
-    ensures moves { IfOk result (λ a. H.moves hold.old (need_at (setup (H.config hold.old)) (CompileOf request.now) phase) a.what hold.new) }
+    ensures acts { IfOk result (λ a. Acts (H.config hold.old) (CompileOf request.now) phase (H.moment hold.new) a) }
+    ensures moves { IfOk result (λ a. H.moves hold.old (asker since (need_at (setup (H.config hold.old)) (CompileOf request.now) phase) (CompileOf request.now)) a.what hold.new) }
     ensures same { IfOk result (λ a. H.config hold.new ≡ H.config hold.old) }
     ensures sent { IfOk result (λ a. Adds (H.config hold.old) (sent_by a.what) out.old.items out.new.items) }
 {
@@ -53,14 +54,14 @@ fn act_compile<H: Hold>(
         Phase::AtSend(reply) => act_send(alloc, hold, reply, out),
         Phase::AtStarted(task) => act_started(alloc, hold, request, task, out),
         Phase::AtKey(task, first) => act_key(alloc, hold, request, task, first),
-        Phase::AtAsk(job, level) => act_ask(alloc, hold, request, job, level),
+        Phase::AtAsk(job, level) => act_ask(alloc, hold, request, job, level, since),
         Phase::AtPlace(job, entry, duration) => act_place(
             alloc, hold, request, job, entry, duration,
         ),
         Phase::AtDist(work) => act_dist(alloc, hold, request, work),
         Phase::AtTake(work) => act_take(hold, request, work),
         Phase::AtRun(work) => act_run(alloc, hold, request, work),
-        Phase::AtEnd(verdict, task, ending) => act_end(hold, request, verdict, task, ending),
+        Phase::AtEnd(verdict, task, ending) => act_end(alloc, hold, request, verdict, task, ending),
         Phase::AtStore(verdict, task, bytes, ending) => {
             act_store(alloc, hold, request, verdict, task, bytes, ending)
         }
@@ -76,16 +77,17 @@ fn act_get_raw<H: Hold>(
     key: &Text,
     phase: Phase,
     out: &mut Vec<u8>,
+    since: Since,
 ) -> Result<Acted, NoMemory>
     requires { Serves (H.config hold.old) phase (StorageGetRaw key.now) }
-    ensures acts { IfOk result (λ a. Acts (H.config hold.old) (StorageGetRaw key.now) phase (H.moment hold.old) a) }
-    ensures moves { IfOk result (λ a. H.moves hold.old (need_at (setup (H.config hold.old)) (StorageGetRaw key.now) phase) a.what hold.new) }
+    ensures acts { IfOk result (λ a. Acts (H.config hold.old) (StorageGetRaw key.now) phase (H.moment hold.new) a) }
+    ensures moves { IfOk result (λ a. H.moves hold.old (asker since (need_at (setup (H.config hold.old)) (StorageGetRaw key.now) phase) (StorageGetRaw key.now)) a.what hold.new) }
     ensures same { IfOk result (λ a. H.config hold.new ≡ H.config hold.old) }
     ensures sent { IfOk result (λ a. Adds (H.config hold.old) (sent_by a.what) out.old.items out.new.items) }
 {
     match phase {
         Phase::AtBegin => act_begin_get(alloc, hold, key),
-        Phase::RawAsk(level, wanted) => act_raw_ask(alloc, hold, key, level, wanted),
+        Phase::RawAsk(level, wanted) => act_raw_ask(alloc, hold, key, level, wanted, since),
         Phase::AtSend(reply) => act_send(alloc, hold, reply, out),
         _ => unreachable!(),
     }
@@ -102,8 +104,8 @@ fn act_put_raw<H: Hold>(
 ) -> Result<Acted, NoMemory>
     requires serves { Serves (H.config hold.old) phase (StoragePutRaw key.now put.now) }
     requires plain { writes phase ≡ false }
-    ensures acts { IfOk result (λ a. Acts (H.config hold.old) (StoragePutRaw key.now put.now) phase (H.moment hold.old) a) }
-    ensures moves { IfOk result (λ a. H.moves hold.old (need_at (setup (H.config hold.old)) (StoragePutRaw key.now put.now) phase) a.what hold.new) }
+    ensures acts { IfOk result (λ a. Acts (H.config hold.old) (StoragePutRaw key.now put.now) phase (H.moment hold.new) a) }
+    ensures moves { IfOk result (λ a. (since : Moments) → H.moves hold.old (asker since (need_at (setup (H.config hold.old)) (StoragePutRaw key.now put.now) phase) (StoragePutRaw key.now put.now)) a.what hold.new) }
     ensures same { IfOk result (λ a. H.config hold.new ≡ H.config hold.old) }
     ensures sent { IfOk result (λ a. Adds (H.config hold.old) (sent_by a.what) out.old.items out.new.items) }
 {
@@ -119,23 +121,20 @@ fn act_stats<H: Hold>(
     alloc: Global,
     hold: &mut H,
     request: &Request,
-    stats: &ServerStats,
-    levels: &[LevelStats],
     phase: Phase,
     out: &mut Vec<u8>,
 ) -> Result<Acted, NoMemory>
     requires tells { TellsStatistics request.now }
     requires serves { Serves (H.config hold.old) phase request.now }
-    ensures acts { IfOk result (λ a. ActsFor (H.config hold.old) request.now phase (H.moment hold.old) a) }
-    ensures says { IfOk result (λ a. SaysCounted (H.config hold.old).policy stats.now levels.now a.what) }
-    ensures moves { IfOk result (λ a. H.moves hold.old (need_at (setup (H.config hold.old)) request.now phase) a.what hold.new) }
+    ensures acts { IfOk result (λ a. Acts (H.config hold.old) request.now phase (H.moment hold.new) a) }
+    ensures moves { IfOk result (λ a. (since : Moments) → H.moves hold.old (asker since (need_at (setup (H.config hold.old)) request.now phase) request.now) a.what hold.new) }
     ensures same { IfOk result (λ a. H.config hold.new ≡ H.config hold.old) }
     ensures sent { IfOk result (λ a. Adds (H.config hold.old) (sent_by a.what) out.old.items out.new.items) }
 {
     match phase {
-        Phase::AtBegin => act_begin_stats(alloc, hold, request, stats),
+        Phase::AtBegin => act_begin_stats(alloc, hold, request),
         Phase::SizeAsk(level, told, sizes) => {
-            act_size_ask(alloc, hold, request, levels, level, told, sizes)
+            act_size_ask(alloc, hold, request, level, told, sizes)
         }
         Phase::AtSend(reply) => act_send(alloc, hold, reply, out),
         _ => unreachable!(),
@@ -150,9 +149,8 @@ fn act_zero_stats<H: Hold>(
     out: &mut Vec<u8>,
 ) -> Result<Acted, NoMemory>
     requires { Serves (H.config hold.old) phase requests.ZeroStats }
-    ensures acts { IfOk result (λ a. ActsFor (H.config hold.old) requests.ZeroStats phase (H.moment hold.old) a) }
-    ensures says { IfOk result (λ a. (p : PolicyType) (stats : Stats) (levels : List Counters) → SaysCounted p stats levels a.what) }
-    ensures moves { IfOk result (λ a. H.moves hold.old (need_at (setup (H.config hold.old)) requests.ZeroStats phase) a.what hold.new) }
+    ensures acts { IfOk result (λ a. Acts (H.config hold.old) requests.ZeroStats phase (H.moment hold.new) a) }
+    ensures moves { IfOk result (λ a. (since : Moments) → H.moves hold.old (asker since (need_at (setup (H.config hold.old)) requests.ZeroStats phase) requests.ZeroStats) a.what hold.new) }
     ensures same { IfOk result (λ a. H.config hold.new ≡ H.config hold.old) }
     ensures sent { IfOk result (λ a. Adds (H.config hold.old) (sent_by a.what) out.old.items out.new.items) }
 {
@@ -172,9 +170,8 @@ fn act_record_stats<H: Hold>(
     out: &mut Vec<u8>,
 ) -> Result<Acted, NoMemory>
     requires { Serves (H.config hold.old) phase (requests.RecordStats delta.now) }
-    ensures acts { IfOk result (λ a. ActsFor (H.config hold.old) (requests.RecordStats delta.now) phase (H.moment hold.old) a) }
-    ensures says { IfOk result (λ a. (p : PolicyType) (stats : Stats) (levels : List Counters) → SaysCounted p stats levels a.what) }
-    ensures moves { IfOk result (λ a. H.moves hold.old (need_at (setup (H.config hold.old)) (requests.RecordStats delta.now) phase) a.what hold.new) }
+    ensures acts { IfOk result (λ a. Acts (H.config hold.old) (requests.RecordStats delta.now) phase (H.moment hold.new) a) }
+    ensures moves { IfOk result (λ a. (since : Moments) → H.moves hold.old (asker since (need_at (setup (H.config hold.old)) (requests.RecordStats delta.now) phase) (requests.RecordStats delta.now)) a.what hold.new) }
     ensures same { IfOk result (λ a. H.config hold.new ≡ H.config hold.old) }
     ensures sent { IfOk result (λ a. Adds (H.config hold.old) (sent_by a.what) out.old.items out.new.items) }
 {
@@ -193,9 +190,8 @@ fn act_storage_handshake<H: Hold>(
     out: &mut Vec<u8>,
 ) -> Result<Acted, NoMemory>
     requires { Serves (H.config hold.old) phase requests.StorageHandshake }
-    ensures acts { IfOk result (λ a. ActsFor (H.config hold.old) requests.StorageHandshake phase (H.moment hold.old) a) }
-    ensures says { IfOk result (λ a. (p : PolicyType) (stats : Stats) (levels : List Counters) → SaysCounted p stats levels a.what) }
-    ensures moves { IfOk result (λ a. H.moves hold.old (need_at (setup (H.config hold.old)) requests.StorageHandshake phase) a.what hold.new) }
+    ensures acts { IfOk result (λ a. Acts (H.config hold.old) requests.StorageHandshake phase (H.moment hold.new) a) }
+    ensures moves { IfOk result (λ a. (since : Moments) → H.moves hold.old (asker since (need_at (setup (H.config hold.old)) requests.StorageHandshake phase) requests.StorageHandshake) a.what hold.new) }
     ensures same { IfOk result (λ a. H.config hold.new ≡ H.config hold.old) }
     ensures sent { IfOk result (λ a. Adds (H.config hold.old) (sent_by a.what) out.old.items out.new.items) }
 {
@@ -214,9 +210,8 @@ fn act_told_dist<H: Hold>(
     out: &mut Vec<u8>,
 ) -> Result<Acted, NoMemory>
     requires { Serves (H.config hold.old) phase requests.DistStatus }
-    ensures acts { IfOk result (λ a. ActsFor (H.config hold.old) requests.DistStatus phase (H.moment hold.old) a) }
-    ensures says { IfOk result (λ a. (p : PolicyType) (stats : Stats) (levels : List Counters) → SaysCounted p stats levels a.what) }
-    ensures moves { IfOk result (λ a. H.moves hold.old (need_at (setup (H.config hold.old)) requests.DistStatus phase) a.what hold.new) }
+    ensures acts { IfOk result (λ a. Acts (H.config hold.old) requests.DistStatus phase (H.moment hold.new) a) }
+    ensures moves { IfOk result (λ a. (since : Moments) → H.moves hold.old (asker since (need_at (setup (H.config hold.old)) requests.DistStatus phase) requests.DistStatus) a.what hold.new) }
     ensures same { IfOk result (λ a. H.config hold.new ≡ H.config hold.old) }
     ensures sent { IfOk result (λ a. Adds (H.config hold.old) (sent_by a.what) out.old.items out.new.items) }
 {
@@ -231,26 +226,24 @@ fn act_told_dist<H: Hold>(
 fn act_plain<H: Hold>(
     alloc: Global,
     hold: &mut H,
-    stats: &ServerStats,
-    levels: &[LevelStats],
     request: &Request,
     phase: Phase,
     out: &mut Vec<u8>,
+    since: Since,
 ) -> Result<Acted, NoMemory>
     requires serves { Serves (H.config hold.old) phase request.now }
     requires plain { writes phase ≡ false }
-    ensures acts { IfOk result (λ a. ActsFor (H.config hold.old) request.now phase (H.moment hold.old) a) }
-    ensures says { IfOk result (λ a. SaysCounted (H.config hold.old).policy stats.now levels.now a.what) }
-    ensures moves { IfOk result (λ a. H.moves hold.old (need_at (setup (H.config hold.old)) request.now phase) a.what hold.new) }
+    ensures acts { IfOk result (λ a. Acts (H.config hold.old) request.now phase (H.moment hold.new) a) }
+    ensures moves { IfOk result (λ a. H.moves hold.old (asker since (need_at (setup (H.config hold.old)) request.now phase) request.now) a.what hold.new) }
     ensures same { IfOk result (λ a. H.config hold.new ≡ H.config hold.old) }
     ensures sent { IfOk result (λ a. Adds (H.config hold.old) (sent_by a.what) out.old.items out.new.items) }
 {
     match request {
-        Request::Compile(compile) => act_compile(alloc, hold, compile, phase, out),
-        Request::StorageGetRaw(key) => act_get_raw(alloc, hold, key, phase, out),
+        Request::Compile(compile) => act_compile(alloc, hold, compile, phase, out, since),
+        Request::StorageGetRaw(key) => act_get_raw(alloc, hold, key, phase, out, since),
         Request::StoragePutRaw(key, put) => act_put_raw(alloc, hold, key, put, phase, out),
-        Request::GetStats => act_stats(alloc, hold, request, stats, levels, phase, out),
-        Request::Shutdown => act_stats(alloc, hold, request, stats, levels, phase, out),
+        Request::GetStats => act_stats(alloc, hold, request, phase, out),
+        Request::Shutdown => act_stats(alloc, hold, request, phase, out),
         Request::ZeroStats => act_zero_stats(alloc, hold, phase, out),
         Request::RecordStats(delta) => act_record_stats(alloc, hold, delta, phase, out),
         Request::StorageHandshake => act_storage_handshake(alloc, hold, phase, out),
@@ -261,31 +254,28 @@ fn act_plain<H: Hold>(
 
 /// Does the action that is due of a request at this phase, with the entry of a disk level that it holds: its event, the phase
 /// after it, and the entry that it holds then. What it sends goes behind `out`. It waits for nothing: a token is there where
-/// one is taken. `stats` is what the daemon has counted, and `levels` what it has counted of each level; a request for
-/// statistics tells these.
+/// one is taken. What it counts is measured from these moments.
 pub fn act<H: Hold>(
     alloc: Global,
     hold: &mut H,
-    stats: &ServerStats,
-    levels: &[LevelStats],
     request: &Request,
     phase: Phase,
     entry: Option<LruDiskCacheAddEntry>,
     out: &mut Vec<u8>,
+    since: Since,
 ) -> Result<Action, NoMemory>
     requires { ServesWith (H.config hold.old) (H.disk hold.old) phase entry request.now }
-    ensures acts { IfOk result (λ a. ActsWith (H.config hold.old) (H.disk hold.new) request.now phase (H.moment hold.old) a) }
+    ensures acts { IfOk result (λ a. ActsWith (H.config hold.old) (H.disk hold.new) request.now phase (H.moment hold.new) a) }
     ensures hands { IfOk result (λ a. HandsBy (H.disk hold.old) a.what (hand_of entry phase) (hand_of a.entry a.phase)) }
     ensures others { IfOk result (λ a. KeepsHands (hand_of entry phase) (H.disk hold.old) (H.disk hold.new)) }
-    ensures says { IfOk result (λ a. SaysCounted (H.config hold.old).policy stats.now levels.now a.what) }
-    ensures moves { IfOk result (λ a. H.moves hold.old (need_at (setup (H.config hold.old)) request.now phase) a.what hold.new) }
+    ensures moves { IfOk result (λ a. H.moves hold.old (asker since (need_at (setup (H.config hold.old)) request.now phase) request.now) a.what hold.new) }
     ensures same { IfOk result (λ a. H.config hold.new ≡ H.config hold.old) }
     ensures sent { IfOk result (λ a. Adds (H.config hold.old) (sent_by a.what) out.old.items out.new.items) }
 {
     if is_write(&phase) {
-        let action = act_writing(alloc, hold, request, phase, entry)?;
+        let action = act_writing(alloc, hold, request, phase, entry, since)?;
         return Ok(action);
     }
-    let acted = act_plain(alloc, hold, stats, levels, request, phase, out)?;
+    let acted = act_plain(alloc, hold, request, phase, out, since)?;
     Ok(holding_none(acted))
 }

@@ -2,8 +2,11 @@
 ghost use Rattle.std.specs.Prelude.{◌≡◌, [], length, IfOk};
 ghost use Rattle.sc_daemon_action.specs.Acts.{Acts};
 ghost use Rattle.sc_daemon_action.specs.Serves.{Stands};
+ghost use Rattle.sc_daemon_job.specs.Askers.{asker};
 ghost use Rattle.sc_daemon_job.specs.Setups.{Config, setup};
-ghost use Rattle.sc_model.specs.Machine.{begin_compile_phase, key_phase, need_at};
+ghost use Rattle.sc_daemon_job.specs.declared.since.Since.{Since as Moments};
+ghost use Rattle.sc_model.specs.Conns.{need_at};
+ghost use Rattle.sc_model.specs.Phases.{begin_compile_phase, key_phase};
 ghost use Rattle.sc_model.specs.Trace.{sent_by};
 ghost use Rattle.sc_model.specs.declared.message.Request.TheVariants.{Compile as CompileOf};
 ghost use Rattle.sc_model.specs.declared.message.Compile.{Compile as CompileRequest};
@@ -42,8 +45,8 @@ fn begun(alloc: Global, parsed: &Parsed) -> Result<Phase, NoMemory>
 
 /// Begins a compile.
 pub fn act_begin<H: Hold>(alloc: Global, hold: &mut H, request: &Compile) -> Result<Acted, NoMemory>
-    ensures acts { IfOk result (λ a. Acts (H.config hold.old) (CompileOf request.now) Phase.AtBegin (H.moment hold.old) a) }
-    ensures moves { IfOk result (λ a. H.moves hold.old (need_at (setup (H.config hold.old)) (CompileOf request.now) Phase.AtBegin) a.what hold.new) }
+    ensures acts { IfOk result (λ a. Acts (H.config hold.old) (CompileOf request.now) Phase.AtBegin (H.moment hold.new) a) }
+    ensures moves { IfOk result (λ a. (since : Moments) → H.moves hold.old (asker since (need_at (setup (H.config hold.old)) (CompileOf request.now) Phase.AtBegin) (CompileOf request.now)) a.what hold.new) }
     ensures same { IfOk result (λ a. H.config hold.new ≡ H.config hold.old) }
     ensures unsent { IfOk result (λ a. sent_by a.what ≡ []) }
 {
@@ -101,14 +104,14 @@ pub fn act_key<H: Hold>(
     task: Task,
     first: bool,
 ) -> Result<Acted, NoMemory>
-    ensures acts { IfOk result (λ a. Acts (H.config hold.old) (CompileOf request.now) (Phase.AtKey task first) (H.moment hold.old) a) }
-    ensures moves { IfOk result (λ a. H.moves hold.old (need_at (setup (H.config hold.old)) (CompileOf request.now) (Phase.AtKey task first)) a.what hold.new) }
+    ensures acts { IfOk result (λ a. Acts (H.config hold.old) (CompileOf request.now) (Phase.AtKey task first) (H.moment hold.new) a) }
+    ensures moves { IfOk result (λ a. (since : Moments) → H.moves hold.old (asker since (need_at (setup (H.config hold.old)) (CompileOf request.now) (Phase.AtKey task first)) (CompileOf request.now)) a.what hold.new) }
     ensures same { IfOk result (λ a. H.config hold.new ≡ H.config hold.old) }
     ensures unsent { IfOk result (λ a. sent_by a.what ≡ []) }
 {
-    let now = hold.now();
     let levels = hold.level_count();
     let keying = hold.key(alloc, request, first)?;
+    let now = hold.now();
     let phase = after_key(alloc, request, task, first, &keying, levels, now)?;
     Ok(Acted {
         what: What::Keyed(first, keying.client, keying.step),

@@ -1,15 +1,19 @@
 //! The three actions of a write at a disk level: an entry is opened, filled and committed.
 ghost use Rattle.std.specs.Prelude.{◌≡◌, ◌<◌, [], length, None, Some, IfOk};
 ghost use Rattle.sc_daemon_hold.specs.Holding.{HandsBy, HeldBy, Holds, KeepsHands, hand_at};
-ghost use Rattle.sc_model.specs.Follows.{kind_at};
+ghost use Rattle.sc_daemon_job.specs.Askers.{asker};
+ghost use Rattle.sc_model.specs.Dues.{kind_at};
 ghost use Rattle.sc_model.specs.World.{Need};
 ghost use Rattle.sc_model.specs.declared.level.LevelKind.TheVariants.{Disk};
+ghost use Rattle.sc_model.specs.declared.message.Request.{Request as Asks};
 
 use sc_daemon_hold::Hold;
+use sc_daemon_job::Since;
 use sc_disk::LruDiskCacheAddEntry;
 use sc_entry::NoMemory;
 use sc_model::{Bytes, What, Written};
 use sc_store_disk::{Filling, Reservation};
+use std::alloc::Global;
 
 /// What comes of an action at an entry of a disk level: its event, how it ended, and the entry, where it is open then.
 #[derive(Drop)]
@@ -20,19 +24,25 @@ pub struct EntryAction {
 }
 
 /// Opens an entry for these bytes under their key.
-pub fn open_entry<H: Hold>(hold: &mut H, level: u64, bytes: &Bytes) -> Result<EntryAction, NoMemory>
+pub fn open_entry<H: Hold>(
+    alloc: Global,
+    hold: &mut H,
+    level: u64,
+    bytes: &Bytes,
+    since: Since,
+) -> Result<EntryAction, NoMemory>
     requires level { level < length (H.config hold.old).levels }
     requires disk { kind_at (H.config hold.old).levels level ≡ Disk }
     ensures what { IfOk result (λ a. a.what ≡ What.Reserved level bytes.now.key (length bytes.now.bytes) a.written) }
     ensures held { IfOk result (λ a. HeldBy a.written (H.disk hold.new level) a.entry bytes.now [] None) }
     ensures hands { IfOk result (λ a. HandsBy (H.disk hold.old) a.what None (hand_at a.entry level (length bytes.now.bytes))) }
     ensures others { IfOk result (λ a. KeepsHands None (H.disk hold.old) (H.disk hold.new)) }
-    ensures moves { IfOk result (λ a. (n : Need) → H.moves hold.old n a.what hold.new) }
+    ensures moves { IfOk result (λ a. (n : Need) (r : Asks) → H.moves hold.old (asker since n r) a.what hold.new) }
     ensures same { IfOk result (λ a. H.config hold.new ≡ H.config hold.old) }
 {
     let key = bytes.key.try_clone()?;
     let size = bytes.bytes.len() as u64;
-    match hold.reserve(level, bytes)? {
+    match hold.reserve(alloc, level, bytes, since)? {
         Reservation::Open(entry) => Ok(EntryAction {
             what: What::Reserved(level, key, size, Written::Done),
             written: Written::Done,
@@ -48,10 +58,12 @@ pub fn open_entry<H: Hold>(hold: &mut H, level: u64, bytes: &Bytes) -> Result<En
 
 /// Fills an entry with the bytes that it was opened for.
 pub fn fill_entry<H: Hold>(
+    alloc: Global,
     hold: &mut H,
     level: u64,
     entry: LruDiskCacheAddEntry,
     bytes: &Bytes,
+    since: Since,
 ) -> Result<EntryAction, NoMemory>
     requires level { level < length (H.config hold.old).levels }
     requires disk { kind_at (H.config hold.old).levels level ≡ Disk }
@@ -60,10 +72,10 @@ pub fn fill_entry<H: Hold>(
     ensures held { IfOk result (λ a. HeldBy a.written (H.disk hold.new level) a.entry bytes.now bytes.now.bytes (Some bytes.now.run)) }
     ensures hands { IfOk result (λ a. HandsBy (H.disk hold.old) a.what (hand_at (Some entry) level (length bytes.now.bytes)) (hand_at a.entry level (length bytes.now.bytes))) }
     ensures others { IfOk result (λ a. KeepsHands (hand_at (Some entry) level (length bytes.now.bytes)) (H.disk hold.old) (H.disk hold.new)) }
-    ensures moves { IfOk result (λ a. (n : Need) → H.moves hold.old n a.what hold.new) }
+    ensures moves { IfOk result (λ a. (n : Need) (r : Asks) → H.moves hold.old (asker since n r) a.what hold.new) }
     ensures same { IfOk result (λ a. H.config hold.new ≡ H.config hold.old) }
 {
-    let how = hold.fill(level, entry, bytes)?;
+    let how = hold.fill(alloc, level, entry, bytes, since)?;
     let key = bytes.key.try_clone()?;
     let copy = bytes.bytes.try_clone()?;
     let run = bytes.run;
@@ -83,10 +95,12 @@ pub fn fill_entry<H: Hold>(
 
 /// Commits an entry that was filled.
 pub fn commit_entry<H: Hold>(
+    alloc: Global,
     hold: &mut H,
     level: u64,
     entry: LruDiskCacheAddEntry,
     bytes: &Bytes,
+    since: Since,
 ) -> Result<EntryAction, NoMemory>
     requires level { level < length (H.config hold.old).levels }
     requires disk { kind_at (H.config hold.old).levels level ≡ Disk }
@@ -95,10 +109,10 @@ pub fn commit_entry<H: Hold>(
     ensures entry { IfOk result (λ a. a.entry ≡ None) }
     ensures hands { IfOk result (λ a. HandsBy (H.disk hold.old) a.what (hand_at (Some entry) level (length bytes.now.bytes)) None) }
     ensures others { IfOk result (λ a. KeepsHands (hand_at (Some entry) level (length bytes.now.bytes)) (H.disk hold.old) (H.disk hold.new)) }
-    ensures moves { IfOk result (λ a. (n : Need) → n.mark ≡ bytes.now.run → H.moves hold.old n a.what hold.new) }
+    ensures moves { IfOk result (λ a. (n : Need) (r : Asks) → n.mark ≡ bytes.now.run → H.moves hold.old (asker since n r) a.what hold.new) }
     ensures same { IfOk result (λ a. H.config hold.new ≡ H.config hold.old) }
 {
-    let written = hold.commit(level, entry, bytes)?;
+    let written = hold.commit(alloc, level, entry, bytes, since)?;
     let key = bytes.key.try_clone()?;
     let copy = bytes.bytes.try_clone()?;
     Ok(EntryAction {

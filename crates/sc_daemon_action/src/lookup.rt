@@ -2,8 +2,11 @@
 ghost use Rattle.std.specs.Prelude.{◌≡◌, ◌<◌, [], length, IfOk};
 ghost use Rattle.sc_daemon_action.specs.Acts.{Acts};
 ghost use Rattle.sc_daemon_action.specs.Serves.{Stands};
+ghost use Rattle.sc_daemon_job.specs.Askers.{asker};
 ghost use Rattle.sc_daemon_job.specs.Setups.{Config, setup};
-ghost use Rattle.sc_model.specs.Machine.{need_at, placed_phase};
+ghost use Rattle.sc_daemon_job.specs.declared.since.Since.{Since as Moments};
+ghost use Rattle.sc_model.specs.Conns.{need_at};
+ghost use Rattle.sc_model.specs.Phases.{placed_phase};
 ghost use Rattle.sc_model.specs.Trace.{sent_by};
 ghost use Rattle.sc_model.specs.declared.message.Request.TheVariants.{Compile as CompileOf};
 ghost use Rattle.sc_model.specs.World.{is_placed, placed_of};
@@ -12,7 +15,7 @@ ghost use Rattle.sc_model.specs.declared.message.Compile.{Compile as CompileRequ
 use crate::acted::Acted;
 use crate::turn::{asked, to_miss};
 use sc_daemon_hold::Hold;
-use sc_daemon_job::{finish_fatal, finish_hit};
+use sc_daemon_job::{Since, finish_fatal, finish_hit};
 use sc_entry::{ByteText, FileObjectSource, Items, NoMemory, Queue};
 use sc_model::{
     ColorMode, Compile, Ending, Job, KeyFound, MissType, Mode, Phase, Placing, Verdict, What,
@@ -26,17 +29,18 @@ pub fn act_ask<H: Hold>(
     request: &Compile,
     job: Job,
     level: u64,
+    since: Since,
 ) -> Result<Acted, NoMemory>
     requires level { level < length (H.config hold.old).levels }
-    ensures acts { IfOk result (λ a. Acts (H.config hold.old) (CompileOf request.now) (Phase.AtAsk job level) (H.moment hold.old) a) }
-    ensures moves { IfOk result (λ a. H.moves hold.old (need_at (setup (H.config hold.old)) (CompileOf request.now) (Phase.AtAsk job level)) a.what hold.new) }
+    ensures acts { IfOk result (λ a. Acts (H.config hold.old) (CompileOf request.now) (Phase.AtAsk job level) (H.moment hold.new) a) }
+    ensures moves { IfOk result (λ a. H.moves hold.old (asker since (need_at (setup (H.config hold.old)) (CompileOf request.now) (Phase.AtAsk job level)) (CompileOf request.now)) a.what hold.new) }
     ensures same { IfOk result (λ a. H.config hold.new ≡ H.config hold.old) }
     ensures unsent { IfOk result (λ a. sent_by a.what ≡ []) }
 {
-    let now = hold.now();
     let levels = hold.level_count();
     let single = hold.is_single();
-    let lookup = hold.ask(alloc, level, &job.found.key, Mode::Whole)?;
+    let lookup = hold.ask(alloc, level, &job.found.key, Mode::Whole, since)?;
+    let now = hold.now();
     let key = job.found.key.try_clone()?;
     let phase = asked(job, level, levels, single, &lookup.answer, now)?;
     Ok(Acted {
@@ -106,14 +110,14 @@ pub fn act_place<H: Hold>(
     entry: ByteText,
     duration: u64,
 ) -> Result<Acted, NoMemory>
-    ensures acts { IfOk result (λ a. Acts (H.config hold.old) (CompileOf request.now) (Phase.AtPlace job entry duration) (H.moment hold.old) a) }
-    ensures moves { IfOk result (λ a. H.moves hold.old (need_at (setup (H.config hold.old)) (CompileOf request.now) (Phase.AtPlace job entry duration)) a.what hold.new) }
+    ensures acts { IfOk result (λ a. Acts (H.config hold.old) (CompileOf request.now) (Phase.AtPlace job entry duration) (H.moment hold.new) a) }
+    ensures moves { IfOk result (λ a. (since : Moments) → H.moves hold.old (asker since (need_at (setup (H.config hold.old)) (CompileOf request.now) (Phase.AtPlace job entry duration)) (CompileOf request.now)) a.what hold.new) }
     ensures same { IfOk result (λ a. H.config hold.new ≡ H.config hold.old) }
     ensures unsent { IfOk result (λ a. sent_by a.what ≡ []) }
 {
-    let now = hold.now();
     let outputs = placed_outputs(alloc, &job.found)?;
     let placing = hold.place(alloc, &job.found.key, outputs.as_slice(), &entry)?;
+    let now = hold.now();
     let phase = placed(alloc, job, entry, duration, now, &placing)?;
     Ok(Acted {
         what: What::Placed(placing),

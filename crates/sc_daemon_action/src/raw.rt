@@ -1,18 +1,22 @@
 //! The actions of requests for bytes as a store holds them.
 ghost use Rattle.std.specs.Prelude.{◌≡◌, ◌+◌, ◌<◌, ℕ, List, [], None, length, IfOk};
 ghost use Rattle.sc_daemon_action.specs.Acts.{Acts};
-ghost use Rattle.sc_daemon_action.specs.Serves.{IsWriter, Stands};
-ghost use Rattle.sc_model.specs.There.{AreLevels};
+ghost use Rattle.sc_daemon_action.specs.Serves.{Stands};
+ghost use Rattle.sc_daemon_job.specs.Askers.{asker};
 ghost use Rattle.sc_daemon_job.specs.Setups.{Config, setup};
-ghost use Rattle.sc_model.specs.Machine.{need_at, phase_next, raw_phase};
+ghost use Rattle.sc_daemon_job.specs.declared.since.Since.{Since as Moments};
+ghost use Rattle.sc_model.specs.Conns.{need_at};
+ghost use Rattle.sc_model.specs.Phases.{phase_next, raw_phase};
 ghost use Rattle.sc_model.specs.Trace.{sent_by};
 ghost use Rattle.sc_model.specs.declared.message.Request.TheVariants.{StorageGetRaw, StoragePutRaw};
 ghost use Rattle.sc_model.specs.declared.message.Response.TheVariants.{StorageGetRaw as RawReply};
 
 use crate::acted::Acted;
+use crate::telling::begin_untold;
 use crate::texts::put_result;
 use sc_daemon_hold::Hold;
-use sc_entry::{ByteText, NoMemory, Queue, Text};
+use sc_daemon_job::Since;
+use sc_entry::{ByteText, NoMemory, Text};
 use sc_model::{Answer, Bytes, Mode, Phase, Refusal, Request, Response, Told, What};
 use std::alloc::Global;
 
@@ -48,17 +52,18 @@ fn asked(key: Text, level: u64, levels: u64, answer: &Answer) -> Result<Phase, N
 
 /// Begins a request for the bytes under a key.
 pub fn act_begin_get<H: Hold>(alloc: Global, hold: &mut H, key: &Text) -> Result<Acted, NoMemory>
-    ensures acts { IfOk result (λ a. Acts (H.config hold.old) (StorageGetRaw key.now) Phase.AtBegin (H.moment hold.old) a) }
-    ensures moves { IfOk result (λ a. H.moves hold.old (need_at (setup (H.config hold.old)) (StorageGetRaw key.now) Phase.AtBegin) a.what hold.new) }
+    ensures acts { IfOk result (λ a. Acts (H.config hold.old) (StorageGetRaw key.now) Phase.AtBegin (H.moment hold.new) a) }
+    ensures moves { IfOk result (λ a. (since : Moments) → H.moves hold.old (asker since (need_at (setup (H.config hold.old)) (StorageGetRaw key.now) Phase.AtBegin) (StorageGetRaw key.now)) a.what hold.new) }
     ensures same { IfOk result (λ a. H.config hold.new ≡ H.config hold.old) }
     ensures unsent { IfOk result (λ a. sent_by a.what ≡ []) }
 {
     let levels = hold.level_count();
+    let request = Request::StorageGetRaw(key.try_clone()?);
     let wanted = key.try_clone()?;
-    let phase = next_level(key.try_clone()?, 0, levels);
+    begin_untold(alloc, hold, &request)?;
     Ok(Acted {
-        what: What::Began(Request::StorageGetRaw(wanted), Told::Nothing),
-        phase,
+        what: What::Began(request, Told::Nothing),
+        phase: next_level(wanted, 0, levels),
     })
 }
 
@@ -69,15 +74,16 @@ pub fn act_raw_ask<H: Hold>(
     wanted: &Text,
     level: u64,
     key: Text,
+    since: Since,
 ) -> Result<Acted, NoMemory>
     requires level { level < length (H.config hold.old).levels }
-    ensures acts { IfOk result (λ a. Acts (H.config hold.old) (StorageGetRaw wanted.now) (Phase.RawAsk level key) (H.moment hold.old) a) }
-    ensures moves { IfOk result (λ a. H.moves hold.old (need_at (setup (H.config hold.old)) (StorageGetRaw wanted.now) (Phase.RawAsk level key)) a.what hold.new) }
+    ensures acts { IfOk result (λ a. Acts (H.config hold.old) (StorageGetRaw wanted.now) (Phase.RawAsk level key) (H.moment hold.new) a) }
+    ensures moves { IfOk result (λ a. H.moves hold.old (asker since (need_at (setup (H.config hold.old)) (StorageGetRaw wanted.now) (Phase.RawAsk level key)) (StorageGetRaw wanted.now)) a.what hold.new) }
     ensures same { IfOk result (λ a. H.config hold.new ≡ H.config hold.old) }
     ensures unsent { IfOk result (λ a. sent_by a.what ≡ []) }
 {
     let levels = hold.level_count();
-    let lookup = hold.ask(alloc, level, &key, Mode::Raw)?;
+    let lookup = hold.ask(alloc, level, &key, Mode::Raw, since)?;
     let asked_key = key.try_clone()?;
     let phase = asked(key, level, levels, &lookup.answer)?;
     Ok(Acted {
@@ -93,8 +99,8 @@ pub fn act_begin_put<H: Hold>(
     key: &Text,
     bytes: &ByteText,
 ) -> Result<Acted, NoMemory>
-    ensures acts { IfOk result (λ a. Acts (H.config hold.old) (StoragePutRaw key.now bytes.now) Phase.AtBegin (H.moment hold.old) a) }
-    ensures moves { IfOk result (λ a. H.moves hold.old (need_at (setup (H.config hold.old)) (StoragePutRaw key.now bytes.now) Phase.AtBegin) a.what hold.new) }
+    ensures acts { IfOk result (λ a. Acts (H.config hold.old) (StoragePutRaw key.now bytes.now) Phase.AtBegin (H.moment hold.new) a) }
+    ensures moves { IfOk result (λ a. (since : Moments) → H.moves hold.old (asker since (need_at (setup (H.config hold.old)) (StoragePutRaw key.now bytes.now) Phase.AtBegin) (StoragePutRaw key.now bytes.now)) a.what hold.new) }
     ensures same { IfOk result (λ a. H.config hold.new ≡ H.config hold.old) }
     ensures unsent { IfOk result (λ a. sent_by a.what ≡ []) }
 {
@@ -105,6 +111,7 @@ pub fn act_begin_put<H: Hold>(
         run: false,
     };
     let request = Request::StoragePutRaw(key.try_clone()?, bytes.try_clone()?);
+    begin_untold(alloc, hold, &request)?;
     Ok(Acted {
         what: What::Began(request, Told::Nothing),
         phase: Phase::AtWrite(put, levels, Refusal::NoneYet, None),
@@ -119,13 +126,14 @@ pub(crate) fn end_put<H: Hold>(
     put: &ByteText,
     bytes: Bytes,
     refusal: Refusal,
+    since: Since,
 ) -> Result<Acted, NoMemory>
-    ensures acts { IfOk result (λ a. Acts (H.config hold.old) (StoragePutRaw key.now put.now) (Phase.AtWrite bytes [] refusal None) (H.moment hold.old) a) }
-    ensures moves { IfOk result (λ a. H.moves hold.old (need_at (setup (H.config hold.old)) (StoragePutRaw key.now put.now) (Phase.AtWrite bytes [] refusal None)) a.what hold.new) }
+    ensures acts { IfOk result (λ a. Acts (H.config hold.old) (StoragePutRaw key.now put.now) (Phase.AtWrite bytes [] refusal None) (H.moment hold.new) a) }
+    ensures moves { IfOk result (λ a. H.moves hold.old (asker since (need_at (setup (H.config hold.old)) (StoragePutRaw key.now put.now) (Phase.AtWrite bytes [] refusal None)) (StoragePutRaw key.now put.now)) a.what hold.new) }
     ensures same { IfOk result (λ a. H.config hold.new ≡ H.config hold.old) }
     ensures unsent { IfOk result (λ a. sent_by a.what ≡ []) }
 {
-    let end = hold.put_end(alloc, &bytes, refusal)?;
+    let end = hold.put_end(alloc, false, &bytes, refusal, since)?;
     let told = put_result(alloc, &end.answer)?;
     Ok(Acted {
         what: What::WriteEnded(end.answer, end.handed),

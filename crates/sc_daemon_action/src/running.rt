@@ -3,12 +3,16 @@ ghost use Rattle.std.specs.Prelude.{◌≡◌, true, false, [], ◌∷◌, IfOk}
 ghost use Rattle.sc_daemon_action.specs.Acts.{Acts};
 ghost use Rattle.sc_daemon_action.specs.Ran.{ran_by};
 ghost use Rattle.sc_daemon_action.specs.Serves.{Stands};
+ghost use Rattle.sc_daemon_job.specs.Askers.{asker};
 ghost use Rattle.sc_daemon_job.specs.Setups.{Config, setup};
-ghost use Rattle.sc_model.specs.Machine.{dist_phase, ending_of, need_at, ran_phase};
+ghost use Rattle.sc_daemon_job.specs.declared.since.Since.{Since as Moments};
+ghost use Rattle.sc_model.specs.Conns.{need_at};
+ghost use Rattle.sc_model.specs.Phases.{dist_phase, ending_of, ran_phase};
 ghost use Rattle.sc_model.specs.Trace.{sent_by};
 ghost use Rattle.sc_model.specs.declared.message.Request.TheVariants.{Compile as CompileOf};
 ghost use Rattle.sc_model.specs.Collected.{GoodAnswer, GoodObjects};
-ghost use Rattle.sc_model.specs.Job as jobs;
+ghost use Rattle.sc_model.specs.Finishing as finishing;
+ghost use Rattle.sc_model.specs.Judging as judging;
 ghost use Rattle.sc_model.specs.declared.message.Compile.{Compile as CompileRequest};
 ghost use Rattle.sc_daemon_hold.specs.Distributing.{GoodDist};
 
@@ -26,11 +30,12 @@ use std::alloc::Global;
 
 /// Takes a token for a job's run.
 pub fn act_take<H: Hold>(hold: &mut H, request: &Compile, work: Work) -> Result<Acted, NoMemory>
-    ensures acts { IfOk result (λ a. Acts (H.config hold.old) (CompileOf request.now) (Phase.AtTake work) (H.moment hold.old) a) }
-    ensures moves { IfOk result (λ a. H.moves hold.old (need_at (setup (H.config hold.old)) (CompileOf request.now) (Phase.AtTake work)) a.what hold.new) }
+    ensures acts { IfOk result (λ a. Acts (H.config hold.old) (CompileOf request.now) (Phase.AtTake work) (H.moment hold.new) a) }
+    ensures moves { IfOk result (λ a. (since : Moments) → H.moves hold.old (asker since (need_at (setup (H.config hold.old)) (CompileOf request.now) (Phase.AtTake work)) (CompileOf request.now)) a.what hold.new) }
     ensures same { IfOk result (λ a. H.config hold.new ≡ H.config hold.old) }
     ensures unsent { IfOk result (λ a. sent_by a.what ≡ []) }
 {
+    hold.take_token();
     Ok(Acted {
         what: What::TokenTaken,
         phase: Phase::AtRun(work),
@@ -44,7 +49,7 @@ fn unstored(
     out: &Output,
     notes: Queue<ByteText>,
 ) -> Result<Phase, NoMemory>
-    ensures phase { IfOk result (λ p. (k : Config) (c : CompileRequest) → p ≡ Phase.AtEnd verdict job.now.task (ending_of notes (jobs.finish_output (setup k) (CompileOf c) out.now))) }
+    ensures phase { IfOk result (λ p. (k : Config) (c : CompileRequest) → p ≡ Phase.AtEnd verdict job.now.task (ending_of notes (finishing.finish_output (setup k) (CompileOf c) out.now))) }
     ensures stands { IfOk result (λ p. (k : Config) (c : CompileRequest) → Stands k p (CompileOf c)) }
 {
     let last = finish_output(ColorMode::Auto, out)?;
@@ -58,7 +63,7 @@ fn faulted(
     chain: &[Text],
     notes: Queue<ByteText>,
 ) -> Result<Phase, NoMemory>
-    ensures phase { IfOk result (λ p. (k : Config) (c : CompileRequest) → p ≡ Phase.AtEnd Verdict.Fault job.now.task (ending_of notes (jobs.finish_fatal (setup k) (CompileOf c) chain.now))) }
+    ensures phase { IfOk result (λ p. (k : Config) (c : CompileRequest) → p ≡ Phase.AtEnd Verdict.Fault job.now.task (ending_of notes (finishing.finish_fatal (setup k) (CompileOf c) chain.now))) }
     ensures stands { IfOk result (λ p. (k : Config) (c : CompileRequest) → Stands k p (CompileOf c)) }
 {
     let last = finish_fatal(alloc, ColorMode::Auto, chain)?;
@@ -99,7 +104,7 @@ fn cacheable(
     duration: u64,
 ) -> Result<Phase, NoMemory>
     requires { GoodObjects out.now.objects }
-    ensures phase { IfOk result (λ p. (k : Config) (c : CompileRequest) → p ≡ ran_by k c work mark notes duration out.now (jobs.judge_objects out.now.objects)) }
+    ensures phase { IfOk result (λ p. (k : Config) (c : CompileRequest) → p ≡ ran_by k c work mark notes duration out.now (judging.judge_objects out.now.objects)) }
     ensures stands { IfOk result (λ p. (k : Config) (c : CompileRequest) → Stands k p (CompileOf c)) }
 {
     match &out.objects {
@@ -127,7 +132,7 @@ fn ran_output(
     duration: u64,
 ) -> Result<Phase, NoMemory>
     requires { GoodObjects out.now.objects }
-    ensures phase { IfOk result (λ p. (k : Config) (c : CompileRequest) → p ≡ ran_by k c work mark notes duration out.now (jobs.judge work.job work.miss out.now)) }
+    ensures phase { IfOk result (λ p. (k : Config) (c : CompileRequest) → p ≡ ran_by k c work mark notes duration out.now (judging.judge work.job work.miss out.now)) }
     ensures stands { IfOk result (λ p. (k : Config) (c : CompileRequest) → Stands k p (CompileOf c)) }
 {
     match judge(&work.job, work.miss, out) {
@@ -178,7 +183,7 @@ fn refused<H: Hold>(
     request: &Compile,
     text: &Text,
 ) -> Result<CompileFinished, NoMemory>
-    ensures { IfOk result (λ f. f ≡ jobs.finish_http (setup (H.config hold.now)) (CompileOf request.now) text.now) }
+    ensures { IfOk result (λ f. f ≡ finishing.finish_http (setup (H.config hold.now)) (CompileOf request.now) text.now) }
 {
     let pretty = hold.pretty(alloc, request)?;
     finish_http(alloc, ColorMode::Auto, pretty.as_slice(), text)
@@ -237,18 +242,18 @@ pub fn act_dist<H: Hold>(
     request: &Compile,
     work: Work,
 ) -> Result<Acted, NoMemory>
-    ensures acts { IfOk result (λ a. Acts (H.config hold.old) (CompileOf request.now) (Phase.AtDist work) (H.moment hold.old) a) }
-    ensures moves { IfOk result (λ a. H.moves hold.old (need_at (setup (H.config hold.old)) (CompileOf request.now) (Phase.AtDist work)) a.what hold.new) }
+    ensures acts { IfOk result (λ a. Acts (H.config hold.old) (CompileOf request.now) (Phase.AtDist work) (H.moment hold.new) a) }
+    ensures moves { IfOk result (λ a. (since : Moments) → H.moves hold.old (asker since (need_at (setup (H.config hold.old)) (CompileOf request.now) (Phase.AtDist work)) (CompileOf request.now)) a.what hold.new) }
     ensures same { IfOk result (λ a. H.config hold.new ≡ H.config hold.old) }
     ensures unsent { IfOk result (λ a. sent_by a.what ≡ []) }
 {
-    let now = hold.now();
     let answer = hold.distribute(
         alloc,
         request,
         &work.job.found.key,
         work.job.found.outputs.as_slice(),
     )?;
+    let now = hold.now();
     let phase = distributed(alloc, hold, request, work, &answer, now)?;
     Ok(Acted {
         what: What::Dist(answer),
@@ -263,18 +268,18 @@ pub fn act_run<H: Hold>(
     request: &Compile,
     work: Work,
 ) -> Result<Acted, NoMemory>
-    ensures acts { IfOk result (λ a. Acts (H.config hold.old) (CompileOf request.now) (Phase.AtRun work) (H.moment hold.old) a) }
-    ensures moves { IfOk result (λ a. H.moves hold.old (need_at (setup (H.config hold.old)) (CompileOf request.now) (Phase.AtRun work)) a.what hold.new) }
+    ensures acts { IfOk result (λ a. Acts (H.config hold.old) (CompileOf request.now) (Phase.AtRun work) (H.moment hold.new) a) }
+    ensures moves { IfOk result (λ a. (since : Moments) → H.moves hold.old (asker since (need_at (setup (H.config hold.old)) (CompileOf request.now) (Phase.AtRun work)) (CompileOf request.now)) a.what hold.new) }
     ensures same { IfOk result (λ a. H.config hold.new ≡ H.config hold.old) }
     ensures unsent { IfOk result (λ a. sent_by a.what ≡ []) }
 {
-    let now = hold.now();
     let answer = hold.run(
         alloc,
         request,
         &work.job.found.key,
         work.job.found.outputs.as_slice(),
     )?;
+    let now = hold.now();
     let phase = ran(alloc, work, &answer, now)?;
     Ok(Acted {
         what: What::Ran(answer),

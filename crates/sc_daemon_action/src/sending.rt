@@ -2,13 +2,14 @@
 ghost use Rattle.std.specs.Prelude.{◌≡◌, ◌∷◌, ◌++◌, [], IfOk};
 ghost use Rattle.sc_daemon_action.specs.Acts.{Acts};
 ghost use Rattle.sc_daemon_action.specs.Sends.{Adds, Sends};
-ghost use Rattle.sc_daemon_job.specs.Setups.{Config, setup};
-ghost use Rattle.sc_model.specs.Machine.{need_at};
+ghost use Rattle.sc_daemon_job.specs.Askers.{asker};
+ghost use Rattle.sc_daemon_job.specs.Setups.{setup};
+ghost use Rattle.sc_daemon_job.specs.declared.since.Since.{Since as Moments};
+ghost use Rattle.sc_model.specs.Conns.{need_at};
 ghost use Rattle.sc_model.specs.Trace.{sent_by};
 ghost use Rattle.sc_model.specs.declared.message.Request.{Request as Asks};
 ghost use Rattle.sc_model.specs.declared.message.Request.TheVariants.{Compile as CompileOf};
-ghost use Rattle.sc_model.specs.Follows.{notes_then};
-ghost use Rattle.sc_model.specs.declared.message.Response.TheVariants.{ArtifactNotification as Note};
+ghost use Rattle.sc_model.specs.Afterwards.{notes_then};
 ghost use Rattle.sc_wire.specs.Responses.{payload};
 
 use crate::acted::Acted;
@@ -63,13 +64,14 @@ pub fn act_send<H: Hold>(
     reply: Response,
     out: &mut Vec<u8>,
 ) -> Result<Acted, NoMemory>
-    ensures acts { IfOk result (λ a. (r : Asks) → Acts (H.config hold.old) r (Phase.AtSend reply) (H.moment hold.old) a) }
-    ensures moves { IfOk result (λ a. (r : Asks) → H.moves hold.old (need_at (setup (H.config hold.old)) r (Phase.AtSend reply)) a.what hold.new) }
+    ensures acts { IfOk result (λ a. (r : Asks) → Acts (H.config hold.old) r (Phase.AtSend reply) (H.moment hold.new) a) }
+    ensures moves { IfOk result (λ a. (r : Asks) (since : Moments) → H.moves hold.old (asker since (need_at (setup (H.config hold.old)) r (Phase.AtSend reply)) r) a.what hold.new) }
     ensures same { IfOk result (λ a. H.config hold.new ≡ H.config hold.old) }
     ensures sent { IfOk result (λ a. Adds (H.config hold.old) (sent_by a.what) out.old.items out.new.items) }
 {
     match send(alloc, hold, &reply, out)? {
         None => {
+            hold.tick();
             Ok(Acted {
                 what: What::Sent(reply),
                 phase: Phase::AtOver,
@@ -77,6 +79,7 @@ pub fn act_send<H: Hold>(
         }
         Some(size) => {
             let left = alone(alloc, reply)?;
+            hold.tick();
             Ok(Acted {
                 what: What::TooLong(size),
                 phase: Phase::AtEnded(left),
@@ -93,14 +96,15 @@ pub fn act_started<H: Hold>(
     task: Task,
     out: &mut Vec<u8>,
 ) -> Result<Acted, NoMemory>
-    ensures acts { IfOk result (λ a. Acts (H.config hold.old) (CompileOf request.now) (Phase.AtStarted task) (H.moment hold.old) a) }
-    ensures moves { IfOk result (λ a. H.moves hold.old (need_at (setup (H.config hold.old)) (CompileOf request.now) (Phase.AtStarted task)) a.what hold.new) }
+    ensures acts { IfOk result (λ a. Acts (H.config hold.old) (CompileOf request.now) (Phase.AtStarted task) (H.moment hold.new) a) }
+    ensures moves { IfOk result (λ a. (since : Moments) → H.moves hold.old (asker since (need_at (setup (H.config hold.old)) (CompileOf request.now) (Phase.AtStarted task)) (CompileOf request.now)) a.what hold.new) }
     ensures same { IfOk result (λ a. H.config hold.new ≡ H.config hold.old) }
     ensures sent { IfOk result (λ a. Adds (H.config hold.old) (sent_by a.what) out.old.items out.new.items) }
 {
     let reply = Response::Compile(CompileResponse::CompileStarted);
     match send(alloc, hold, &reply, out)? {
         None => {
+            hold.tick();
             Ok(Acted {
                 what: What::Sent(reply),
                 phase: Phase::AtKey(task, true),
@@ -108,6 +112,7 @@ pub fn act_started<H: Hold>(
         }
         Some(size) => {
             let left = alone(alloc, reply)?;
+            hold.tick();
             Ok(Acted {
                 what: What::TooLong(size),
                 phase: Phase::AtEnded(left),
@@ -141,14 +146,15 @@ fn send_note<H: Hold>(
     last: CompileFinished,
     out: &mut Vec<u8>,
 ) -> Result<Acted, NoMemory>
-    ensures acts { IfOk result (λ a. Acts (H.config hold.old) (CompileOf request.now) (Phase.AtFinish (note ∷ rest) last) (H.moment hold.old) a) }
-    ensures moves { IfOk result (λ a. H.moves hold.old (need_at (setup (H.config hold.old)) (CompileOf request.now) (Phase.AtFinish (note ∷ rest) last)) a.what hold.new) }
+    ensures acts { IfOk result (λ a. Acts (H.config hold.old) (CompileOf request.now) (Phase.AtFinish (note ∷ rest) last) (H.moment hold.new) a) }
+    ensures moves { IfOk result (λ a. (since : Moments) → H.moves hold.old (asker since (need_at (setup (H.config hold.old)) (CompileOf request.now) (Phase.AtFinish (note ∷ rest) last)) (CompileOf request.now)) a.what hold.new) }
     ensures same { IfOk result (λ a. H.config hold.new ≡ H.config hold.old) }
     ensures sent { IfOk result (λ a. Adds (H.config hold.old) (sent_by a.what) out.old.items out.new.items) }
 {
     let reply = Response::ArtifactNotification(note);
     match send(alloc, hold, &reply, out)? {
         None => {
+            hold.tick();
             Ok(Acted {
                 what: What::Sent(reply),
                 phase: Phase::AtFinish(rest, last),
@@ -157,6 +163,7 @@ fn send_note<H: Hold>(
         Some(size) => {
             let mut left = alone(alloc, reply)?;
             replies_left(&mut left, rest, last)?;
+            hold.tick();
             Ok(Acted {
                 what: What::TooLong(size),
                 phase: Phase::AtEnded(left),
@@ -173,14 +180,15 @@ fn send_last<H: Hold>(
     last: CompileFinished,
     out: &mut Vec<u8>,
 ) -> Result<Acted, NoMemory>
-    ensures acts { IfOk result (λ a. Acts (H.config hold.old) (CompileOf request.now) (Phase.AtFinish [] last) (H.moment hold.old) a) }
-    ensures moves { IfOk result (λ a. H.moves hold.old (need_at (setup (H.config hold.old)) (CompileOf request.now) (Phase.AtFinish [] last)) a.what hold.new) }
+    ensures acts { IfOk result (λ a. Acts (H.config hold.old) (CompileOf request.now) (Phase.AtFinish [] last) (H.moment hold.new) a) }
+    ensures moves { IfOk result (λ a. (since : Moments) → H.moves hold.old (asker since (need_at (setup (H.config hold.old)) (CompileOf request.now) (Phase.AtFinish [] last)) (CompileOf request.now)) a.what hold.new) }
     ensures same { IfOk result (λ a. H.config hold.new ≡ H.config hold.old) }
     ensures sent { IfOk result (λ a. Adds (H.config hold.old) (sent_by a.what) out.old.items out.new.items) }
 {
     let reply = Response::CompileFinished(last);
     match send(alloc, hold, &reply, out)? {
         None => {
+            hold.tick();
             Ok(Acted {
                 what: What::Sent(reply),
                 phase: Phase::AtOver,
@@ -188,6 +196,7 @@ fn send_last<H: Hold>(
         }
         Some(size) => {
             let left = alone(alloc, reply)?;
+            hold.tick();
             Ok(Acted {
                 what: What::TooLong(size),
                 phase: Phase::AtEnded(left),
@@ -205,8 +214,8 @@ pub fn act_finish<H: Hold>(
     last: CompileFinished,
     out: &mut Vec<u8>,
 ) -> Result<Acted, NoMemory>
-    ensures acts { IfOk result (λ a. Acts (H.config hold.old) (CompileOf request.now) (Phase.AtFinish notes last) (H.moment hold.old) a) }
-    ensures moves { IfOk result (λ a. H.moves hold.old (need_at (setup (H.config hold.old)) (CompileOf request.now) (Phase.AtFinish notes last)) a.what hold.new) }
+    ensures acts { IfOk result (λ a. Acts (H.config hold.old) (CompileOf request.now) (Phase.AtFinish notes last) (H.moment hold.new) a) }
+    ensures moves { IfOk result (λ a. (since : Moments) → H.moves hold.old (asker since (need_at (setup (H.config hold.old)) (CompileOf request.now) (Phase.AtFinish notes last)) (CompileOf request.now)) a.what hold.new) }
     ensures same { IfOk result (λ a. H.config hold.new ≡ H.config hold.old) }
     ensures sent { IfOk result (λ a. Adds (H.config hold.old) (sent_by a.what) out.old.items out.new.items) }
 {

@@ -3,42 +3,44 @@ ghost use Rattle.std.specs.Prelude.{◌≡◌, ◌<◌, ◌∷◌, [], length, S
 ghost use Rattle.sc_daemon_action.specs.Acts.{Acts};
 ghost use Rattle.sc_daemon_action.specs.Serves.{IsWriter};
 ghost use Rattle.sc_model.specs.There.{AreLevels};
-ghost use Rattle.sc_daemon_hold.specs.Quiet.{IsQuietVerdict};
-ghost use Rattle.sc_daemon_job.specs.Setups.{Config, setup};
-ghost use Rattle.sc_model.specs.Machine.{need_at};
+ghost use Rattle.sc_daemon_job.specs.Askers.{asker};
+ghost use Rattle.sc_daemon_job.specs.Setups.{setup};
+ghost use Rattle.sc_daemon_job.specs.declared.since.Since.{Since as Moments};
+ghost use Rattle.sc_model.specs.Conns.{need_at};
 ghost use Rattle.sc_model.specs.Trace.{sent_by};
 ghost use Rattle.sc_model.specs.declared.message.Request.{Request as Asks};
 ghost use Rattle.sc_model.specs.declared.message.Request.TheVariants.{Compile as CompileOf};
-ghost use Rattle.sc_model.specs.Follows.{kind_at};
-ghost use Rattle.sc_model.specs.Machine as machine;
+ghost use Rattle.sc_model.specs.Dues.{kind_at};
+ghost use Rattle.sc_model.specs.Phases as machine;
 ghost use Rattle.sc_model.specs.declared.level.LevelKind.TheVariants.{Remote};
 ghost use Rattle.sc_model.specs.Plan as plans;
 
 use crate::acted::Acted;
 use crate::control::counted_task;
 use sc_daemon_hold::Hold;
+use sc_daemon_job::Since;
 use sc_entry::{NoMemory, Queue};
 use sc_model::{Bytes, Compile, Ending, Mode, Phase, Refusal, Task, Verdict, What, Written};
 use std::alloc::Global;
 
-/// Tells the outcome of a job that stores nothing. Where a server refused it, the distributed client is made anew.
+/// Tells the outcome of a job that stores nothing.
 pub fn act_end<H: Hold>(
+    alloc: Global,
     hold: &mut H,
     request: &Compile,
     verdict: Verdict,
     task: Task,
     ending: Ending,
 ) -> Result<Acted, NoMemory>
-    ensures acts { IfOk result (λ a. Acts (H.config hold.old) (CompileOf request.now) (Phase.AtEnd verdict task ending) (H.moment hold.old) a) }
-    ensures moves { IfOk result (λ a. H.moves hold.old (need_at (setup (H.config hold.old)) (CompileOf request.now) (Phase.AtEnd verdict task ending)) a.what hold.new) }
+    ensures acts { IfOk result (λ a. Acts (H.config hold.old) (CompileOf request.now) (Phase.AtEnd verdict task ending) (H.moment hold.new) a) }
+    ensures moves { IfOk result (λ a. (since : Moments) → H.moves hold.old (asker since (need_at (setup (H.config hold.old)) (CompileOf request.now) (Phase.AtEnd verdict task ending)) (CompileOf request.now)) a.what hold.new) }
     ensures same { IfOk result (λ a. H.config hold.new ≡ H.config hold.old) }
     ensures unsent { IfOk result (λ a. sent_by a.what ≡ []) }
 {
-    if matches!(&verdict, Verdict::Http) {
-        hold.reset_state();
-    }
+    let task = counted_task(request, task);
+    hold.outcome(alloc, &verdict, task)?;
     Ok(Acted {
-        what: What::Outcome(verdict, counted_task(request, task)),
+        what: What::Outcome(verdict, task),
         phase: Phase::AtFinish(ending.notes, ending.last),
     })
 }
@@ -53,15 +55,16 @@ pub fn act_store<H: Hold>(
     bytes: Bytes,
     ending: Ending,
 ) -> Result<Acted, NoMemory>
-    requires { IsQuietVerdict verdict }
-    ensures acts { IfOk result (λ a. Acts (H.config hold.old) (CompileOf request.now) (Phase.AtStore verdict task bytes ending) (H.moment hold.old) a) }
-    ensures moves { IfOk result (λ a. H.moves hold.old (need_at (setup (H.config hold.old)) (CompileOf request.now) (Phase.AtStore verdict task bytes ending)) a.what hold.new) }
+    ensures acts { IfOk result (λ a. Acts (H.config hold.old) (CompileOf request.now) (Phase.AtStore verdict task bytes ending) (H.moment hold.new) a) }
+    ensures moves { IfOk result (λ a. (since : Moments) → H.moves hold.old (asker since (need_at (setup (H.config hold.old)) (CompileOf request.now) (Phase.AtStore verdict task bytes ending)) (CompileOf request.now)) a.what hold.new) }
     ensures same { IfOk result (λ a. H.config hold.new ≡ H.config hold.old) }
     ensures unsent { IfOk result (λ a. sent_by a.what ≡ []) }
 {
     let levels = hold.plan(alloc)?;
+    let task = counted_task(request, task);
+    hold.outcome(alloc, &verdict, task)?;
     Ok(Acted {
-        what: What::Outcome(verdict, counted_task(request, task)),
+        what: What::Outcome(verdict, task),
         phase: Phase::AtWrite(bytes, levels, Refusal::NoneYet, Some(ending)),
     })
 }
@@ -97,16 +100,17 @@ pub(crate) fn write_level<H: Hold>(
     rest: Queue<u64>,
     refusal: Refusal,
     ending: Option<Ending>,
+    since: Since,
 ) -> Result<Acted, NoMemory>
     requires level { level < length (H.config hold.old).levels }
     requires remote { kind_at (H.config hold.old).levels level ≡ Remote }
     requires rest { AreLevels (length (H.config hold.old).levels) rest }
-    ensures acts { IfOk result (λ a. (r : Asks) → IsWriter r ending → Acts (H.config hold.old) r (Phase.AtWrite bytes (level ∷ rest) refusal ending) (H.moment hold.old) a) }
-    ensures moves { IfOk result (λ a. (r : Asks) → H.moves hold.old (need_at (setup (H.config hold.old)) r (Phase.AtWrite bytes (level ∷ rest) refusal ending)) a.what hold.new) }
+    ensures acts { IfOk result (λ a. (r : Asks) → IsWriter r ending → Acts (H.config hold.old) r (Phase.AtWrite bytes (level ∷ rest) refusal ending) (H.moment hold.new) a) }
+    ensures moves { IfOk result (λ a. (r : Asks) → H.moves hold.old (asker since (need_at (setup (H.config hold.old)) r (Phase.AtWrite bytes (level ∷ rest) refusal ending)) r) a.what hold.new) }
     ensures same { IfOk result (λ a. H.config hold.new ≡ H.config hold.old) }
     ensures unsent { IfOk result (λ a. sent_by a.what ≡ []) }
 {
-    let written = hold.write(alloc, level, &bytes)?;
+    let written = hold.write(alloc, level, &bytes, since)?;
     let key = bytes.key.try_clone()?;
     let copy = bytes.bytes.try_clone()?;
     let run = bytes.run;
@@ -126,13 +130,14 @@ pub(crate) fn end_write<H: Hold>(
     bytes: Bytes,
     refusal: Refusal,
     ending: Ending,
+    since: Since,
 ) -> Result<Acted, NoMemory>
-    ensures acts { IfOk result (λ a. Acts (H.config hold.old) (CompileOf request.now) (Phase.AtWrite bytes [] refusal (Some ending)) (H.moment hold.old) a) }
-    ensures moves { IfOk result (λ a. H.moves hold.old (need_at (setup (H.config hold.old)) (CompileOf request.now) (Phase.AtWrite bytes [] refusal (Some ending))) a.what hold.new) }
+    ensures acts { IfOk result (λ a. Acts (H.config hold.old) (CompileOf request.now) (Phase.AtWrite bytes [] refusal (Some ending)) (H.moment hold.new) a) }
+    ensures moves { IfOk result (λ a. H.moves hold.old (asker since (need_at (setup (H.config hold.old)) (CompileOf request.now) (Phase.AtWrite bytes [] refusal (Some ending))) (CompileOf request.now)) a.what hold.new) }
     ensures same { IfOk result (λ a. H.config hold.new ≡ H.config hold.old) }
     ensures unsent { IfOk result (λ a. sent_by a.what ≡ []) }
 {
-    let end = hold.put_end(alloc, &bytes, refusal)?;
+    let end = hold.put_end(alloc, true, &bytes, refusal, since)?;
     Ok(Acted {
         what: What::WriteEnded(end.answer, end.handed),
         phase: Phase::AtFinish(ending.notes, ending.last),

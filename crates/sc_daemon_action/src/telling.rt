@@ -1,21 +1,25 @@
 //! The actions of requests for what a daemon has counted, and for what its store and its distributed client tell of themselves.
-ghost use Rattle.std.specs.Prelude.{◌≡◌, ◌+◌, ◌<◌, ◌++◌, [], List, length, map, IfOk};
+ghost use Rattle.std.specs.Prelude.{◌≡◌, ◌+◌, ◌<◌, ◌++◌, [], length, map, IfOk, OnOk};
 ghost use Rattle.std.specs.Str.Lossy.{utf8_lossy};
-ghost use Rattle.sc_daemon_action.specs.Serves.{Stands, TellsStatistics};
+ghost use Rattle.sc_daemon_action.specs.Serves.{Stands};
 ghost use Rattle.sc_daemon_action.specs.Sizes.{counters_of, with_size};
-ghost use Rattle.sc_daemon_action.specs.Telling.{ActsFor, SaysCounted};
-ghost use Rattle.sc_daemon_job.specs.Setups.{Config, setup};
-ghost use Rattle.sc_model.specs.Follows as follows;
-ghost use Rattle.sc_model.specs.Machine.{counters_at as counters_in, need_at, phase_next};
+ghost use Rattle.sc_daemon_action.specs.Acts.{Acts};
+ghost use Rattle.sc_daemon_hold.specs.Beginning.{TellsStatistics};
+ghost use Rattle.sc_daemon_job.specs.Askers.{Asker, asker};
+ghost use Rattle.sc_daemon_job.specs.Setups.{setup};
+ghost use Rattle.sc_daemon_job.specs.declared.since.Since.{Since as Moments};
+ghost use Rattle.sc_model.specs.Describing as follows;
+ghost use Rattle.sc_model.specs.Conns.{need_at};
+ghost use Rattle.sc_model.specs.Phases.{phase_next};
 ghost use Rattle.sc_model.specs.Script.{is_single};
 ghost use Rattle.sc_model.specs.Trace.{sent_by};
 ghost use Rattle.sc_model.specs.declared.level.Policy.{Policy as PolicyType};
+ghost use Rattle.sc_model.specs.declared.event.Told.TheVariants.{Nothing as NothingTold};
+ghost use Rattle.sc_model.specs.declared.event.What.TheVariants.{Began as BeganEvent};
 ghost use Rattle.sc_model.specs.declared.message.Request.TheVariants as requests;
-ghost use Rattle.sc_stats.specs.declared.counters.LevelStats.{LevelStats as Counters};
-ghost use Rattle.sc_stats.specs.declared.counters.ServerStats.{ServerStats as Stats};
 
 use crate::acted::Acted;
-use sc_daemon_hold::Hold;
+use sc_daemon_hold::{Hold, LevelSize};
 use sc_entry::{ByteText, Items, NoMemory, Text};
 use sc_model::{Answer, Mode, Phase, Request, Response, Sized, StorageHandshakeInfo, Told, What};
 use sc_stats::{LevelStats, ServerInfo, ServerStats};
@@ -24,14 +28,26 @@ use std::alloc::Global;
 /// The version that is told of every daemon.
 const VERSION: &str = "0.19.0";
 
+/// Begins a request of which nothing is told.
+pub(crate) fn begin_untold<H: Hold>(
+    alloc: Global,
+    hold: &mut H,
+    request: &Request,
+) -> Result<(), NoMemory>
+    ensures moves { OnOk result ((n : Asker) → n.request ≡ request.now → H.moves hold.old n (BeganEvent request.now NothingTold) hold.new) }
+    ensures same { OnOk result (H.config hold.new ≡ H.config hold.old) }
+{
+    hold.begin_plain(alloc, request, &Told::Nothing)
+}
+
 /// Begins a request that all counters start anew.
 pub fn act_zero<H: Hold>(alloc: Global, hold: &mut H) -> Result<Acted, NoMemory>
-    ensures acts { IfOk result (λ a. ActsFor (H.config hold.old) requests.ZeroStats Phase.AtBegin (H.moment hold.old) a) }
-    ensures says { IfOk result (λ a. (p : PolicyType) (stats : Stats) (levels : List Counters) → SaysCounted p stats levels a.what) }
-    ensures moves { IfOk result (λ a. H.moves hold.old (need_at (setup (H.config hold.old)) requests.ZeroStats Phase.AtBegin) a.what hold.new) }
+    ensures acts { IfOk result (λ a. Acts (H.config hold.old) requests.ZeroStats Phase.AtBegin (H.moment hold.new) a) }
+    ensures moves { IfOk result (λ a. (since : Moments) → H.moves hold.old (asker since (need_at (setup (H.config hold.old)) requests.ZeroStats Phase.AtBegin) requests.ZeroStats) a.what hold.new) }
     ensures same { IfOk result (λ a. H.config hold.new ≡ H.config hold.old) }
     ensures unsent { IfOk result (λ a. sent_by a.what ≡ []) }
 {
+    begin_untold(alloc, hold, &Request::ZeroStats)?;
     Ok(Acted {
         what: What::Began(Request::ZeroStats, Told::Nothing),
         phase: Phase::AtSend(Response::ZeroStats),
@@ -44,13 +60,13 @@ pub fn act_record<H: Hold>(
     hold: &mut H,
     delta: &ServerStats,
 ) -> Result<Acted, NoMemory>
-    ensures acts { IfOk result (λ a. ActsFor (H.config hold.old) (requests.RecordStats delta.now) Phase.AtBegin (H.moment hold.old) a) }
-    ensures says { IfOk result (λ a. (p : PolicyType) (stats : Stats) (levels : List Counters) → SaysCounted p stats levels a.what) }
-    ensures moves { IfOk result (λ a. H.moves hold.old (need_at (setup (H.config hold.old)) (requests.RecordStats delta.now) Phase.AtBegin) a.what hold.new) }
+    ensures acts { IfOk result (λ a. Acts (H.config hold.old) (requests.RecordStats delta.now) Phase.AtBegin (H.moment hold.new) a) }
+    ensures moves { IfOk result (λ a. (since : Moments) → H.moves hold.old (asker since (need_at (setup (H.config hold.old)) (requests.RecordStats delta.now) Phase.AtBegin) (requests.RecordStats delta.now)) a.what hold.new) }
     ensures same { IfOk result (λ a. H.config hold.new ≡ H.config hold.old) }
     ensures unsent { IfOk result (λ a. sent_by a.what ≡ []) }
 {
     let request = Request::RecordStats(delta.clone()?);
+    begin_untold(alloc, hold, &request)?;
     Ok(Acted {
         what: What::Began(request, Told::Nothing),
         phase: Phase::AtSend(Response::RecordStats),
@@ -73,25 +89,24 @@ fn handshake<H: Hold>(alloc: Global, hold: &H) -> Result<StorageHandshakeInfo, N
 
 /// Begins a handshake with the store.
 pub fn act_handshake<H: Hold>(alloc: Global, hold: &mut H) -> Result<Acted, NoMemory>
-    ensures acts { IfOk result (λ a. ActsFor (H.config hold.old) requests.StorageHandshake Phase.AtBegin (H.moment hold.old) a) }
-    ensures says { IfOk result (λ a. (p : PolicyType) (stats : Stats) (levels : List Counters) → SaysCounted p stats levels a.what) }
-    ensures moves { IfOk result (λ a. H.moves hold.old (need_at (setup (H.config hold.old)) requests.StorageHandshake Phase.AtBegin) a.what hold.new) }
+    ensures acts { IfOk result (λ a. Acts (H.config hold.old) requests.StorageHandshake Phase.AtBegin (H.moment hold.new) a) }
+    ensures moves { IfOk result (λ a. (since : Moments) → H.moves hold.old (asker since (need_at (setup (H.config hold.old)) requests.StorageHandshake Phase.AtBegin) requests.StorageHandshake) a.what hold.new) }
     ensures same { IfOk result (λ a. H.config hold.new ≡ H.config hold.old) }
     ensures unsent { IfOk result (λ a. sent_by a.what ≡ []) }
 {
-    let told = handshake(alloc, hold)?;
+    let told = Told::Handshake(handshake(alloc, hold)?);
     let info = handshake(alloc, hold)?;
+    hold.begin_plain(alloc, &Request::StorageHandshake, &told)?;
     Ok(Acted {
-        what: What::Began(Request::StorageHandshake, Told::Handshake(told)),
+        what: What::Began(Request::StorageHandshake, told),
         phase: Phase::AtSend(Response::StorageHandshake(info)),
     })
 }
 
 /// Begins a request for where the distributed client stands.
 pub fn act_dist_status<H: Hold>(alloc: Global, hold: &mut H) -> Result<Acted, NoMemory>
-    ensures acts { IfOk result (λ a. ActsFor (H.config hold.old) requests.DistStatus Phase.AtBegin (H.moment hold.old) a) }
-    ensures says { IfOk result (λ a. (p : PolicyType) (stats : Stats) (levels : List Counters) → SaysCounted p stats levels a.what) }
-    ensures moves { IfOk result (λ a. H.moves hold.old (need_at (setup (H.config hold.old)) requests.DistStatus Phase.AtBegin) a.what hold.new) }
+    ensures acts { IfOk result (λ a. Acts (H.config hold.old) requests.DistStatus Phase.AtBegin (H.moment hold.new) a) }
+    ensures moves { IfOk result (λ a. (since : Moments) → H.moves hold.old (asker since (need_at (setup (H.config hold.old)) requests.DistStatus Phase.AtBegin) requests.DistStatus) a.what hold.new) }
     ensures same { IfOk result (λ a. H.config hold.new ≡ H.config hold.old) }
     ensures unsent { IfOk result (λ a. sent_by a.what ≡ []) }
 {
@@ -273,39 +288,29 @@ pub fn act_begin_stats<H: Hold>(
     alloc: Global,
     hold: &mut H,
     request: &Request,
-    stats: &ServerStats,
 ) -> Result<Acted, NoMemory>
     requires { TellsStatistics request.now }
-    ensures acts { IfOk result (λ a. ActsFor (H.config hold.old) request.now Phase.AtBegin (H.moment hold.old) a) }
-    ensures says { IfOk result (λ a. (p : PolicyType) (levels : List Counters) → SaysCounted p stats.now levels a.what) }
-    ensures moves { IfOk result (λ a. H.moves hold.old (need_at (setup (H.config hold.old)) request.now Phase.AtBegin) a.what hold.new) }
+    ensures acts { IfOk result (λ a. Acts (H.config hold.old) request.now Phase.AtBegin (H.moment hold.new) a) }
+    ensures moves { IfOk result (λ a. (since : Moments) → H.moves hold.old (asker since (need_at (setup (H.config hold.old)) request.now Phase.AtBegin) request.now) a.what hold.new) }
     ensures same { IfOk result (λ a. H.config hold.new ≡ H.config hold.old) }
     ensures unsent { IfOk result (λ a. sent_by a.what ≡ []) }
 {
-    let told = stats.clone()?;
-    let phase = next_size(alloc, hold, request, 0, stats.clone()?, Items::new(alloc))?;
+    let told = hold.begin_stats(alloc, request)?;
+    let phase = next_size(alloc, hold, request, 0, told.clone()?, Items::new(alloc))?;
     Ok(Acted {
         what: What::Began(same_request(request), Told::Stats(told)),
         phase,
     })
 }
 
-/// What was counted at a level: a store that stands alone tells none.
-fn counters_at(
-    alloc: Global,
-    single: bool,
-    levels: &[LevelStats],
-    level: u64,
-) -> Result<Option<LevelStats>, NoMemory>
-    ensures { IfOk result (λ counters. (p : PolicyType) → is_single p ≡ single → counters ≡ counters_in p levels.now level) }
+/// The same counters of a level, where they are told.
+fn same_counters(counters: &Option<LevelStats>) -> Result<Option<LevelStats>, NoMemory>
+    ensures { IfOk result (λ copy. copy ≡ counters.now) }
 {
-    if single {
-        return Ok(None);
+    match counters {
+        Some(level) => Ok(Some(level.clone()?)),
+        None => Ok(None),
     }
-    if level < levels.len() as u64 {
-        return Ok(Some(levels[level as usize].clone()?));
-    }
-    Ok(Some(LevelStats::new(alloc)))
 }
 
 /// Asks a level for its size, and tells what was counted there.
@@ -313,24 +318,20 @@ pub fn act_size_ask<H: Hold>(
     alloc: Global,
     hold: &mut H,
     request: &Request,
-    levels: &[LevelStats],
     level: u64,
     stats: ServerStats,
     sizes: Items<Sized>,
 ) -> Result<Acted, NoMemory>
     requires tells { TellsStatistics request.now }
     requires level { level < length (H.config hold.old).levels }
-    ensures acts { IfOk result (λ a. ActsFor (H.config hold.old) request.now (Phase.SizeAsk level stats sizes) (H.moment hold.old) a) }
-    ensures says { IfOk result (λ a. (counted : Stats) → SaysCounted (H.config hold.old).policy counted levels.now a.what) }
-    ensures moves { IfOk result (λ a. H.moves hold.old (need_at (setup (H.config hold.old)) request.now (Phase.SizeAsk level stats sizes)) a.what hold.new) }
+    ensures acts { IfOk result (λ a. Acts (H.config hold.old) request.now (Phase.SizeAsk level stats sizes) (H.moment hold.new) a) }
+    ensures moves { IfOk result (λ a. (since : Moments) → H.moves hold.old (asker since (need_at (setup (H.config hold.old)) request.now (Phase.SizeAsk level stats sizes)) request.now) a.what hold.new) }
     ensures same { IfOk result (λ a. H.config hold.new ≡ H.config hold.old) }
     ensures unsent { IfOk result (λ a. sent_by a.what ≡ []) }
 {
-    let single = hold.is_single();
     let _count = hold.level_count();
-    let told = counters_at(alloc, single, levels, level)?;
-    let counters = counters_at(alloc, single, levels, level)?;
-    let size = hold.size(alloc, level)?;
+    let LevelSize { size, counters } = hold.size(alloc, level)?;
+    let told = same_counters(&counters)?;
     let mut sizes = sizes;
     sizes.push(Sized { size, counters })?;
     let phase = next_size(alloc, hold, request, level + 1, stats, sizes)?;

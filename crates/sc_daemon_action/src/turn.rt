@@ -4,7 +4,7 @@ ghost use Rattle.sc_daemon_action.specs.Controls.{control_of as control_in};
 ghost use Rattle.sc_daemon_action.specs.Serves.{Stands};
 ghost use Rattle.sc_daemon_job.specs.Setups.{Config, setup};
 ghost use Rattle.sc_model.specs.Job as jobs;
-ghost use Rattle.sc_model.specs.Machine.{control_phase, missed_phase, phase_next, whole_phase, work_of as work_record, work_phase};
+ghost use Rattle.sc_model.specs.Phases.{control_phase, missed_phase, phase_next, whole_phase, work_of as work_record, work_phase};
 ghost use Rattle.sc_daemon_action.specs.Misses.{refused_miss};
 ghost use Rattle.sc_model.specs.Script.{is_single};
 ghost use Rattle.sc_model.specs.declared.message.Compile.{Compile as CompileRequest};

@@ -5,9 +5,11 @@ ghost use Rattle.sc_daemon_action.specs.Acts.{Acts};
 ghost use Rattle.sc_daemon_action.specs.Hands.{ActsWith, ServesWith, hand_of, writes};
 ghost use Rattle.sc_daemon_action.specs.Serves.{IsWriter};
 ghost use Rattle.sc_daemon_hold.specs.Holding.{HandsBy, Holds, KeepsHands, hand_at};
+ghost use Rattle.sc_daemon_job.specs.Askers.{asker};
 ghost use Rattle.sc_daemon_job.specs.Setups.{setup};
-ghost use Rattle.sc_model.specs.Follows.{kind_at};
-ghost use Rattle.sc_model.specs.Machine.{need_at, next_writes};
+ghost use Rattle.sc_model.specs.Dues.{kind_at};
+ghost use Rattle.sc_model.specs.Conns.{need_at};
+ghost use Rattle.sc_model.specs.Phases.{next_writes};
 ghost use Rattle.sc_model.specs.Plan.{note};
 ghost use Rattle.sc_model.specs.There.{AreLevels};
 ghost use Rattle.sc_model.specs.Trace.{sent_by};
@@ -19,6 +21,7 @@ use crate::entries::{EntryAction, commit_entry, fill_entry, open_entry};
 use crate::raw::end_put;
 use crate::storing::{end_write, goes_on, noted, write_level};
 use sc_daemon_hold::Hold;
+use sc_daemon_job::Since;
 use sc_disk::LruDiskCacheAddEntry;
 use sc_entry::{NoMemory, Queue};
 use sc_model::{Bytes, Cause, Ending, LevelKind, Phase, Refusal, Request, What, Written};
@@ -69,14 +72,15 @@ fn reserve_level<H: Hold>(
     rest: Queue<u64>,
     refusal: Refusal,
     ending: Option<Ending>,
+    since: Since,
 ) -> Result<Action, NoMemory>
     requires level { level < length (H.config hold.old).levels }
     requires disk { kind_at (H.config hold.old).levels level ≡ Disk }
     requires rest { AreLevels (length (H.config hold.old).levels) rest }
-    ensures acts { IfOk result (λ a. (r : Asks) → IsWriter r ending → ActsWith (H.config hold.old) (H.disk hold.new) r (Phase.AtWrite bytes (level ∷ rest) refusal ending) (H.moment hold.old) a) }
+    ensures acts { IfOk result (λ a. (r : Asks) → IsWriter r ending → ActsWith (H.config hold.old) (H.disk hold.new) r (Phase.AtWrite bytes (level ∷ rest) refusal ending) (H.moment hold.new) a) }
     ensures hands { IfOk result (λ a. HandsBy (H.disk hold.old) a.what None (hand_of a.entry a.phase)) }
     ensures others { IfOk result (λ a. KeepsHands None (H.disk hold.old) (H.disk hold.new)) }
-    ensures moves { IfOk result (λ a. (r : Asks) → H.moves hold.old (need_at (setup (H.config hold.old)) r (Phase.AtWrite bytes (level ∷ rest) refusal ending)) a.what hold.new) }
+    ensures moves { IfOk result (λ a. (r : Asks) → H.moves hold.old (asker since (need_at (setup (H.config hold.old)) r (Phase.AtWrite bytes (level ∷ rest) refusal ending)) r) a.what hold.new) }
     ensures same { IfOk result (λ a. H.config hold.new ≡ H.config hold.old) }
     ensures unsent { IfOk result (λ a. sent_by a.what ≡ []) }
 {
@@ -84,7 +88,7 @@ fn reserve_level<H: Hold>(
         what,
         written,
         entry,
-    } = open_entry(hold, level, &bytes)?;
+    } = open_entry(alloc, hold, level, &bytes, since)?;
     match written {
         Written::Done => Ok(Action {
             what,
@@ -107,15 +111,16 @@ fn act_fill<H: Hold>(
     refusal: Refusal,
     ending: Option<Ending>,
     entry: LruDiskCacheAddEntry,
+    since: Since,
 ) -> Result<Action, NoMemory>
     requires level { level < length (H.config hold.old).levels }
     requires disk { kind_at (H.config hold.old).levels level ≡ Disk }
     requires rest { AreLevels (length (H.config hold.old).levels) rest }
     requires holds { Holds (H.disk hold.old level) entry bytes [] None }
-    ensures acts { IfOk result (λ a. (r : Asks) → IsWriter r ending → ActsWith (H.config hold.old) (H.disk hold.new) r (Phase.AtFill bytes level rest refusal ending) (H.moment hold.old) a) }
+    ensures acts { IfOk result (λ a. (r : Asks) → IsWriter r ending → ActsWith (H.config hold.old) (H.disk hold.new) r (Phase.AtFill bytes level rest refusal ending) (H.moment hold.new) a) }
     ensures hands { IfOk result (λ a. HandsBy (H.disk hold.old) a.what (hand_at (Some entry) level (length bytes.bytes)) (hand_of a.entry a.phase)) }
     ensures others { IfOk result (λ a. KeepsHands (hand_at (Some entry) level (length bytes.bytes)) (H.disk hold.old) (H.disk hold.new)) }
-    ensures moves { IfOk result (λ a. (r : Asks) → H.moves hold.old (need_at (setup (H.config hold.old)) r (Phase.AtFill bytes level rest refusal ending)) a.what hold.new) }
+    ensures moves { IfOk result (λ a. (r : Asks) → H.moves hold.old (asker since (need_at (setup (H.config hold.old)) r (Phase.AtFill bytes level rest refusal ending)) r) a.what hold.new) }
     ensures same { IfOk result (λ a. H.config hold.new ≡ H.config hold.old) }
     ensures unsent { IfOk result (λ a. sent_by a.what ≡ []) }
 {
@@ -123,7 +128,7 @@ fn act_fill<H: Hold>(
         what,
         written,
         entry,
-    } = fill_entry(hold, level, entry, &bytes)?;
+    } = fill_entry(alloc, hold, level, entry, &bytes, since)?;
     match written {
         Written::Done => Ok(Action {
             what,
@@ -146,19 +151,20 @@ fn act_commit<H: Hold>(
     refusal: Refusal,
     ending: Option<Ending>,
     entry: LruDiskCacheAddEntry,
+    since: Since,
 ) -> Result<Action, NoMemory>
     requires level { level < length (H.config hold.old).levels }
     requires disk { kind_at (H.config hold.old).levels level ≡ Disk }
     requires rest { AreLevels (length (H.config hold.old).levels) rest }
     requires holds { Holds (H.disk hold.old level) entry bytes bytes.bytes (Some bytes.run) }
-    ensures acts { IfOk result (λ a. (r : Asks) → IsWriter r ending → ActsWith (H.config hold.old) (H.disk hold.new) r (Phase.AtCommit bytes level rest refusal ending) (H.moment hold.old) a) }
+    ensures acts { IfOk result (λ a. (r : Asks) → IsWriter r ending → ActsWith (H.config hold.old) (H.disk hold.new) r (Phase.AtCommit bytes level rest refusal ending) (H.moment hold.new) a) }
     ensures hands { IfOk result (λ a. HandsBy (H.disk hold.old) a.what (hand_at (Some entry) level (length bytes.bytes)) (hand_of a.entry a.phase)) }
     ensures others { IfOk result (λ a. KeepsHands (hand_at (Some entry) level (length bytes.bytes)) (H.disk hold.old) (H.disk hold.new)) }
-    ensures moves { IfOk result (λ a. (r : Asks) → H.moves hold.old (need_at (setup (H.config hold.old)) r (Phase.AtCommit bytes level rest refusal ending)) a.what hold.new) }
+    ensures moves { IfOk result (λ a. (r : Asks) → H.moves hold.old (asker since (need_at (setup (H.config hold.old)) r (Phase.AtCommit bytes level rest refusal ending)) r) a.what hold.new) }
     ensures same { IfOk result (λ a. H.config hold.new ≡ H.config hold.old) }
     ensures unsent { IfOk result (λ a. sent_by a.what ≡ []) }
 {
-    let EntryAction { what, written, .. } = commit_entry(hold, level, entry, &bytes)?;
+    let EntryAction { what, written, .. } = commit_entry(alloc, hold, level, entry, &bytes, since)?;
     let refusal = noted(written, refusal, level);
     let levels = goes_on(alloc, refusal, rest);
     Ok(Action {
@@ -176,20 +182,21 @@ fn end<H: Hold>(
     bytes: Bytes,
     refusal: Refusal,
     ending: Option<Ending>,
+    since: Since,
 ) -> Result<Acted, NoMemory>
     requires { IsWriter request.now ending }
-    ensures acts { IfOk result (λ a. Acts (H.config hold.old) request.now (Phase.AtWrite bytes [] refusal ending) (H.moment hold.old) a) }
-    ensures moves { IfOk result (λ a. H.moves hold.old (need_at (setup (H.config hold.old)) request.now (Phase.AtWrite bytes [] refusal ending)) a.what hold.new) }
+    ensures acts { IfOk result (λ a. Acts (H.config hold.old) request.now (Phase.AtWrite bytes [] refusal ending) (H.moment hold.new) a) }
+    ensures moves { IfOk result (λ a. H.moves hold.old (asker since (need_at (setup (H.config hold.old)) request.now (Phase.AtWrite bytes [] refusal ending)) request.now) a.what hold.new) }
     ensures same { IfOk result (λ a. H.config hold.new ≡ H.config hold.old) }
     ensures unsent { IfOk result (λ a. sent_by a.what ≡ []) }
 {
     match (request, ending) {
         (Request::Compile(compile), Some(ending)) => {
-            let acted = end_write(alloc, hold, compile, bytes, refusal, ending)?;
+            let acted = end_write(alloc, hold, compile, bytes, refusal, ending, since)?;
             Ok(acted)
         }
         (Request::StoragePutRaw(key, put), None) => {
-            let acted = end_put(alloc, hold, key, put, bytes, refusal)?;
+            let acted = end_put(alloc, hold, key, put, bytes, refusal, since)?;
             Ok(acted)
         }
         (_, _) => unreachable!(),
@@ -205,28 +212,29 @@ fn act_next<H: Hold>(
     levels: Queue<u64>,
     refusal: Refusal,
     ending: Option<Ending>,
+    since: Since,
 ) -> Result<Action, NoMemory>
     requires levels { AreLevels (length (H.config hold.old).levels) levels }
     requires ending { IsWriter request.now ending }
-    ensures acts { IfOk result (λ a. ActsWith (H.config hold.old) (H.disk hold.new) request.now (Phase.AtWrite bytes levels refusal ending) (H.moment hold.old) a) }
+    ensures acts { IfOk result (λ a. ActsWith (H.config hold.old) (H.disk hold.new) request.now (Phase.AtWrite bytes levels refusal ending) (H.moment hold.new) a) }
     ensures hands { IfOk result (λ a. HandsBy (H.disk hold.old) a.what None (hand_of a.entry a.phase)) }
     ensures others { IfOk result (λ a. KeepsHands None (H.disk hold.old) (H.disk hold.new)) }
-    ensures moves { IfOk result (λ a. H.moves hold.old (need_at (setup (H.config hold.old)) request.now (Phase.AtWrite bytes levels refusal ending)) a.what hold.new) }
+    ensures moves { IfOk result (λ a. H.moves hold.old (asker since (need_at (setup (H.config hold.old)) request.now (Phase.AtWrite bytes levels refusal ending)) request.now) a.what hold.new) }
     ensures same { IfOk result (λ a. H.config hold.new ≡ H.config hold.old) }
     ensures unsent { IfOk result (λ a. sent_by a.what ≡ []) }
 {
     let mut rest = levels;
     let Some(level) = rest.pop_front() else {
-        let acted = end(alloc, hold, request, bytes, refusal, ending)?;
+        let acted = end(alloc, hold, request, bytes, refusal, ending, since)?;
         return Ok(holding_none(acted));
     };
     match hold.kind(level) {
         LevelKind::Disk => {
-            let action = reserve_level(alloc, hold, bytes, level, rest, refusal, ending)?;
+            let action = reserve_level(alloc, hold, bytes, level, rest, refusal, ending, since)?;
             Ok(action)
         }
         LevelKind::Remote => {
-            let acted = write_level(alloc, hold, bytes, level, rest, refusal, ending)?;
+            let acted = write_level(alloc, hold, bytes, level, rest, refusal, ending, since)?;
             Ok(holding_none(acted))
         }
     }
@@ -239,29 +247,34 @@ pub fn act_writing<H: Hold>(
     request: &Request,
     phase: Phase,
     entry: Option<LruDiskCacheAddEntry>,
+    since: Since,
 ) -> Result<Action, NoMemory>
     requires serves { ServesWith (H.config hold.old) (H.disk hold.old) phase entry request.now }
     requires writes { writes phase ≡ true }
-    ensures acts { IfOk result (λ a. ActsWith (H.config hold.old) (H.disk hold.new) request.now phase (H.moment hold.old) a) }
+    ensures acts { IfOk result (λ a. ActsWith (H.config hold.old) (H.disk hold.new) request.now phase (H.moment hold.new) a) }
     ensures hands { IfOk result (λ a. HandsBy (H.disk hold.old) a.what (hand_of entry phase) (hand_of a.entry a.phase)) }
     ensures others { IfOk result (λ a. KeepsHands (hand_of entry phase) (H.disk hold.old) (H.disk hold.new)) }
-    ensures moves { IfOk result (λ a. H.moves hold.old (need_at (setup (H.config hold.old)) request.now phase) a.what hold.new) }
+    ensures moves { IfOk result (λ a. H.moves hold.old (asker since (need_at (setup (H.config hold.old)) request.now phase) request.now) a.what hold.new) }
     ensures same { IfOk result (λ a. H.config hold.new ≡ H.config hold.old) }
     ensures unsent { IfOk result (λ a. sent_by a.what ≡ []) }
 {
     match phase {
         Phase::AtWrite(bytes, levels, refusal, ending) => {
-            let action = act_next(alloc, hold, request, bytes, levels, refusal, ending)?;
+            let action = act_next(alloc, hold, request, bytes, levels, refusal, ending, since)?;
             Ok(action)
         }
         Phase::AtFill(bytes, level, rest, refusal, ending) => {
             let Some(held) = entry else { unreachable!() };
-            let action = act_fill(alloc, hold, bytes, level, rest, refusal, ending, held)?;
+            let action = act_fill(
+                alloc, hold, bytes, level, rest, refusal, ending, held, since,
+            )?;
             Ok(action)
         }
         Phase::AtCommit(bytes, level, rest, refusal, ending) => {
             let Some(held) = entry else { unreachable!() };
-            let action = act_commit(alloc, hold, bytes, level, rest, refusal, ending, held)?;
+            let action = act_commit(
+                alloc, hold, bytes, level, rest, refusal, ending, held, since,
+            )?;
             Ok(action)
         }
         _ => unreachable!(),

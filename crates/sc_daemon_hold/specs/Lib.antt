@@ -1,3 +1,3 @@
+pub mod Beginning
 pub mod Distributing
 pub mod Holding
-pub mod Quiet

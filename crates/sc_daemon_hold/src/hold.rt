@@ -1,4 +1,4 @@
-ghost use Rattle.std.specs.Prelude.{◌≡◌, ◌≢◌, ◌<◌, ◌&&◌, ℕ, Bool, false, not, [], length, IfOk, List, None, Option, Some};
+ghost use Rattle.std.specs.Prelude.{◌≡◌, ◌≢◌, ◌<◌, ◌&&◌, ℕ, not, [], length, IfOk, None, OnOk, Some};
 ghost use Rattle.sc_model.specs.There.{AreLevels};
 ghost use Rattle.sc_store_disk.specs.DiskStores.{DiskStore, entry_path};
 ghost use Rattle.sc_store_disk.specs.Entries.{ClosesEntry, FillsBy};
@@ -6,33 +6,34 @@ ghost use Rattle.sc_store_disk.specs.Marks.{filled_by};
 ghost use Rattle.sc_store_disk.specs.Moving.{OpensBy, written_of as reserved_of};
 ghost use Rattle.sc_daemon_hold.specs.Distributing.{GoodDist};
 ghost use Rattle.sc_daemon_hold.specs.Holding.{Elsewhere, Holds, IsGood, OpensNone, ReservesBy, SameRoom, filled_of};
-ghost use Rattle.sc_daemon_hold.specs.Quiet.{IsQuiet};
+ghost use Rattle.sc_daemon_hold.specs.Beginning.{IsPlainTold, IsTick, TellsStatistics};
 ghost use Rattle.sc_entry.specs.Causes.{IfTold};
+ghost use Rattle.sc_daemon_job.specs.Askers.{Asker, asker, is_compile};
 ghost use Rattle.sc_daemon_job.specs.Setups.{Config, setup};
 ghost use Rattle.sc_model.specs.Collected.{GoodAnswer};
-ghost use Rattle.sc_model.specs.Follows.{all_read_only, kind_at, mode_of};
+ghost use Rattle.sc_model.specs.Describing.{all_read_only, mode_of};
+ghost use Rattle.sc_model.specs.Dues.{kind_at};
 ghost use Rattle.sc_model.specs.Plan.{backfills, handed_by, is_none, plan, put_answer};
 ghost use Rattle.sc_model.specs.Script.{is_single};
 ghost use Rattle.sc_model.specs.World.{Need, keys_of};
 ghost use Rattle.sc_model.specs.declared.event.What.{What};
-ghost use Rattle.sc_model.specs.declared.event.What.TheVariants.{Asked as AskedEvent, Began, Committed, Dist, Filled, Keyed, Outcome, Placed, Ran, Reserved, Wrote};
+ghost use Rattle.sc_model.specs.declared.event.What.TheVariants.{Asked as AskedEvent, Began, Committed, Dist, Filled, Keyed, Outcome, Placed, Ran, Reserved, TokenTaken, WriteEnded, Wrote};
 ghost use Rattle.sc_model.specs.declared.event.Answer.TheVariants.{Size as SizeIs};
-ghost use Rattle.sc_model.specs.declared.event.Task.{Task};
-ghost use Rattle.sc_model.specs.declared.event.Told.TheVariants.{Dist as TellsDist};
-ghost use Rattle.sc_model.specs.declared.event.Verdict.TheVariants.{Http as HttpError};
+ghost use Rattle.sc_model.specs.declared.event.Told.TheVariants.{Compile as TellsCompile, Dist as TellsDist, Stats as TellsStats};
 ghost use Rattle.sc_model.specs.declared.event.Mode.TheVariants.{Path, Size as SizeMode, Whole};
-ghost use Rattle.sc_stats.specs.declared.counters.LevelStats.{LevelStats};
 ghost use Rattle.sc_wire.specs.Responses.{payload};
 ghost use Rattle.sc_model.specs.declared.level.LevelKind.TheVariants.{Disk, Remote};
+ghost use Rattle.sc_model.specs.declared.message.Request.{Request as Asks};
 ghost use Rattle.sc_model.specs.declared.message.Request.TheVariants.{Compile as CompileOf, DistStatus};
 
+use sc_daemon_job::Since;
 use sc_disk::LruDiskCacheAddEntry;
 use sc_entry::{ByteText, CacheMode, FileObjectSource, Items, NoMemory, Queue, Text};
 use sc_model::{
     Answer, Bytes, Compile, DistAnswer, Handed, KeyStep, LevelKind, Mode, Parsed, Placing, Put,
-    Refusal, RunAnswer, Written,
+    Refusal, Request, RunAnswer, Task, Told, Verdict, Written,
 };
-use sc_stats::DistInfo;
+use sc_stats::{DistInfo, LevelStats, ServerStats};
 use sc_store_disk::{Filling, Reservation};
 use std::alloc::Global;
 
@@ -57,15 +58,22 @@ pub struct Keying {
     pub step: KeyStep,
 }
 
+/// The bytes that a level holds and has reserved, and what was counted there, as far as they are told.
+#[derive(Drop)]
+pub struct LevelSize {
+    pub size: Option<u64>,
+    pub counters: Option<LevelStats>,
+}
+
 /// What one action of a request works on: a daemon of one's own, or one behind locks.
 pub trait Hold {
     /// What the daemon is made of. No action changes it.
     ghost config: { Self → Config };
 
-    /// How the hold may move by an event of a request that needs this of its parts.
-    ghost moves: { Self → Need → What → Self → Type 0 };
+    /// How the hold moves by an event that takes this from its owner. What the event counts is counted.
+    ghost moves: { Self → Asker → What → Self → Type 0 };
 
-    /// Its clock.
+    /// What its clock told as its last action ended.
     ghost moment: { Self → ℕ };
 
     /// A level as a disk store: what is open there.
@@ -117,23 +125,37 @@ pub trait Hold {
     fn plan(&self, alloc: Global) -> Result<Queue<u64>, NoMemory>
         ensures { IfOk result (λ levels. levels ≡ plan (config self.now).policy (config self.now).levels) };
 
-    /// What a put comes to.
-    fn put_end(&self, alloc: Global, bytes: &Bytes, refusal: Refusal) -> Result<PutEnd, NoMemory>
-        ensures answer { IfOk result (λ end. end.answer ≡ put_answer (config self.now).policy (config self.now).levels refusal) }
-        ensures handed { IfOk result (λ end. end.handed ≡ handed_by (config self.now).policy (config self.now).levels bytes.now refusal) };
+    /// The end of an action that calls nothing.
+    fn tick(&mut self)
+        ensures moves { (n : Asker) (what : What) → IsTick what → moves self.old n what self.new }
+        ensures same { config self.new ≡ config self.old };
 
     /// What a compile's words are, by the compiler at its path.
-    fn begin(&self, alloc: Global, request: &Compile) -> Result<Parsed, NoMemory>
-        ensures { IfOk result (λ parsed. IfTold ((config self.now).reads request.now) (λ told. parsed ≡ told)) };
+    fn begin(&mut self, alloc: Global, request: &Compile) -> Result<Parsed, NoMemory>
+        ensures moves { IfOk result (λ parsed. (n : Asker) → n.request ≡ CompileOf request.now → moves self.old n (Began (CompileOf request.now) (TellsCompile parsed)) self.new) }
+        ensures told { IfOk result (λ parsed. IfTold ((config self.old).reads request.now) (λ told. parsed ≡ told)) }
+        ensures same { IfOk result (λ _. config self.new ≡ config self.old) };
 
-    /// The key step of a compile, its first or a later one. It asks for a distributed client first.
-    fn key(&mut self, alloc: Global, request: &Compile, first: bool) -> Result<Keying, NoMemory>
-        ensures moves { IfOk result (λ keying. (n : Need) → n.keys ≡ keys_of (setup (config self.old)) (CompileOf request.now) → moves self.old n (Keyed first keying.client keying.step) self.new) }
+    /// Begins a request whose answer stands fast before it: one that tells neither statistics nor a distributed client.
+    fn begin_plain(&mut self, alloc: Global, request: &Request, told: &Told) -> Result<(), NoMemory>
+        requires plain { IsPlainTold told.now }
+        ensures moves { OnOk result ((n : Asker) → n.request ≡ request.now → moves self.old n (Began request.now told.now) self.new) }
+        ensures same { OnOk result (config self.new ≡ config self.old) };
+
+    /// Tells the statistics as they are now.
+    fn begin_stats(&mut self, alloc: Global, request: &Request) -> Result<ServerStats, NoMemory>
+        requires tells { TellsStatistics request.now }
+        ensures moves { IfOk result (λ stats. (n : Asker) → n.request ≡ request.now → moves self.old n (Began request.now (TellsStats stats)) self.new) }
         ensures same { IfOk result (λ _. config self.new ≡ config self.old) };
 
     /// Tells where the distributed client stands.
     fn dist_status(&mut self, alloc: Global) -> Result<DistInfo, NoMemory>
-        ensures moves { IfOk result (λ info. (n : Need) → moves self.old n (Began DistStatus (TellsDist info)) self.new) }
+        ensures moves { IfOk result (λ info. (n : Asker) → n.request ≡ DistStatus → moves self.old n (Began DistStatus (TellsDist info)) self.new) }
+        ensures same { IfOk result (λ _. config self.new ≡ config self.old) };
+
+    /// The key step of a compile, its first or a later one. It asks for a distributed client first.
+    fn key(&mut self, alloc: Global, request: &Compile, first: bool) -> Result<Keying, NoMemory>
+        ensures moves { IfOk result (λ keying. (n : Asker) → n.need.keys ≡ keys_of (setup (config self.old)) (CompileOf request.now) → moves self.old n (Keyed first keying.client keying.step) self.new) }
         ensures same { IfOk result (λ _. config self.new ≡ config self.old) };
 
     /// Compiles by the distributed client.
@@ -144,29 +166,45 @@ pub trait Hold {
         key: &Text,
         outputs: &[FileObjectSource],
     ) -> Result<DistAnswer, NoMemory>
-        ensures moves { IfOk result (λ answer. (n : Need) → n.key ≡ key.now → n.wanted ≡ outputs.now → moves self.old n (Dist answer) self.new) }
+        ensures moves { IfOk result (λ answer. (n : Asker) → n.need.key ≡ key.now → n.need.wanted ≡ outputs.now → moves self.old n (Dist answer) self.new) }
         ensures good { IfOk result (λ answer. GoodDist answer) }
         ensures same { IfOk result (λ answer. config self.new ≡ config self.old) };
 
-    /// Has the distributed client made anew at its next use: a server refused a job.
-    fn reset_state(&mut self)
-        ensures moves { (n : Need) (task : Task) → moves self.old n (Outcome HttpError task) self.new }
+    /// Tells a job's outcome. Where a server refused the job, the distributed client is made anew at its next use.
+    fn outcome(&mut self, alloc: Global, verdict: &Verdict, task: Task) -> Result<(), NoMemory>
+        ensures moves { OnOk result ((n : Asker) → moves self.old n (Outcome verdict.now task) self.new) }
+        ensures same { OnOk result (config self.new ≡ config self.old) };
+
+    /// What a put comes to, a compile's or another. The writes that it hands on are queued.
+    fn put_end(
+        &mut self,
+        alloc: Global,
+        compiles: bool,
+        bytes: &Bytes,
+        refusal: Refusal,
+        since: Since,
+    ) -> Result<PutEnd, NoMemory>
+        ensures moves { IfOk result (λ end. (n : Need) (r : Asks) → is_compile r ≡ compiles → moves self.old (asker since n r) (WriteEnded end.answer end.handed) self.new) }
+        ensures answer { IfOk result (λ end. end.answer ≡ put_answer (config self.old).policy (config self.old).levels refusal) }
+        ensures handed { IfOk result (λ end. end.handed ≡ handed_by (config self.old).policy (config self.old).levels bytes.now refusal) }
+        ensures same { IfOk result (λ _. config self.new ≡ config self.old) };
+
+    /// Takes a token: one is free.
+    fn take_token(&mut self)
+        ensures moves { (n : Asker) → moves self.old n TokenTaken self.new }
         ensures same { config self.new ≡ config self.old };
 
-    /// Asks a level. Paths are asked for by a call of their own.
-    fn ask(&mut self, alloc: Global, level: u64, key: &Text, mode: Mode) -> Result<Lookup, NoMemory>
-        requires level { level < length (config self.old).levels }
-        requires mode { mode ≢ Path }
-        ensures moves { IfOk result (λ lookup. (n : Need) → moves self.old n (AskedEvent level key.now mode lookup.answer lookup.handed) self.new) }
-        ensures handed { IfOk result (λ lookup. lookup.handed ≡ backfills (config self.old).policy (config self.old).levels level key.now mode lookup.answer) }
-        ensures same { IfOk result (λ lookup. config self.new ≡ config self.old) };
-
-    /// The bytes that a level holds and has reserved, where that is known. Whatever was counted at the level may be told
-    /// beside it.
-    fn size(&mut self, alloc: Global, level: u64) -> Result<Option<u64>, NoMemory>
-        requires { level < length (config self.old).levels }
-        ensures moves { IfOk result (λ size. (n : Need) (counters : Option LevelStats) → moves self.old n (AskedEvent level [] SizeMode (SizeIs size counters) []) self.new) }
-        ensures same { IfOk result (λ _. config self.new ≡ config self.old) };
+    /// Runs a compile, and gives the token back.
+    fn run(
+        &mut self,
+        alloc: Global,
+        request: &Compile,
+        key: &Text,
+        outputs: &[FileObjectSource],
+    ) -> Result<RunAnswer, NoMemory>
+        ensures moves { IfOk result (λ answer. (n : Asker) → n.need.key ≡ key.now → n.need.wanted ≡ outputs.now → moves self.old n (Ran answer) self.new) }
+        ensures good { IfOk result (λ answer. GoodAnswer answer) }
+        ensures same { IfOk result (λ answer. config self.new ≡ config self.old) };
 
     /// Places a hit's outputs.
     fn place(
@@ -176,26 +214,43 @@ pub trait Hold {
         outputs: &[FileObjectSource],
         entry: &ByteText,
     ) -> Result<Placing, NoMemory>
-        ensures moves { IfOk result (λ placing. (n : Need) → n.key ≡ key.now → n.outputs ≡ outputs.now → n.hit ≡ entry.now → moves self.old n (Placed placing) self.new) }
+        ensures moves { IfOk result (λ placing. (n : Asker) → n.need.key ≡ key.now → n.need.outputs ≡ outputs.now → n.need.hit ≡ entry.now → moves self.old n (Placed placing) self.new) }
         ensures same { IfOk result (λ placing. config self.new ≡ config self.old) };
 
-    /// Runs a compile.
-    fn run(
+    /// Asks a level, but for its size. Paths are asked for by a call of their own. The writes that it hands on are queued.
+    fn ask(
         &mut self,
         alloc: Global,
-        request: &Compile,
+        level: u64,
         key: &Text,
-        outputs: &[FileObjectSource],
-    ) -> Result<RunAnswer, NoMemory>
-        ensures moves { IfOk result (λ answer. (n : Need) → n.key ≡ key.now → n.wanted ≡ outputs.now → moves self.old n (Ran answer) self.new) }
-        ensures good { IfOk result (λ answer. GoodAnswer answer) }
-        ensures same { IfOk result (λ answer. config self.new ≡ config self.old) };
+        mode: Mode,
+        since: Since,
+    ) -> Result<Lookup, NoMemory>
+        requires level { level < length (config self.old).levels }
+        requires mode { mode ≢ Path }
+        requires counted { mode ≢ SizeMode }
+        ensures moves { IfOk result (λ lookup. (n : Need) (r : Asks) → moves self.old (asker since n r) (AskedEvent level key.now mode lookup.answer lookup.handed) self.new) }
+        ensures handed { IfOk result (λ lookup. lookup.handed ≡ backfills (config self.old).policy (config self.old).levels level key.now mode lookup.answer) }
+        ensures same { IfOk result (λ lookup. config self.new ≡ config self.old) };
+
+    /// The bytes that a level holds and has reserved, where that is known, and what was counted there: a store that stands
+    /// alone tells no counters.
+    fn size(&mut self, alloc: Global, level: u64) -> Result<LevelSize, NoMemory>
+        requires { level < length (config self.old).levels }
+        ensures moves { IfOk result (λ told. (n : Asker) → moves self.old n (AskedEvent level [] SizeMode (SizeIs told.size told.counters) []) self.new) }
+        ensures same { IfOk result (λ _. config self.new ≡ config self.old) };
 
     /// Writes an entry at a remote level.
-    fn write(&mut self, alloc: Global, level: u64, bytes: &Bytes) -> Result<Written, NoMemory>
+    fn write(
+        &mut self,
+        alloc: Global,
+        level: u64,
+        bytes: &Bytes,
+        since: Since,
+    ) -> Result<Written, NoMemory>
         requires level { level < length (config self.old).levels }
         requires remote { kind_at (config self.old).levels level ≡ Remote }
-        ensures moves { IfOk result (λ written. (n : Need) → moves self.old n (Wrote level bytes.now.key bytes.now.bytes Whole bytes.now.run written) self.new) }
+        ensures moves { IfOk result (λ written. (n : Need) (r : Asks) → moves self.old (asker since n r) (Wrote level bytes.now.key bytes.now.bytes Whole bytes.now.run written) self.new) }
         ensures same { IfOk result (λ written. config self.new ≡ config self.old) };
 
     /// What kind of store a level is.
@@ -204,10 +259,16 @@ pub trait Hold {
         ensures { result ≡ kind_at (config self.now).levels level };
 
     /// Opens an entry at a disk level, for these bytes under their key.
-    fn reserve(&mut self, level: u64, bytes: &Bytes) -> Result<Reservation, NoMemory>
+    fn reserve(
+        &mut self,
+        alloc: Global,
+        level: u64,
+        bytes: &Bytes,
+        since: Since,
+    ) -> Result<Reservation, NoMemory>
         requires level { level < length (config self.old).levels }
         requires disk { kind_at (config self.old).levels level ≡ Disk }
-        ensures moves { IfOk result (λ how. (n : Need) → moves self.old n (Reserved level bytes.now.key (length bytes.now.bytes) (reserved_of how)) self.new) }
+        ensures moves { IfOk result (λ how. (n : Need) (r : Asks) → moves self.old (asker since n r) (Reserved level bytes.now.key (length bytes.now.bytes) (reserved_of how)) self.new) }
         ensures opens { IfOk result (λ how. OpensBy (entry_path bytes.now.key) (length bytes.now.bytes) how (disk self.old level) (disk self.new level)) }
         ensures good { IfOk result (λ how. IsGood how bytes.now.key) }
         ensures elsewhere { IfOk result (λ _. Elsewhere level (disk self.old) (disk self.new)) }
@@ -216,14 +277,16 @@ pub trait Hold {
     /// Fills an open entry of a disk level with these bytes. A refusal closes it.
     fn fill(
         &mut self,
+        alloc: Global,
         level: u64,
         entry: LruDiskCacheAddEntry,
         bytes: &Bytes,
+        since: Since,
     ) -> Result<Filling, NoMemory>
         requires level { level < length (config self.old).levels }
         requires disk { kind_at (config self.old).levels level ≡ Disk }
         requires holds { Holds (disk self.old level) entry bytes.now [] None }
-        ensures moves { IfOk result (λ how. (n : Need) → moves self.old n (Filled level bytes.now.key bytes.now.bytes bytes.now.run (filled_of how)) self.new) }
+        ensures moves { IfOk result (λ how. (n : Need) (r : Asks) → moves self.old (asker since n r) (Filled level bytes.now.key bytes.now.bytes bytes.now.run (filled_of how)) self.new) }
         ensures fills { IfOk result (λ how. FillsBy entry bytes.now.bytes (filled_by bytes.now.run) how (disk self.old level) (disk self.new level)) }
         ensures elsewhere { IfOk result (λ _. Elsewhere level (disk self.old) (disk self.new)) }
         ensures same { IfOk result (λ _. config self.new ≡ config self.old) };
@@ -232,32 +295,32 @@ pub trait Hold {
     /// then, also by a refusal.
     fn commit(
         &mut self,
+        alloc: Global,
         level: u64,
         entry: LruDiskCacheAddEntry,
         bytes: &Bytes,
+        since: Since,
     ) -> Result<Written, NoMemory>
         requires level { level < length (config self.old).levels }
         requires disk { kind_at (config self.old).levels level ≡ Disk }
         requires holds { Holds (disk self.old level) entry bytes.now bytes.now.bytes (Some bytes.now.run) }
-        ensures moves { IfOk result (λ how. (n : Need) → n.mark ≡ bytes.now.run → moves self.old n (Committed level bytes.now.key bytes.now.bytes how) self.new) }
+        ensures moves { IfOk result (λ how. (n : Need) (r : Asks) → n.mark ≡ bytes.now.run → moves self.old (asker since n r) (Committed level bytes.now.key bytes.now.bytes how) self.new) }
         ensures closes { IfOk result (λ _. ClosesEntry entry.number (disk self.old level) (disk self.new level)) }
         ensures elsewhere { IfOk result (λ _. Elsewhere level (disk self.old) (disk self.new)) }
         ensures same { IfOk result (λ _. config self.new ≡ config self.old) };
 
     /// An event that opens, fills and closes no entry leaves what is open at each level.
-    ghost still: { (a : Self) (n : Need) (what : What) (b : Self) → moves a n what b → OpensNone what → (l : ℕ) → SameRoom (disk a l) (disk b l) };
+    ghost still: { (a : Self) (n : Asker) (what : What) (b : Self) → moves a n what b → OpensNone what → (l : ℕ) → SameRoom (disk a l) (disk b l) };
 
     /// Whether the levels tell what they hold does not change.
-    ghost tells: { (a : Self) (n : Need) (what : What) (b : Self) → moves a n what b → (l : ℕ) → (disk b l).told ≡ (disk a l).told };
+    ghost tells: { (a : Self) (n : Asker) (what : What) (b : Self) → moves a n what b → (l : ℕ) → (disk b l).told ≡ (disk a l).told };
 
     /// The bytes that are reserved at each level are those of the events.
-    ghost reserves: { (a : Self) (n : Need) (what : What) (b : Self) → moves a n what b → ReservesBy what (λ l. (disk a l).reserved) (λ l. (disk b l).reserved) };
+    ghost reserves: { (a : Self) (n : Asker) (what : What) (b : Self) → moves a n what b → ReservesBy what (λ l. (disk a l).reserved) (λ l. (disk b l).reserved) };
 
     /// A reply is spelled as it is on the wire.
     ghost spells: { (hold : Self) → (config hold).payload ≡ payload };
 
     /// The levels that a write goes to are there.
     ghost planned: { (hold : Self) → AreLevels (length (config hold).levels) (plan (config hold).policy (config hold).levels) };
-
-    ghost quiet: { (hold : Self) (n : Need) (what : What) → IsQuiet what → moves hold n what hold };
 }

@@ -4,4 +4,4 @@
 
 mod hold;
 
-pub use hold::{Hold, Keying, Lookup, PutEnd};
+pub use hold::{Hold, Keying, LevelSize, Lookup, PutEnd};

@@ -1,6 +1,6 @@
-use Rattle.std.proofs.Common.{◌≡◌, ℕ, suc, ◌+◌, ◌<◌, ◌≤◌, List, [], ◌∷◌, ◌++◌, codes, length, drop, get_or, ap, sym, ◌∙◌, append_assoc, add-one}
+use Rattle.std.proofs.Common.{◌≡◌, ℕ, suc, ◌+◌, ◌<◌, List, [], ◌∷◌, ◌++◌, codes, length, drop, get_or, ap, sym, ◌∙◌, append_assoc, add-one}
 use Rattle.std.proofs.Math.Seq.{drop-cons}
-use Rattle.sc_model.specs.Job.{caused_by}
+use Rattle.sc_model.specs.Finishing.{caused_by}
 
 -- one more line is written
 pub cause_written : (out : List ℕ) (chain : List (List ℕ)) (i : ℕ) (t : List ℕ) → i < length chain → t ≡ get_or chain i t

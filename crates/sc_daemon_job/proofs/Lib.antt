@@ -1,4 +1,5 @@
 pub mod Causes
 pub mod Counting
 pub mod Lines
+pub mod Sameness
 pub mod Storing

@@ -1,8 +1,8 @@
 -- A text is cut into lines at its line feeds.
-use Rattle.std.proofs.Common.{◌≡◌, ℕ, zero, suc, ◌+◌, ◌-◌, ◌<◌, ◌≢◌, ◌==◌, false, List, [], ◌∷◌, ◌++◌, length, take, drop, get_or, refl, ◌∙◌, arith, eq-eqb}
+use Rattle.std.proofs.Common.{◌≡◌, ℕ, zero, suc, ◌-◌, ◌<◌, ◌≢◌, ◌==◌, false, List, [], ◌∷◌, length, take, drop, get_or, refl, arith, eq-eqb}
 use Rattle.std.proofs.Math.Nat.{sub_self}
 use Rattle.std.proofs.lemmas.Grind.{common_steps}
-use Rattle.sc_model.specs.Job.{lines}
+use Rattle.sc_model.specs.Finishing.{lines}
 
 neq-eqb : (a b : ℕ) → a ≢ b → (a == b) ≡ false
 neq-eqb a b h = grind (arith, common_steps)

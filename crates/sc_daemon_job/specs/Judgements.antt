@@ -1,7 +1,7 @@
 -- How a run's output is judged, without what it carries.
 use Rattle.sc_daemon_job.specs.declared.verdict.Judgement.{Judgement}
 use Rattle.sc_daemon_job.specs.declared.verdict.Judgement.TheVariants.{Cacheable, Failed, NotCacheable, NotCached}
-use Rattle.sc_model.specs.Job.{IsFailed, IsNotCacheable, IsNotCached, Judged, judge_objects}
+use Rattle.sc_model.specs.Judging.{IsFailed, IsNotCacheable, IsNotCached, Judged, judge_objects}
 use Rattle.sc_model.specs.declared.event.Objects.{Objects}
 
 -- what an output is, by what is said of it and its objects

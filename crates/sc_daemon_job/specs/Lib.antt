@@ -1,3 +1,4 @@
+pub mod Askers
 pub mod Judgements
 pub mod Languages
 pub mod LevelRows

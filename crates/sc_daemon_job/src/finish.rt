@@ -1,9 +1,9 @@
 //! The last reply of a compile.
 ghost use Rattle.std.specs.Prelude.{◌≡◌, ◌++◌, [], pos, negsuc, codes, IfOk};
 ghost use Rattle.sc_entry.specs.Entries.{objects};
-ghost use Rattle.sc_model.specs.Job.{caused_by, first_text, fatal_text as text_of_fault, retcode, signal, stored_bytes};
+ghost use Rattle.sc_model.specs.Finishing.{caused_by, first_text, fatal_text as text_of_fault, retcode, signal, stored_bytes};
 
-use sc_entry::{ByteText, CacheRead, Items, NoMemory, ReadEntryError, Text};
+use sc_entry::{ByteText, CacheRead, NoMemory, ReadEntryError, Text};
 use sc_model::{ColorMode, CompileFinished, Output, Status};
 use std::alloc::Global;
 

@@ -1,14 +1,14 @@
 //! What an event counts at the level that it names.
-ghost use Rattle.std.specs.Prelude.{◌≡◌, ℕ, Bool, List};
-ghost use Rattle.sc_daemon_job.specs.LevelRows.{origin_of};
-ghost use Rattle.sc_model.specs.Machine.{counted_at, counted_level};
+ghost use Rattle.std.specs.Prelude.{◌≡◌, ℕ, Bool, List, Some};
+ghost use Rattle.sc_daemon_job.specs.LevelRows.{counted_in, origin_of};
+ghost use Rattle.sc_model.specs.Machine.{counted_at};
 ghost use Rattle.sc_model.specs.Rows as rows;
 ghost use Rattle.sc_model.specs.Script.{is_single};
 ghost use Rattle.sc_model.specs.declared.event.What.TheVariants.{Wrote};
 ghost use Rattle.sc_stats.specs.Sums.{no_level_stats};
 ghost use Rattle.sc_model.specs.declared.level.Policy.{Policy as PolicyType};
 
-use sc_model::{Answer, Mode, What, Written};
+use sc_model::{Answer, Mode, Written};
 use sc_stats::{LevelStats, Span};
 use std::alloc::Global;
 
@@ -37,7 +37,8 @@ fn done_row(alloc: Global, origin: Origin, duration: u64) -> LevelStats
     row
 }
 
-fn refused_row(alloc: Global, origin: Origin) -> LevelStats
+/// What a refused write counts.
+pub fn refused_row(alloc: Global, origin: Origin) -> LevelStats
     ensures { result ≡ rows.refused_row (origin_of origin) }
 {
     let mut row = LevelStats::new(alloc);
@@ -48,7 +49,8 @@ fn refused_row(alloc: Global, origin: Origin) -> LevelStats
     row
 }
 
-fn written_row(alloc: Global, origin: Origin, duration: u64, written: Written) -> LevelStats
+/// What the end of a write counts that took so long.
+pub fn written_row(alloc: Global, origin: Origin, duration: u64, written: Written) -> LevelStats
     ensures { result ≡ rows.written_level_row (origin_of origin) duration written }
 {
     match written {
@@ -99,7 +101,14 @@ fn looked_row(alloc: Global, level: u64, answer: &Answer, duration: u64) -> Leve
     }
 }
 
-fn asked_row(alloc: Global, level: u64, mode: Mode, answer: &Answer, duration: u64) -> LevelStats
+/// What a lookup counts that took so long.
+pub fn asked_row(
+    alloc: Global,
+    level: u64,
+    mode: Mode,
+    answer: &Answer,
+    duration: u64,
+) -> LevelStats
     ensures { result ≡ rows.asked_row level mode answer.now duration }
 {
     match mode {
@@ -112,7 +121,7 @@ fn asked_row(alloc: Global, level: u64, mode: Mode, answer: &Answer, duration: u
 }
 
 /// What a remote level's write counts.
-fn wrote_row(
+pub fn wrote_row(
     alloc: Global,
     origin: Origin,
     last: u64,
@@ -135,77 +144,20 @@ fn wrote_row(
     }
 }
 
-/// What an event counts at the level that it names. `last` is the moment of its owner's event before, `since` that of its
-/// owner's last reservation, and `moment` its own, in nanoseconds.
-pub fn level_row(
-    alloc: Global,
-    origin: Origin,
-    last: u64,
-    since: u64,
-    moment: u64,
-    what: &What,
-) -> LevelStats
-    ensures { result ≡ rows.level_row (origin_of origin) last since moment what.now }
+/// Adds a row to the counters of a level, if there is such a level.
+fn count_at(levels: &mut [LevelStats], level: u64, row: &LevelStats)
+    ensures { levels.new ≡ counted_at (Some level) row.now levels.old }
 {
-    match what {
-        What::Asked(level, _, mode, answer, _) => {
-            let duration = moment.saturating_sub(last);
-            asked_row(alloc, *level, *mode, answer, duration)
-        }
-        What::Reserved(_, _, _, Written::Refused(_)) => refused_row(alloc, origin),
-        What::Filled(_, _, _, _, Written::Refused(_)) => refused_row(alloc, origin),
-        What::Committed(_, _, _, written) => {
-            let duration = moment.saturating_sub(since);
-            written_row(alloc, origin, duration, *written)
-        }
-        What::Wrote(_, _, _, mode, _, written) => wrote_row(
-            alloc, origin, last, moment, *mode, *written,
-        ),
-        _ => LevelStats::new(alloc),
-    }
-}
-
-/// The level that an event names.
-fn level_named(what: &What) -> Option<u64>
-    ensures { result ≡ rows.level_named what.now }
-{
-    match what {
-        What::Asked(level, _, _, _, _) => Some(*level),
-        What::Reserved(level, _, _, _) => Some(*level),
-        What::Filled(level, _, _, _, _) => Some(*level),
-        What::Committed(level, _, _, _) => Some(*level),
-        What::Wrote(level, _, _, _, _, _) => Some(*level),
-        _ => None,
-    }
-}
-
-/// Adds a row to the counters of a level, if one is named.
-fn count_at(levels: &mut [LevelStats], level: Option<u64>, row: &LevelStats)
-    ensures { levels.new ≡ counted_at level row.now levels.old }
-{
-    if let Some(level) = level
-        && level < levels.len() as u64
-    {
+    if level < levels.len() as u64 {
         levels[level as usize].add_assign(row);
     }
 }
 
-/// Adds what an event counts at the level that it names. A store that stands alone has no counters of levels.
-pub fn count_level(
-    alloc: Global,
-    levels: &mut [LevelStats],
-    single: bool,
-    origin: Origin,
-    last: u64,
-    since: u64,
-    moment: u64,
-    what: &What,
-)
-    ensures { (policy : PolicyType) → is_single policy ≡ single → levels.new ≡ counted_level policy (rows.level_row (origin_of origin) last since moment what.now) what.now levels.old }
+/// Adds a row to the counters of a level. A store that stands alone has no counters of levels.
+pub fn count_level(levels: &mut [LevelStats], single: bool, level: u64, row: &LevelStats)
+    ensures { (policy : PolicyType) → is_single policy ≡ single → levels.new ≡ counted_in policy level row.now levels.old }
 {
-    if single {
-        return;
+    if !single {
+        count_at(levels, level, row);
     }
-    let row = level_row(alloc, origin, last, since, moment, what);
-    count_at(levels, level_named(what), &row);
 }

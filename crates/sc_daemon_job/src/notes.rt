@@ -1,7 +1,7 @@
 //! The notifications of a run.
-ghost use Rattle.std.specs.Prelude.{◌≡◌, ◌<◌, ◌∷◌, ◌++◌, [], length, OnOk, IfOk};
+ghost use Rattle.std.specs.Prelude.{◌≡◌, ◌<◌, ◌∷◌, ◌++◌, [], length, IfOk};
 ghost use Rattle.sc_model.specs.Notes.{is_note};
-ghost use Rattle.sc_model.specs.Job.{kept_lines, lines, notes_in};
+ghost use Rattle.sc_model.specs.Finishing.{kept_lines, lines, notes_in};
 ghost use Rattle.sc_model.specs.declared.message.Compile.{Compile as CompileRequest};
 ghost use Rattle.sc_model.specs.declared.message.Request.TheVariants.{Compile as OfCompile};
 ghost use Rattle.sc_daemon_job.specs.Setups.{Config, setup};

@@ -1,14 +1,16 @@
 //! What an event of a request counts.
 ghost use Rattle.std.specs.Prelude.{◌≡◌, ◌&&◌, ◌++◌, not, codes, bytes_eq, IfOk};
-ghost use Rattle.sc_model.specs.Rows.{began_row, count, missed_row, parsed_row, reason, row, verdict_row, with_dist, written_row, zeroes};
+ghost use Rattle.sc_model.specs.Rows.{began_row, missed_row, parsed_row, reason, verdict_row, with_dist, written_row};
 ghost use Rattle.sc_model.specs.declared.message.Compile.{Compile as CompileRequest};
+ghost use Rattle.sc_model.specs.declared.message.Request.{Request as Asks};
 ghost use Rattle.sc_model.specs.declared.message.Request.TheVariants.{Compile as OfCompile};
 ghost use Rattle.sc_stats.specs.Sums.{no_stats, one_of};
 ghost use Rattle.sc_daemon_job.specs.Languages.{counted_once as counted_task};
+ghost use Rattle.sc_daemon_job.specs.Askers.{is_compile};
 ghost use Rattle.sc_daemon_job.specs.Setups.{Config, setup};
 
 use sc_entry::{Counts, NoMemory, Text};
-use sc_model::{DistType, MissType, Parsed, Put, Request, Task, Told, Verdict, What};
+use sc_model::{DistType, MissType, Parsed, Put, Request, Task, Told, Verdict};
 use sc_stats::{PerLanguageCount, ServerStats, Span};
 use std::alloc::Global;
 
@@ -86,7 +88,7 @@ fn row_of_not_cacheable(
 }
 
 /// What the reading of a compile's words counts.
-fn row_of_parsed(alloc: Global, parsed: &Parsed) -> Result<ServerStats, NoMemory>
+pub fn row_of_parsed(alloc: Global, parsed: &Parsed) -> Result<ServerStats, NoMemory>
     ensures { IfOk result (λ r. r ≡ parsed_row parsed.now) }
 {
     match parsed {
@@ -120,7 +122,7 @@ fn row_of_compile(alloc: Global, told: &Told) -> Result<ServerStats, NoMemory>
 }
 
 /// What the beginning of a request counts.
-fn row_of_began(alloc: Global, request: &Request, told: &Told) -> Result<ServerStats, NoMemory>
+pub fn row_of_began(alloc: Global, request: &Request, told: &Told) -> Result<ServerStats, NoMemory>
     ensures { IfOk result (λ r. r ≡ began_row request.now told.now) }
 {
     match request {
@@ -145,7 +147,8 @@ fn row_of_began(alloc: Global, request: &Request, told: &Told) -> Result<ServerS
     }
 }
 
-fn row_of_keyed(alloc: Global) -> ServerStats
+/// What the first key step of a compile counts.
+pub fn row_of_keyed(alloc: Global) -> ServerStats
     ensures { result ≡ record no_stats { requests_executed = 1 } }
 {
     let mut row = ServerStats::new(alloc);
@@ -254,7 +257,7 @@ fn row_of_process_error(alloc: Global) -> ServerStats
 }
 
 /// What the outcome of a compile counts.
-fn row_of_verdict(alloc: Global, task: Task, verdict: &Verdict) -> Result<ServerStats, NoMemory>
+pub fn row_of_verdict(alloc: Global, task: Task, verdict: &Verdict) -> Result<ServerStats, NoMemory>
     ensures { IfOk result (λ r. (k : Config) → r ≡ verdict_row (setup k) task verdict.now) }
 {
     match verdict {
@@ -311,75 +314,14 @@ fn row_of_compile_write(alloc: Global, duration: u64, put: &Put) -> ServerStats
     }
 }
 
-/// What the end of a write counts: one that no compile made counts nothing.
-fn row_of_write(alloc: Global, request: &Request, duration: u64, put: &Put) -> ServerStats
-    ensures { result ≡ written_row request.now duration put.now }
+/// What the end of a write counts that took so long: one that no compile made counts nothing.
+#[tactic(auto, using(crate::proofs::Counting::no_compile_writes))]
+pub fn row_of_write(alloc: Global, compiles: bool, duration: u64, put: &Put) -> ServerStats
+    ensures { (request : Asks) → is_compile request ≡ compiles → result ≡ written_row request duration put.now }
 {
-    match request {
-        Request::Compile(_) => row_of_compile_write(alloc, duration, put),
-        Request::ZeroStats => ServerStats::new(alloc),
-        Request::GetStats => ServerStats::new(alloc),
-        Request::DistStatus => ServerStats::new(alloc),
-        Request::Shutdown => ServerStats::new(alloc),
-        Request::StorageHandshake => ServerStats::new(alloc),
-        Request::StorageGetPath(_) => ServerStats::new(alloc),
-        Request::StorageGetRaw(_) => ServerStats::new(alloc),
-        Request::StoragePutRaw(_, _) => ServerStats::new(alloc),
-        Request::StorageGetPreprocessorEntry(_) => ServerStats::new(alloc),
-        Request::StoragePutPreprocessorEntry(_, _) => ServerStats::new(alloc),
-        Request::RecordStats(_) => ServerStats::new(alloc),
+    if compiles {
+        row_of_compile_write(alloc, duration, put)
+    } else {
+        ServerStats::new(alloc)
     }
-}
-
-/// What an event of a request to a daemon of plain compilers counts. `moment` is the event's, and `since` that of the
-/// request's outcome, in nanoseconds.
-pub fn row_of(
-    alloc: Global,
-    request: &Request,
-    since: u64,
-    moment: u64,
-    what: &What,
-) -> Result<ServerStats, NoMemory>
-    ensures { IfOk result (λ r. (k : Config) → r ≡ row (setup k) request.now since moment what.now) }
-{
-    match what {
-        What::Began(_, told) => row_of_began(alloc, request, told),
-        What::Keyed(true, _, _) => Ok(row_of_keyed(alloc)),
-        What::Outcome(verdict, task) => row_of_verdict(alloc, *task, verdict),
-        What::WriteEnded(put, _) => {
-            let duration = moment.saturating_sub(since);
-            Ok(row_of_write(alloc, request, duration, put))
-        }
-        _ => Ok(ServerStats::new(alloc)),
-    }
-}
-
-/// Whether all counts start anew at an event.
-fn starts_anew(what: &What) -> bool
-    ensures { result ≡ zeroes what.now }
-{
-    match what {
-        What::Began(Request::ZeroStats, _) => true,
-        _ => false,
-    }
-}
-
-/// Adds what an event of a request to a daemon of plain compilers counts; all counts start anew where a request for that
-/// began.
-pub fn count_event(
-    alloc: Global,
-    stats: &mut ServerStats,
-    request: &Request,
-    since: u64,
-    moment: u64,
-    what: &What,
-) -> Result<(), NoMemory>
-    ensures { IfOk result (λ _. (k : Config) → stats.new ≡ count (zeroes what.now) stats.old (row (setup k) request.now since moment what.now)) }
-{
-    if starts_anew(what) {
-        *stats = ServerStats::new(alloc);
-        return Ok(());
-    }
-    let row = row_of(alloc, request, since, moment, what)?;
-    stats.add_assign(&row)
 }

@@ -1,7 +1,7 @@
 //! What a run's output comes to.
 ghost use Rattle.std.specs.Prelude.{◌≡◌};
 ghost use Rattle.sc_daemon_job.specs.Judgements.{judged_by};
-ghost use Rattle.sc_model.specs.Job.{judge as judged, judge_miss};
+ghost use Rattle.sc_model.specs.Judging.{judge as judged, judge_miss};
 ghost use Rattle.sc_model.specs.declared.event.Objects.{Objects};
 
 use sc_model::{Job, MissType, RunOutput, Status};

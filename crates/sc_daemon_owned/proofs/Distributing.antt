@@ -1,5 +1,5 @@
 -- How a state moves by what its distributed client and its maker did.
-use Rattle.std.proofs.Common.{◌≡◌, ℕ, ◌≤◌, Bool, true, false, List, [], ◌∷◌, Option, refl, ap, sym, subst, ◌∙◌}
+use Rattle.std.proofs.Common.{◌≡◌, ℕ, ◌≤◌, Bool, true, List, Option, refl, ap, sym, subst, ◌∙◌}
 use Rattle.sc_model.proofs.Goods.{good_answer}
 use Rattle.sc_compile.specs.Tools.{told_key}
 use Rattle.sc_compile_dist.specs.Containers.{Contained, GetsClient, GetsStatus, Gives, container_of, scheduler}
@@ -12,7 +12,9 @@ use Rattle.sc_daemon_hold.specs.Distributing.{GoodDist}
 use Rattle.sc_daemon_job.specs.Setups.{setup}
 use Rattle.sc_daemon_owned.specs.Facts.{config_of}
 use Rattle.sc_model.specs.Script.{Scheduler}
-use Rattle.sc_model.specs.World.{Container, DistCause, Need, Renews, Tells_client, Tells_status, World, and_one, keys_of, reset}
+use Rattle.sc_model.specs.Containers.{Container, Renews, Tells_client, Tells_status, reset}
+use Rattle.sc_model.specs.Levels.{and_one}
+use Rattle.sc_model.specs.World.{DistCause, Need, keys_of}
 use Rattle.sc_model.specs.declared.event.DistAnswer.{DistAnswer}
 use Rattle.sc_model.specs.declared.event.DistAnswer.TheVariants.{Done, Http as HttpAnswer, Other, TooLarge}
 use Rattle.sc_model.specs.declared.event.KeyStep.{KeyStep}

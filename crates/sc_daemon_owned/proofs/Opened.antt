@@ -14,8 +14,11 @@ use Rattle.sc_entry.specs.Keys.{IsStoreKey, is_store_key, make_key_path}
 use Rattle.sc_daemon_hold.specs.Holding.{Holds, IsGood, OpensNone, ReservesBy, filled_of}
 use Rattle.sc_daemon_job.specs.Setups.{setup}
 use Rattle.sc_daemon_owned.specs.Facts.{config_of}
-use Rattle.sc_model.specs.Follows.{kind_at}
-use Rattle.sc_model.specs.World.{Commits, Fills, Later, Level, Need, World, causes, or_cause, read_only_store, refuses_writes, room_cause}
+use Rattle.sc_model.specs.Dues.{kind_at}
+use Rattle.sc_model.specs.Levels.{Later, Level}
+use Rattle.sc_model.specs.World.{Need, World}
+use Rattle.sc_model.specs.WriteCauses.{causes, or_cause, read_only_store, refuses_writes, room_cause}
+use Rattle.sc_model.specs.Writing.{Commits, Fills}
 use Rattle.sc_model.specs.declared.event.What.{What}
 use Rattle.sc_model.specs.declared.event.What.TheVariants.{Committed, Filled, Reserved}
 use Rattle.sc_model.specs.declared.event.Written.{Written}

@@ -1,14 +1,16 @@
 -- How a state moves by what its parts did.
-use Rattle.std.proofs.Common.{◌≡◌, ◌≢◌, ℕ, ◌≤◌, Bool, true, IsTrue, List, [], Option, Some, None, refl, ap, sym, subst, ◌∙◌, option_map}
+use Rattle.std.proofs.Common.{◌≡◌, ◌≢◌, ℕ, ◌≤◌, Bool, IsTrue, List, [], Option, Some, None, refl, ap, sym, subst, ◌∙◌, option_map}
 use Rattle.sc_compile.specs.Answers.{Runs, told_answer}
 use Rattle.sc_compile.specs.Placings.{Places, told_refusal}
 use Rattle.sc_entry.specs.Causes.{IfTold}
 use Rattle.sc_entry.specs.Entries.{objects}
 use Rattle.sc_entry.specs.declared.object.FileObjectSource.{FileObjectSource}
-use Rattle.sc_model.specs.Follows.{kind_at}
+use Rattle.sc_model.specs.Dues.{kind_at}
 use Rattle.sc_daemon_hold.specs.Holding.{OpensNone, ReservesBy}
 use Rattle.sc_model.specs.Plan.{level_facts}
-use Rattle.sc_model.specs.World.{Asks, Level, Opens_by, Need, Place, RunCause, World, and_one, first_missing, Asks_calls, CallsOf}
+use Rattle.sc_model.specs.Asking.{Asks, Opens_by, Asks_calls, CallsOf}
+use Rattle.sc_model.specs.Levels.{Level, and_one}
+use Rattle.sc_model.specs.World.{Need, Place, RunCause, World, first_missing}
 use Rattle.sc_model.specs.declared.event.Answer.{Answer}
 use Rattle.sc_model.specs.declared.event.Answer.TheVariants.{Found as FoundAt, Hit, Miss, Refused, Size as SizeIs}
 use Rattle.sc_model.specs.declared.event.Mode.{Mode}

@@ -16,7 +16,9 @@ use Rattle.sc_entry.specs.contracts.object.FileObjectSource as output_type
 use Rattle.sc_entry.specs.declared.object.FileObjectSource.{FileObjectSource}
 use Rattle.sc_daemon_job.specs.Setups.{StoreTold}
 use Rattle.sc_daemon_owned.specs.Facts.{DaemonFacts, DistTold}
-use Rattle.sc_model.specs.World.{Container, Level, Place, World}
+use Rattle.sc_model.specs.Containers.{Container}
+use Rattle.sc_model.specs.Levels.{Level}
+use Rattle.sc_model.specs.World.{Place, World}
 use Rattle.sc_model.specs.contracts.event.DistAnswer as dist_type
 use Rattle.sc_model.specs.contracts.event.RunAnswer as answer_type
 use Rattle.sc_model.specs.contracts.level.DistClientState as container_type

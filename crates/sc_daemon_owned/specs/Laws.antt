@@ -1,9 +1,9 @@
 -- What holds of every state.
-use Rattle.std.specs.Prelude.{◌≡◌, ℕ, zero, suc, ◌<◌, Bool, ◌&&◌, ◌==◌, true, false, T, List, [], ◌∷◌, length, refl}
+use Rattle.std.specs.Prelude.{◌≡◌, ℕ, zero, suc, Bool, ◌&&◌, ◌==◌, true, false, T, List, length, refl}
 use Rattle.std.proofs.Common.{ap, arith, eqb-true, sym, subst}
 use Rattle.sc_model.specs.There.{AreLevels}
 use Rattle.sc_daemon_hold.specs.Holding.{OpensNone, ReservesBy, SameRoom}
-use Rattle.sc_daemon_hold.specs.Quiet.{IsQuiet}
+use Rattle.sc_daemon_owned.specs.Quiet.{IsQuiet}
 use Rattle.sc_model.proofs.There.{levels_there}
 use Rattle.sc_model.specs.Plan.{is_required, plan}
 use Rattle.sc_model.specs.Script.{Setup, is_single}

@@ -3,4 +3,5 @@ pub mod Distributing
 pub mod Facts
 pub mod Laws
 pub mod Moving
+pub mod Quiet
 pub mod State

@@ -1,6 +1,6 @@
 use crate::scripts::made;
 use sc_compile_direct::{CompileAnswer, CompileResult, Compiled, get_cached_or_compile};
-use sc_daemon_owned::Owned;
+use sc_daemon::Daemon;
 use sc_entry::{ByteText, Items};
 use sc_main_memory::Memory;
 use sc_model::{CCompilerKind, Compile, CompilerKind, Language, Task};
@@ -79,19 +79,19 @@ fn is_answered(compiled: &Compiled, answer: &str, events: usize) -> bool {
 type Case<'a> = (&'a [u8], &'a str, usize);
 
 /// Whether a compile under a key comes to its answer.
-fn answers(alloc: Global, owned: &mut Owned<Memory>, case: &Case) -> Result<bool, Fail> {
+fn answers(alloc: Global, daemon: &mut Daemon<Memory>, case: &Case) -> Result<bool, Fail> {
     let task = Task {
         kind: CompilerKind::C(CCompilerKind::Gcc),
         language: Language::C,
     };
     let request = compile(alloc, case.0)?;
-    let compiled = get_cached_or_compile(alloc, owned, request, task)?;
+    let compiled = get_cached_or_compile(alloc, daemon, request, task)?;
     Ok(is_answered(&compiled, case.1, case.2))
 }
 
-fn answers_each(alloc: Global, owned: &mut Owned<Memory>, cases: &[Case]) -> Result<bool, Fail> {
+fn answers_each(alloc: Global, daemon: &mut Daemon<Memory>, cases: &[Case]) -> Result<bool, Fail> {
     for case in cases {
-        if !answers(alloc, owned, case)? {
+        if !answers(alloc, daemon, case)? {
             return Ok(false);
         }
     }
@@ -100,8 +100,9 @@ fn answers_each(alloc: Global, owned: &mut Owned<Memory>, cases: &[Case]) -> Res
 
 /// Whether compiles over a script's daemon, one after the other, come to their answers.
 fn comes_to(alloc: Global, script: &[u8], cases: &[Case]) -> Result<bool, Fail> {
-    let mut made = made(alloc, script)?;
-    answers_each(alloc, &mut made.owned, cases)
+    let made = made(alloc, script)?;
+    let mut daemon = Daemon::new(alloc, made.owned)?;
+    answers_each(alloc, &mut daemon, cases)
 }
 
 #[test]

@@ -12,7 +12,8 @@ use Rattle.sc_main.specs.Deeds.{Acts, raised}
 use Rattle.sc_main.specs.Progress.{KeepsTokens, held_token}
 use Rattle.sc_main.specs.Serving.{Stands}
 use Rattle.sc_model.proofs.Streams.{reads_on}
-use Rattle.sc_model.specs.Machine.{Conn, after, current, free_after, settle, told_by}
+use Rattle.sc_model.specs.Conns.{Conn, current, free_after, settle, told_by}
+use Rattle.sc_model.specs.Phases.{after}
 use Rattle.sc_model.specs.Trace.{frame_bytes, sent_by}
 use Rattle.sc_model.specs.declared.event.Event.{Event}
 use Rattle.sc_model.specs.declared.event.Owner.{Owner}

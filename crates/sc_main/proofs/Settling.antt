@@ -3,7 +3,7 @@ use Rattle.std.proofs.Common.{◌≡◌, ◌⊎◌, inl, inr, suc, drop, refl}
 use Rattle.sc_daemon.specs.Standings.{standing_of}
 use Rattle.sc_daemon.specs.declared.standing.Standing.TheVariants.{Ended as HasEnded, Takes}
 use Rattle.sc_main.specs.Progress.{held_token}
-use Rattle.sc_model.specs.Machine.{Conn, settle}
+use Rattle.sc_model.specs.Conns.{Conn, settle}
 use Rattle.sc_model.specs.declared.phase.Phase.{Phase}
 use Rattle.sc_model.specs.declared.phase.Phase.TheVariants.{AtAsk, AtBegin, AtCommit, AtDist, AtEnd, AtEnded, AtFill, AtFinish, AtKey, AtOver, AtPlace, AtRun, AtSend, AtStarted, AtStore, AtTake, AtWrite, PathAsk, PreAsk, PrePut, RawAsk, SizeAsk}
 

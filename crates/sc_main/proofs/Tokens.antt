@@ -4,9 +4,14 @@ use Rattle.sc_daemon.specs.Standings.{standing_of}
 use Rattle.sc_daemon.specs.declared.standing.Standing.TheVariants.{Takes}
 use Rattle.sc_main.specs.Progress.{held_token}
 use Rattle.sc_model.proofs.Steps.{start_is}
-use Rattle.sc_model.specs.Follows.{Due, Fits, ToFinish, ToSend, is_disk_alone, kind_at, with_size}
-use Rattle.sc_model.specs.Job.{IsStored, Judged, forced, is_late, judge}
-use Rattle.sc_model.specs.Machine.{after, asked_miss, begin_phase, control_phase, dist_phase, due_at, free_after, end_write_phase, judged_phase, key_phase, missed_phase, path_phase, placed_phase, pre_phase, ran_phase, raw_phase, size_phase, stopped, whole_phase, work_phase}
+use Rattle.sc_model.specs.Afterwards.{with_size}
+use Rattle.sc_model.specs.Dues.{Due, ToFinish, ToSend, is_disk_alone, kind_at}
+use Rattle.sc_model.specs.Follows.{Fits}
+use Rattle.sc_model.specs.Job.{forced, is_late}
+use Rattle.sc_model.specs.Judging.{IsStored, Judged, judge}
+use Rattle.sc_model.specs.Conns.{free_after}
+use Rattle.sc_model.specs.DueAt.{due_at}
+use Rattle.sc_model.specs.Phases.{after, asked_miss, begin_phase, control_phase, dist_phase, end_write_phase, judged_phase, key_phase, missed_phase, path_phase, placed_phase, pre_phase, ran_phase, raw_phase, size_phase, stopped, whole_phase, work_phase}
 use Rattle.sc_model.specs.Script.{Control, Default, ForceNoCache, ForceRecache, Setup, control}
 use Rattle.sc_model.specs.declared.event.Answer.{Answer}
 use Rattle.sc_model.specs.declared.event.Answer.TheVariants.{Found as FoundAt, Hit, Miss, Refused, Size as SizeIs}

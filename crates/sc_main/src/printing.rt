@@ -6,7 +6,6 @@ ghost use Rattle.sc_daemon_owned.specs.State.{reserved_in};
 ghost use Rattle.sc_main.specs.Scripted.{shown_of};
 
 use sc_daemon::{Daemon, Driven, DrivenConn};
-use sc_daemon_hold::Hold;
 use sc_entry::NoMemory;
 use sc_main_memory::{Memory, level_sizes};
 use sc_main_report::{Report, put_report, put_totals};

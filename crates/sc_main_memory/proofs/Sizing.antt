@@ -6,7 +6,7 @@ use Rattle.std.specs.Ordering.{nat_cmp}
 use Rattle.sc_store_disk.proofs.Sizes.{size-none}
 use Rattle.sc_store_disk.specs.DiskStores.{count_of}
 use Rattle.sc_main_memory.specs.Sizes.{size_of}
-use Rattle.sc_model.specs.World.{Files, Level, no_files, size_of as files_size}
+use Rattle.sc_model.specs.Levels.{Files, Level, no_files, size_of as files_size}
 use Rattle.sc_store.specs.Paths.{entries_of, told_size}
 
 count_none : count_of no_files ≡ 0

@@ -13,7 +13,9 @@ use Rattle.sc_entry.specs.declared.calls.Calls.{Calls as Counted}
 use Rattle.sc_entry.specs.Keys.{make_key_path, normalize_key}
 use Rattle.sc_daemon_owned.specs.Facts.{DistTold}
 use Rattle.sc_model.specs.Devices.{calls_failing}
-use Rattle.sc_model.specs.World.{Container, Files, World, no_files}
+use Rattle.sc_model.specs.Containers.{Container}
+use Rattle.sc_model.specs.Levels.{Files, no_files}
+use Rattle.sc_model.specs.World.{World}
 use Rattle.sc_model.specs.declared.event.DistAnswer.{DistAnswer}
 use Rattle.sc_model.specs.declared.event.RunAnswer.{RunAnswer}
 use Rattle.sc_model.specs.declared.level.DistClientState.{DistClientState}

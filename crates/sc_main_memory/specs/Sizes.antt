@@ -1,7 +1,8 @@
 -- What levels hold, in numbers.
 use Rattle.std.specs.Prelude.{ℕ, suc, ◌+◌, ◌-◌, ◌^◌, min, List, [], ◌∷◌}
 use Rattle.sc_store_disk.specs.DiskStores.{count_of}
-use Rattle.sc_model.specs.World.{Level, part_size}
+use Rattle.sc_model.specs.Evicting.{part_size}
+use Rattle.sc_model.specs.Levels.{Level}
 use Rattle.sc_main_script.specs.declared.level_size.LevelSize.{LevelSize}
 
 -- All bytes that it holds together and that are reserved at it, no more than u64's greatest value, and at how many paths it

@@ -10,8 +10,7 @@ use Rattle.std.specs.FinMap.{get, get-insert}
 use Rattle.std.specs.Ordering.{nat_cmp, eq_by_cmp}
 use Rattle.std.specs.Str.{bytes_eq, is_utf8}
 use Rattle.sc_model.proofs.Naming.{has_name_more}
-use Rattle.sc_model.specs.GoodNames.{are_named, are_run_objects}
-use Rattle.sc_model.specs.GoodNames.{is_output_name}
+use Rattle.sc_model.specs.GoodNames.{are_named, are_run_objects, is_output_name}
 use Rattle.sc_entry.specs.Entries.{has_name}
 use Rattle.sc_entry.specs.Tally.{Tally, count_of, counted}
 use Rattle.sc_entry.specs.declared.object.Object.{Object}

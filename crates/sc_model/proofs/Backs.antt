@@ -1,8 +1,10 @@
 -- Handed writes: the queue that the code keeps is what the trace leaves.
 use Rattle.std.proofs.Common.{◌≡◌, ℕ, zero, suc, ◌+◌, ◌<◌, ◌≤◌, Bool, true, false, cond, List, [], ◌∷◌, ◌++◌, length, map, Some, refl, sym, ap, ◌∙◌, subst, arith, length-append}
-use Rattle.sc_model.specs.Follows.{Fits, bytes_in, due_back, kind_at}
+use Rattle.sc_model.specs.Dues.{kind_at}
+use Rattle.sc_model.specs.Follows.{Fits, bytes_in, due_back}
 use Rattle.sc_model.specs.Job.{At, Own, after_fill, fills_of}
-use Rattle.sc_model.specs.Machine.{due_pending, due_stage, given_of, pend, pending_after, pending_at, reserved_after, stage_after, stage_fills}
+use Rattle.sc_model.specs.Conns.{reserved_after}
+use Rattle.sc_model.specs.Pendings.{due_pending, due_stage, given_of, pend, pending_after, pending_at, stage_after, stage_fills}
 use Rattle.sc_model.specs.Next.{nth}
 use Rattle.sc_model.specs.Rows.{reserved_since}
 use Rattle.sc_model.specs.Script.{Setup}

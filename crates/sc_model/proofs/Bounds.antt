@@ -3,10 +3,16 @@ use Rattle.std.proofs.Common.{◌≡◌, ℕ, zero, suc, ◌+◌, ◌*◌, ◌-�
 use Rattle.std.proofs.lemmas.Bool.{cases_lt, le-ltb, lt-ltb}
 use Rattle.sc_model.proofs.Keeping.{lawful_ties, phase_of}
 use Rattle.sc_model.proofs.Steps.{start_is}
-use Rattle.sc_model.specs.Follows.{Due, Fits, Lawful, ToFinish, ToKey, ToSend, dist_verdict, is_disk_alone, kind_at, with_size}
+use Rattle.sc_model.specs.Afterwards.{dist_verdict, with_size}
+use Rattle.sc_model.specs.Dues.{Due, ToFinish, ToKey, ToSend, is_disk_alone, kind_at}
+use Rattle.sc_model.specs.Follows.{Fits, Lawful}
 use Rattle.sc_model.specs.Headline.{AreFew, notes_sent}
-use Rattle.sc_model.specs.Job.{At, IsStored, Judged, Own, finish_dist, forced, is_late, judge, run_bytes}
-use Rattle.sc_model.specs.Machine.{IsOneWhereSingle, after, asked_miss, begin_phase, control_phase, dist_phase, due_at, end_write_phase, judged_phase, key_phase, missed_phase, noted, path_phase, placed_phase, pre_phase, ran_phase, raw_phase, size_phase, stopped, whole_phase, work_phase}
+use Rattle.sc_model.specs.Finishing.{finish_dist}
+use Rattle.sc_model.specs.Job.{At, Own, forced, is_late, run_bytes}
+use Rattle.sc_model.specs.Judging.{IsStored, Judged, judge}
+use Rattle.sc_model.specs.DueAt.{due_at}
+use Rattle.sc_model.specs.Machine.{IsOneWhereSingle}
+use Rattle.sc_model.specs.Phases.{after, asked_miss, begin_phase, control_phase, dist_phase, end_write_phase, judged_phase, key_phase, missed_phase, noted, path_phase, placed_phase, pre_phase, ran_phase, raw_phase, size_phase, stopped, whole_phase, work_phase}
 use Rattle.sc_model.specs.Plan.{goes_on, is_required, levels_of, note, plan, pre_plan, takes_writes, reads_only, first_policy, rest_policies}
 use Rattle.sc_model.specs.Script.{Control, Default, ForceNoCache, ForceRecache, Setup, control, is_single}
 use Rattle.sc_model.specs.declared.event.Answer.{Answer}

@@ -3,10 +3,13 @@ use Rattle.std.proofs.Common.{◌≡◌, ℕ, zero, suc, ◌<◌, List, [], ◌�
 use Rattle.sc_model.proofs.Keeping.{lawful_ties, phase_of}
 use Rattle.sc_model.proofs.Requests.{IsPlain, Keeps}
 use Rattle.sc_model.proofs.Steps.{start_is}
-use Rattle.sc_model.specs.Follows.{Fits, Lawful, due, first_reply, kind_at}
+use Rattle.sc_model.specs.Afterwards.{first_reply}
+use Rattle.sc_model.specs.Dues.{kind_at}
+use Rattle.sc_model.specs.Follows.{Fits, Lawful, due}
 use Rattle.sc_model.specs.Headline.{Carries, Stores}
-use Rattle.sc_model.specs.Job.{Own, finish}
-use Rattle.sc_model.specs.Machine.{due_at}
+use Rattle.sc_model.specs.Finishing.{finish}
+use Rattle.sc_model.specs.Job.{Own}
+use Rattle.sc_model.specs.DueAt.{due_at}
 use Rattle.sc_model.specs.Next.{IsFirst, NextStep, due_of}
 use Rattle.sc_model.specs.Script.{Script}
 use Rattle.sc_model.specs.Trace.{about, all, request}

@@ -3,10 +3,12 @@ use Rattle.std.proofs.Common.{◌≡◌, ℕ, zero, suc, ◌+◌, ◌*◌, ◌<�
 use Rattle.sc_model.proofs.Bounds.{all_few, few_events, weight}
 use Rattle.sc_model.proofs.Conns.{ConnTie, owned_other, owned_same, reqs}
 use Rattle.sc_model.proofs.Keeping.{lawful_ties, phase_of}
-use Rattle.sc_model.specs.Follows.{Over}
+use Rattle.sc_model.specs.Dues.{Over}
 use Rattle.sc_model.specs.Headline.{AreFew, allowed, frames_upto, notes_sent, own_count}
 use Rattle.sc_model.specs.Job.{At}
-use Rattle.sc_model.specs.Machine.{Conn, IsOneWhereSingle, due_at}
+use Rattle.sc_model.specs.Conns.{Conn}
+use Rattle.sc_model.specs.DueAt.{due_at}
+use Rattle.sc_model.specs.Machine.{IsOneWhereSingle}
 use Rattle.sc_model.specs.Next.{Ended, due_of}
 use Rattle.sc_model.specs.Script.{Script}
 use Rattle.sc_model.specs.Trace.{Came, Did, Mine, Shut, owned, request, sent, sent_of}

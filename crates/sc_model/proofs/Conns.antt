@@ -3,11 +3,14 @@ use Rattle.std.proofs.Common.{◌≡◌, ℕ, zero, suc, ◌<◌, ◌≤◌, ◌
 use Rattle.sc_model.specs.declared.message.Response.{Response}
 use Rattle.sc_model.proofs.Keeping.{Ties, ties_new, ties_step}
 use Rattle.sc_model.proofs.Owed.{frames_are, owed}
-use Rattle.sc_model.specs.Follows.{Fits, Lawful, Over, due, kind_at, start_write}
+use Rattle.sc_model.specs.Dues.{Over, kind_at, start_write}
+use Rattle.sc_model.specs.Follows.{Fits, Lawful, due}
 use Rattle.sc_model.specs.Frames.{frames}
 use Rattle.sc_model.specs.Headline.{IsPrefixOf, frames_upto}
 use Rattle.sc_model.specs.Job.{At, Own}
-use Rattle.sc_model.specs.Machine.{Conn, advanced, after, current, due_at, long_after, more, new_conn, outcome_after, reserved_after, settle, shut, told_by}
+use Rattle.sc_model.specs.Conns.{Conn, advanced, current, long_after, more, new_conn, outcome_after, reserved_after, settle, shut, told_by}
+use Rattle.sc_model.specs.DueAt.{due_at}
+use Rattle.sc_model.specs.Phases.{after}
 use Rattle.sc_model.specs.Next.{IsFirst, due_of}
 use Rattle.sc_model.specs.Rows.{last_at, outcome_at, reserved_since}
 use Rattle.sc_model.specs.Script.{ReadsOn, Script, Setup, input}

@@ -1,7 +1,10 @@
 -- What an event leaves in a level was there before, or it put it there.
 use Rattle.std.proofs.Common.{◌≡◌, ℕ, ◌+◌, ◌⊎◌, ⊎_elim, inl, inr, Bool, true, false, cond, List, [], ◌∷◌, length, drop, Option, Some, None, refl, sym, ap, ◌∙◌, subst}
 use Rattle.sc_model.specs.Script.{Setup}
-use Rattle.sc_model.specs.World.{Causes, Commits_by, Evicts, Evicts_unless, Files, Fills_by, IsFault, IsPart, IsRefused, Keeps_all, Level, MovesLevel, Puts_pre, Puts_pre_by, Puts_pre_remote, Puts_remote, Puts_remote_by, Reserves_by, causes, drop_file, drop_part, find_file, held, main_path, put_file}
+use Rattle.sc_model.specs.Evicting.{Evicts, drop_part}
+use Rattle.sc_model.specs.Levels.{Files, IsFault, IsPart, Keeps_all, Level, drop_file, find_file, held, main_path, put_file}
+use Rattle.sc_model.specs.WriteCauses.{Causes, causes}
+use Rattle.sc_model.specs.Writing.{Commits_by, Evicts_unless, Fills_by, IsRefused, MovesLevel, Puts_pre, Puts_pre_by, Puts_pre_remote, Puts_remote, Puts_remote_by, Reserves_by}
 use Rattle.sc_model.specs.declared.level.Store.TheVariants.{Disk as DiskStore, Remote as RemoteStore, Wrapper as WrapperStore}
 use Rattle.sc_model.specs.declared.event.Mode.TheVariants.{Path, Pre, Raw, Size as Sizes, Whole}
 use Rattle.sc_model.specs.declared.event.What.{What}

@@ -1,7 +1,9 @@
 -- Worked rows, event by event, computed.
 use Rattle.std.proofs.Common.{◌≡◌, ℕ, zero, suc, Bool, true, false, List, [], ◌∷◌, length, inr, Option, Some, None, refl, arith, pos, codes}
 use Rattle.sc_model.specs.Devices.{Passed}
-use Rattle.sc_model.specs.Follows.{Lawful, Over, ToDist, ToEnd, ToFinish, ToKey, ToPlace, ToTake, due, notes_then}
+use Rattle.sc_model.specs.Afterwards.{notes_then}
+use Rattle.sc_model.specs.Dues.{Over, ToDist, ToEnd, ToFinish, ToKey, ToPlace, ToTake}
+use Rattle.sc_model.specs.Follows.{Lawful, due}
 use Rattle.sc_model.specs.Job.{At, Own, entry_mark, put_bytes}
 use Rattle.sc_model.specs.Ledgers.{direct_row, numbers}
 use Rattle.sc_model.specs.Plain.{plain_finish}
@@ -9,7 +11,12 @@ use Rattle.sc_model.specs.Plan.{backfilled, background, goes_on, plan, pre_plan}
 use Rattle.sc_model.specs.Rows.{Backfill, Direct, level_row, row, total}
 use Rattle.sc_model.specs.Script.{IsOpen, Script, Setup, no_task}
 use Rattle.sc_model.specs.Through.{IsThrough}
-use Rattle.sc_model.specs.World.{Asks_remote_calls, Level, Makes_next, Puts_mark, Reaches, SetsMark, early_cause, first_missing, placed_of}
+use Rattle.sc_model.specs.Asking.{Asks_remote_calls}
+use Rattle.sc_model.specs.Containers.{Makes_next}
+use Rattle.sc_model.specs.Levels.{Level, SetsMark}
+use Rattle.sc_model.specs.World.{first_missing, placed_of}
+use Rattle.sc_model.specs.WriteCauses.{early_cause}
+use Rattle.sc_model.specs.Writing.{Puts_mark, Reaches}
 use Rattle.sc_model.specs.declared.event.Answer.{Answer}
 use Rattle.sc_model.specs.declared.event.Answer.TheVariants.{Hit, Miss, Refused}
 use Rattle.sc_model.specs.declared.event.DistAnswer.TheVariants.{Done as DistDone, Http as DistHttp, Other as DistOther}

@@ -3,8 +3,7 @@ use Rattle.std.proofs.Common.{◌≡◌, ℕ, ◌+◌, ◌<◌, Bool, true, fals
 use Rattle.std.proofs.lemmas.Bool.{ltb-true, lt-ltb}
 use Rattle.std.specs.Cmp.Lexicographic.{nat_list_eq_equiv}
 use Rattle.std.specs.Str.{bytes_eq}
-use Rattle.sc_model.specs.GoodNames.{are_good, are_named, is_good_answer}
-use Rattle.sc_model.specs.GoodNames.{is_output_name, is_stream}
+use Rattle.sc_model.specs.GoodNames.{are_good, are_named, is_good_answer, is_output_name, is_stream}
 use Rattle.sc_entry.specs.Entries.{has_name, is_object_name}
 use Rattle.sc_entry.specs.EntryAnswers.{put_refusal}
 use Rattle.sc_entry.specs.declared.object.Object.{Object}

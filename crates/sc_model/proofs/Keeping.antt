@@ -2,10 +2,16 @@
 use Rattle.std.proofs.Common.{◌≡◌, ℕ, zero, suc, ◌-◌, ◌⊎◌, ⊎_elim, inl, inr, Bool, true, false, ◌&&◌, List, [], ◌∷◌, length, drop, Option, Some, None, refl, sym, ap, ◌∙◌, subst, not, nat_lt, Ok}
 use Rattle.sc_model.proofs.Requests.{Ends, EndsBy, HasJob, HasWork, IsCompile, IsPlain, Keeps, keeps_cond}
 use Rattle.sc_model.proofs.Steps.{committed_refused, drop_one, due_step, goes_same, left_next, note_is, reserve_is, start_is, wrote_is, wrote_refused}
-use Rattle.sc_model.specs.Follows.{Begins, Fits, Lawful, due, is_disk_alone, kind_at, left, left_pre, server_info, stats_reply, with_size}
+use Rattle.sc_model.specs.Afterwards.{with_size}
+use Rattle.sc_model.specs.Describing.{server_info, stats_reply}
+use Rattle.sc_model.specs.Dues.{is_disk_alone, kind_at, left, left_pre}
+use Rattle.sc_model.specs.Follows.{Begins, Fits, Lawful, due}
 use Rattle.sc_model.specs.Headline.{Carries, HasHit, IsKept, IsStorable, asks_store}
-use Rattle.sc_model.specs.Job.{after_fill, At, IsBroken, IsFailed, IsNotCacheable, IsNotCached, IsStored, Judged, Own, by_answer, bytes_of, dist_of, entry_of, finish, finish_dist, finish_fatal, finish_hit, finish_judged, finish_output, finish_run, forced, hit_of, if_late, is_late, job_of, judge, judge_cacheable, judge_status, judged_verdict, miss_of, notes_of, over, refused, run_bytes, run_notes, sized, stats_of, task_of, work_from}
-use Rattle.sc_model.specs.Machine.{after, asked_miss, begin_phase, control_phase, dist_phase, due_at, end_write_phase, ending_of, judged_phase, key_phase, missed_phase, noted, path_phase, placed_phase, pre_phase, ran_phase, raw_phase, size_phase, whole_phase, work_of, work_phase}
+use Rattle.sc_model.specs.Finishing.{finish, finish_dist, finish_fatal, finish_hit, finish_judged, finish_output, finish_run, notes_of, run_notes}
+use Rattle.sc_model.specs.Job.{after_fill, At, Own, by_answer, bytes_of, dist_of, entry_of, forced, hit_of, if_late, is_late, job_of, miss_of, over, refused, run_bytes, sized, stats_of, task_of, work_from}
+use Rattle.sc_model.specs.Judging.{IsBroken, IsFailed, IsNotCacheable, IsNotCached, IsStored, Judged, judge, judge_cacheable, judge_status, judged_verdict}
+use Rattle.sc_model.specs.DueAt.{due_at}
+use Rattle.sc_model.specs.Phases.{after, asked_miss, begin_phase, control_phase, dist_phase, end_write_phase, ending_of, judged_phase, key_phase, missed_phase, noted, path_phase, placed_phase, pre_phase, ran_phase, raw_phase, size_phase, whole_phase, work_of, work_phase}
 use Rattle.sc_model.specs.Origin.{HasRun, IsCollected, PutBy}
 use Rattle.sc_model.specs.Plan.{note, plan, pre_plan}
 use Rattle.sc_model.specs.Script.{Control, Default, ForceNoCache, ForceRecache, Setup, control}

@@ -4,9 +4,13 @@ use Rattle.sc_model.proofs.Backs.{Apart, BackTie, IsWrite, Stages, above_at, bac
 use Rattle.sc_model.proofs.Conns.{ConnTie, conn_came, conn_did, conn_shut, current_is, first_only, first_waits, is_first, owned_other, owned_same}
 use Rattle.sc_model.proofs.Counters.{length_set, policy_length, policy_row, row_back}
 use Rattle.sc_model.proofs.Tokens.{Opens, opened_keeps, opened_own, tokens_step}
-use Rattle.sc_model.specs.Follows.{Fits, ToRun, ToTake, due, due_back}
+use Rattle.sc_model.specs.Dues.{ToRun, ToTake}
+use Rattle.sc_model.specs.Follows.{Fits, due, due_back}
 use Rattle.sc_model.specs.Job.{At, fills_of}
-use Rattle.sc_model.specs.Machine.{Conn, DoesBack, DoesPass, DoesRead, DoesServe, DoesStep, IsStopped, Machine, NoMore, Says, advanced, backed, conn, counters_at, current, due_at, due_pending, given_of, more, new_conn, pending_at, served, shut}
+use Rattle.sc_model.specs.Conns.{Conn, advanced, current, more, new_conn, shut}
+use Rattle.sc_model.specs.DueAt.{due_at}
+use Rattle.sc_model.specs.Machine.{DoesBack, DoesPass, DoesRead, DoesServe, DoesStep, IsStopped, Machine, NoMore, Says, backed, conn, counters_at, served}
+use Rattle.sc_model.specs.Pendings.{due_pending, given_of, pending_at}
 use Rattle.sc_model.specs.Next.{Ended, HasEnded, IsDone, IsFirst, NextBack, NextPass, NextRead, NextServe, NextStep, Tells, Waits, at_moment, due_of}
 use Rattle.sc_model.specs.Rows.{Direct, by_backfill, count, find_given, is_at, last_at, level_named, level_row, level_total, outcome_at, put_origin, reserved_since, row, total, zeroes}
 use Rattle.sc_model.specs.Script.{BadFrame, ReadsOn, Script, Setup, input, is_single}

@@ -4,8 +4,7 @@ use Rattle.std.specs.Cmp.Lexicographic.{nat_list_eq_equiv}
 use Rattle.std.specs.Str.{bytes_eq}
 use Rattle.sc_entry.specs.Entries.{has_name}
 use Rattle.sc_entry.specs.declared.object.Object.{Object}
-use Rattle.sc_model.specs.GoodNames.{are_named}
-use Rattle.sc_model.specs.GoodNames.{is_output_name}
+use Rattle.sc_model.specs.GoodNames.{are_named, is_output_name}
 use Rattle.sc_model.proofs.Finding.{tail_of, tail_is}
 
 either : (a b c : Bool) → (a || cond b true c) ≡ cond b true (a || c)

@@ -5,17 +5,21 @@ use Rattle.sc_model.proofs.Entries.{PutsAt, keeps_held, level_held}
 use Rattle.sc_model.proofs.Keeping.{lawful_ties, phase_of}
 use Rattle.sc_model.proofs.Requests.{Keeps}
 use Rattle.sc_model.proofs.Steps.{start_is, wrote_is}
-use Rattle.sc_model.specs.Follows.{Due, Fits, Lawful, ToAsk, bytes_in, due_back, kind_at}
+use Rattle.sc_model.specs.Dues.{Due, ToAsk, kind_at}
+use Rattle.sc_model.specs.Follows.{Fits, Lawful, bytes_in, due_back}
 use Rattle.sc_model.specs.Headline.{Hits}
 use Rattle.sc_model.specs.Job.{At, Own}
-use Rattle.sc_model.specs.Machine.{due_at}
+use Rattle.sc_model.specs.DueAt.{due_at}
 use Rattle.sc_model.specs.Next.{NextStep, due_of, nth}
 use Rattle.sc_model.specs.Origin.{Gives, PutBy, Rightful, entry_by, origins, write_by}
 use Rattle.sc_model.specs.Plan.{backfilled, backfills, background, goes_on, hand_to, level_facts}
 use Rattle.sc_model.specs.Rows.{level_named}
 use Rattle.sc_model.specs.Script.{Script}
 use Rattle.sc_model.specs.Trace.{Given, about, all, drop_done, drop_given, ends_write, given, hands, left_writes, no_request, numbered, owned, request, written}
-use Rattle.sc_model.specs.World.{Answers, Answers_raw, Answers_whole, Level, Moves, MovesAt, MovesLevel, Need, World, held, level_at, no_level_held, MovesLevels}
+use Rattle.sc_model.specs.Asking.{Answers, Answers_raw, Answers_whole}
+use Rattle.sc_model.specs.Levels.{Level, held, no_level_held}
+use Rattle.sc_model.specs.World.{Moves, MovesAt, Need, World, level_at, MovesLevels}
+use Rattle.sc_model.specs.Writing.{MovesLevel}
 use Rattle.sc_model.specs.declared.event.Answer.{Answer}
 use Rattle.sc_model.specs.declared.event.Answer.TheVariants.{Hit}
 use Rattle.sc_model.specs.declared.event.Event.{Event}

@@ -1,6 +1,9 @@
 -- What a request is owed is what was sent, and then what is to be sent.
 use Rattle.std.proofs.Common.{◌≡◌, ℕ, suc, Bool, true, false, cond, ◌&&◌, List, [], ◌∷◌, ◌++◌, length, None, refl, sym, ap, ◌∙◌, append_assoc, not, nat_lt, Ok}
-use Rattle.sc_model.specs.Follows.{Due, Fits, Lawful, Stopped, ToAsk, ToDist, ToFinish, ToKey, ToPlace, ToSend, ToTake, after_asked, after_began, after_control, after_send, after_sent, after_whole, after_wrote, due, is_disk_alone, kind_at, left, left_pre, missed, next_pre, next_write, notes_then, server_info, start_work, start_write, stats_reply, stop, with_size}
+use Rattle.sc_model.specs.Afterwards.{after_asked, after_began, after_control, after_send, after_sent, after_whole, after_wrote, missed, notes_then, start_work, stop, with_size}
+use Rattle.sc_model.specs.Describing.{server_info, stats_reply}
+use Rattle.sc_model.specs.Dues.{Due, Stopped, ToAsk, ToDist, ToFinish, ToKey, ToPlace, ToSend, ToTake, is_disk_alone, kind_at, left, left_pre, next_pre, next_write, start_write}
+use Rattle.sc_model.specs.Follows.{Fits, Lawful, due}
 use Rattle.sc_model.specs.Frames.{asked_frames, began_frames, frames, owed_by, pre_put_frames}
 use Rattle.sc_model.specs.Job.{At, Own, bytes_of, is_late, job_of, put_bytes, refused, sized, stats_of}
 use Rattle.sc_model.specs.Plan.{plan, pre_plan}

@@ -1,9 +1,14 @@
 -- One request: what the code keeps is what its events tell.
 use Rattle.std.proofs.Common.{◌≡◌, ℕ, suc, ◌-◌, Bool, true, false, cond, ◌&&◌, List, [], ◌∷◌, length, drop, Option, Some, None, refl, ap, ◌∙◌, not, nat_lt, Ok}
-use Rattle.sc_model.specs.Follows.{Due, Over, ToAsk, ToEnd, ToKey, ToPlace, ToSend, after_began, after_control, after_dist, after_key, after_path, after_placed, after_pre, after_raw, after_sent, after_size, after_whole, ask_next, dist_verdict, is_disk_alone, left, left_pre, missed, server_info, start_work, stats_reply}
+use Rattle.sc_model.specs.Afterwards.{after_began, after_control, after_dist, after_key, after_path, after_placed, after_pre, after_raw, after_sent, after_size, after_whole, dist_verdict, missed, start_work}
+use Rattle.sc_model.specs.Describing.{server_info, stats_reply}
+use Rattle.sc_model.specs.Dues.{Due, Over, ToAsk, ToEnd, ToKey, ToPlace, ToSend, ask_next, is_disk_alone, left, left_pre}
 use Rattle.sc_model.specs.Headline.{Carries, HasHit, IsStorable, Stores, asks_store}
-use Rattle.sc_model.specs.Job.{IsStored, Judged, Own, asked_at, bytes_of, dist_of, entry_mark, fills_of, finish, hit_of, is_late, job_of, judge, miss_of, notes_of, over, refused, run_verdict, sized, stats_of, task_of, work_from}
-use Rattle.sc_model.specs.Machine.{asked_miss, begin_phase, control_phase, dist_phase, due_at, judged_phase, key_phase, missed_phase, path_phase, phase_next, placed_phase, pre_phase, ran_phase, raw_phase, size_phase, whole_phase, work_of, work_phase}
+use Rattle.sc_model.specs.Finishing.{finish, notes_of}
+use Rattle.sc_model.specs.Job.{Own, asked_at, bytes_of, dist_of, entry_mark, fills_of, hit_of, is_late, job_of, miss_of, over, refused, sized, stats_of, task_of, work_from}
+use Rattle.sc_model.specs.Judging.{IsStored, Judged, judge, run_verdict}
+use Rattle.sc_model.specs.DueAt.{due_at}
+use Rattle.sc_model.specs.Phases.{asked_miss, begin_phase, control_phase, dist_phase, judged_phase, key_phase, missed_phase, path_phase, phase_next, placed_phase, pre_phase, ran_phase, raw_phase, size_phase, whole_phase, work_of, work_phase}
 use Rattle.sc_model.specs.Origin.{PutBy}
 use Rattle.sc_model.specs.Plan.{plan}
 use Rattle.sc_model.specs.Script.{Control, Default, ForceNoCache, ForceRecache, Setup, control, counted_task}

@@ -1,9 +1,13 @@
 -- One step of a request: the phase still tells what is due, and keeps what the events tell.
 use Rattle.std.proofs.Common.{◌≡◌, ℕ, zero, suc, Bool, List, [], ◌∷◌, length, drop, Option, Some, None, refl, ap, ◌∙◌}
 use Rattle.sc_model.proofs.Requests.{EndsBy, IsMiss, Keeps, NotMiss, begin_due, dist_due, key_due, path_due, placed_due, plain_over, pre_due, ran_due, raw_due, size_due, whole_due}
-use Rattle.sc_model.specs.Follows.{Fits, ToCommit, ToFill, ToFinish, after_asked, after_outcome, after_pre, after_raw, after_send, after_sent, after_size, after_whole, after_write, after_wrote, due, kind_at, left, left_pre, next_pre, next_write, start_write, stop, with_size}
-use Rattle.sc_model.specs.Job.{At, Own, bytes_of, finish, notes_of, over, refused, sized, stats_of}
-use Rattle.sc_model.specs.Machine.{after, due_at, end_write_phase, noted}
+use Rattle.sc_model.specs.Afterwards.{after_asked, after_outcome, after_pre, after_raw, after_send, after_sent, after_size, after_whole, after_write, after_wrote, stop, with_size}
+use Rattle.sc_model.specs.Dues.{ToCommit, ToFill, ToFinish, kind_at, left, left_pre, next_pre, next_write, start_write}
+use Rattle.sc_model.specs.Follows.{Fits, due}
+use Rattle.sc_model.specs.Finishing.{finish, notes_of}
+use Rattle.sc_model.specs.Job.{At, Own, bytes_of, over, refused, sized, stats_of}
+use Rattle.sc_model.specs.DueAt.{due_at}
+use Rattle.sc_model.specs.Phases.{after, end_write_phase, noted}
 use Rattle.sc_model.specs.Plan.{goes_on, note, plan, pre_plan}
 use Rattle.sc_model.specs.Script.{Setup}
 use Rattle.sc_model.specs.declared.event.Mode.{Mode}

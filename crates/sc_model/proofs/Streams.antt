@@ -1,6 +1,6 @@
 -- Bytes can be read as they come.
 use Rattle.std.proofs.Common.{◌≡◌, ℕ, zero, suc, ◌+◌, ◌*◌, ◌<◌, ◌≤◌, ⊎_elim, Bool, true, false, cond, List, [], ◌∷◌, ◌++◌, length, take, drop, Option, Some, None, refl, sym, ap, ◌∙◌, subst, arith, length-append, nat_lt}
-use Rattle.sc_model.specs.Machine.{more}
+use Rattle.sc_model.specs.Conns.{more}
 use Rattle.sc_model.specs.Script.{ReadsOn}
 use Rattle.sc_model.specs.Stream.{Bad, Frame, Front, Part, decoded, end_at_front, framed, front, read_requests, read_rest, stream_reader}
 use Rattle.sc_model.specs.declared.message.Request.{Request}

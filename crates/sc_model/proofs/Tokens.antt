@@ -1,8 +1,10 @@
 -- Open runs.
 use Rattle.std.proofs.Common.{◌≡◌, ℕ, suc, ◌+◌, ◌<◌, ◌⊎◌, ⊎_elim, inl, inr, Bool, true, false, cond, ◌&&◌, eqb, List, [], ◌∷◌, length, refl, sym, ap, ◌∙◌, subst, arith, not, nat_lt}
-use Rattle.sc_model.specs.Follows.{Due, Fits, ToAsk, ToDist, ToFinish, ToKey, ToPlace, ToRun, ToSend, ToTake, after_asked, after_began, after_control, after_send, after_sent, after_wrote, ask_next, due, is_disk_alone, kind_at, left, left_pre, missed, next_pre, next_write, start_work, start_write, stop}
+use Rattle.sc_model.specs.Afterwards.{after_asked, after_began, after_control, after_send, after_sent, after_wrote, missed, start_work, stop}
+use Rattle.sc_model.specs.Dues.{Due, ToAsk, ToDist, ToFinish, ToKey, ToPlace, ToRun, ToSend, ToTake, ask_next, is_disk_alone, kind_at, left, left_pre, next_pre, next_write, start_write}
+use Rattle.sc_model.specs.Follows.{Fits, due}
 use Rattle.sc_model.specs.Job.{At, Own, bytes_of, is_late, job_of, put_bytes, refused}
-use Rattle.sc_model.specs.Machine.{free_after}
+use Rattle.sc_model.specs.Conns.{free_after}
 use Rattle.sc_model.specs.Plan.{plan, pre_plan}
 use Rattle.sc_model.specs.Script.{Control, Default, ForceNoCache, ForceRecache, Setup, control}
 use Rattle.sc_model.specs.Trace.{all, opened, without}

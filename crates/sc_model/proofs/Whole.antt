@@ -12,14 +12,19 @@ use Rattle.sc_model.proofs.Origins.{HandsRightful, HoldsRightful, entries_step, 
 use Rattle.sc_model.proofs.Requests.{Keeps}
 use Rattle.sc_model.proofs.Serving.{serves_are}
 use Rattle.sc_model.proofs.Steps.{start_is}
-use Rattle.sc_model.specs.Follows.{Fits, Lawful, Over, kind_at}
+use Rattle.sc_model.specs.Dues.{Over, kind_at}
+use Rattle.sc_model.specs.Follows.{Fits, Lawful}
 use Rattle.sc_model.specs.Headline.{Begins_in_order, BytesWithin, Each, Finishes, Headline, IsFinished, IsInOrder, IsRightful, IsStoredFirst, RunsWithin, StoresBefore, allowed}
 use Rattle.sc_model.specs.Job.{Own, entry_mark, mark_of}
-use Rattle.sc_model.specs.Machine.{Conn, Does, DoesBack, DoesPass, DoesRead, DoesServe, DoesStep, IsIdle, Machine, Runs, conn, due_at, end_at, given_of, need_at, need_back, new_conn, result_of_run, shown_levels, stage_fills}
+use Rattle.sc_model.specs.Conns.{Conn, need_at, new_conn}
+use Rattle.sc_model.specs.DueAt.{due_at}
+use Rattle.sc_model.specs.Machine.{Does, DoesBack, DoesPass, DoesRead, DoesServe, DoesStep, IsIdle, Machine, Runs, conn, end_at, result_of_run, shown_levels}
+use Rattle.sc_model.specs.Pendings.{given_of, need_back, stage_fills}
 use Rattle.sc_model.specs.Next.{Ended, Leads, NextStep, at_moment, due_of, ticked}
 use Rattle.sc_model.specs.Script.{IsOpen, ReadsOn, Script, input, is_single}
 use Rattle.sc_model.specs.Trace.{Given, about, all, came, if_too_long, no_request, own_of, owned, request, request_of, reservations, reserved_at, taken, too_long, written}
-use Rattle.sc_model.specs.World.{and_one, IsWithinBytes, Moves, MovesAt, MovesDist, MovesLevels, MovesPlaced, MovesShop, Need, World, first_missing, need_of, placed_of}
+use Rattle.sc_model.specs.Levels.{and_one}
+use Rattle.sc_model.specs.World.{IsWithinBytes, Moves, MovesAt, MovesDist, MovesLevels, MovesPlaced, MovesShop, Need, World, first_missing, need_of, placed_of}
 use Rattle.sc_model.specs.declared.event.Event.{Event}
 use Rattle.sc_model.specs.declared.level.LevelFacts.{LevelFacts}
 use Rattle.sc_model.specs.declared.level.Policy.{Policy}

@@ -1,7 +1,10 @@
 -- The reply frames that a request is owed so far.
 use Rattle.std.specs.Prelude.{ℕ, suc, Bool, true, false, if◌then◌else◌, List, [], ◌∷◌, ◌++◌, length, Some, None, Ok, Err, codes, nat_lt}
-use Rattle.sc_model.specs.Follows.{is_disk_alone, left_pre, notes_then, server_info, stats_reply, with_size}
-use Rattle.sc_model.specs.Job.{At, Own, finish, notes_of, refused, sized, stats_of}
+use Rattle.sc_model.specs.Afterwards.{notes_then, with_size}
+use Rattle.sc_model.specs.Describing.{server_info, stats_reply}
+use Rattle.sc_model.specs.Dues.{is_disk_alone, left_pre}
+use Rattle.sc_model.specs.Finishing.{finish, notes_of}
+use Rattle.sc_model.specs.Job.{At, Own, refused, sized, stats_of}
 use Rattle.sc_model.specs.Plan.{cause_text, pre_plan, pre_put_result, put_result}
 use Rattle.sc_model.specs.Script.{Setup}
 use Rattle.sc_model.specs.declared.event.Answer.{Answer}

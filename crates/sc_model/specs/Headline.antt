@@ -1,8 +1,9 @@
 -- The headline, of a whole run.
 use Rattle.std.specs.Prelude.{if◌then◌else◌, ◌≡◌, ℕ, zero, suc, ◌+◌, ◌*◌, ◌<◌, ◌≤◌, ◌==◌, ◌&&◌, Bool, true, false, List, [], ◌∷◌, ◌++◌, length, map, slice_index_or, ◌⊎◌}
-use Rattle.sc_model.specs.Follows.{Over, left}
+use Rattle.sc_model.specs.Dues.{Over, left}
 use Rattle.sc_model.specs.Frames.{frames}
-use Rattle.sc_model.specs.Job.{At, Own, finish, finish_fatal, finish_hit, finish_http, finish_output, job_of}
+use Rattle.sc_model.specs.Finishing.{finish, finish_fatal, finish_hit, finish_http, finish_output}
+use Rattle.sc_model.specs.Job.{At, Own, job_of}
 use Rattle.sc_model.specs.Next.{HasEnded, Leads, due_of}
 use Rattle.sc_model.specs.Origin.{IsCollected, Origin}
 use Rattle.sc_model.specs.Rows.{level_total, total}

@@ -1,8 +1,10 @@
 -- What holds of one connection by its own events alone, whatever others do.
 use Rattle.std.specs.Prelude.{◌≡◌, ℕ, ◌<◌, List, [], ◌∷◌, ◌++◌, length}
-use Rattle.sc_model.specs.Follows.{Fits, Over}
+use Rattle.sc_model.specs.Dues.{Over}
+use Rattle.sc_model.specs.Follows.{Fits}
 use Rattle.sc_model.specs.Headline.{Carries, IsPrefixOf, Stores, frames_upto}
-use Rattle.sc_model.specs.Job.{finish, hit_of, job_of}
+use Rattle.sc_model.specs.Finishing.{finish}
+use Rattle.sc_model.specs.Job.{hit_of, job_of}
 use Rattle.sc_model.specs.Next.{due_of}
 use Rattle.sc_model.specs.Script.{End, Reader, Setup}
 use Rattle.sc_model.specs.Trace.{Came, Did, Mine, Shut, if_too_long, is_closed, owned, request, sent, taken, too_long}

@@ -1,6 +1,7 @@
 -- Which event may come next, and runs of steps.
 use Rattle.std.specs.Prelude.{◌≡◌, ℕ, zero, suc, ◌<◌, ◌≤◌, true, false, List, [], ◌∷◌, length, take, drop, Option, Some, None, ◌⊎◌}
-use Rattle.sc_model.specs.Follows.{Due, Fits, Over, Stopped, ToTake, due, due_back, left}
+use Rattle.sc_model.specs.Dues.{Due, Over, Stopped, ToTake, left}
+use Rattle.sc_model.specs.Follows.{Fits, due, due_back}
 use Rattle.sc_model.specs.Rows.{counters_of, total}
 use Rattle.sc_model.specs.Script.{BadFrame, HasConn, Script, Setup, input}
 use Rattle.sc_model.specs.Trace.{Given, Mine, about, all, is_closed, left_writes, no_request, open_runs, own_of, owned, request, request_of, reservations, reserved_at, taken, written}

@@ -1,10 +1,11 @@
 -- Where the bytes of an entry come from.
 use Rattle.std.specs.Prelude.{◌≡◌, ℕ, true, false, List, [], ◌∷◌, length, Some, ◌⊎◌}
-use Rattle.sc_model.specs.Follows.{kind_at}
+use Rattle.sc_model.specs.Dues.{kind_at}
 use Rattle.sc_model.specs.Job.{At, Own, entry_of, job_of}
 use Rattle.sc_model.specs.Script.{Script, Setup}
 use Rattle.sc_model.specs.Trace.{Given, about, all, given, numbered, owned, request}
-use Rattle.sc_model.specs.World.{World, held, level_at}
+use Rattle.sc_model.specs.Levels.{held}
+use Rattle.sc_model.specs.World.{World, level_at}
 use Rattle.sc_model.specs.declared.event.Answer.TheVariants.{Hit}
 use Rattle.sc_model.specs.declared.event.DistAnswer.TheVariants.{Done as DistDone}
 use Rattle.sc_model.specs.declared.event.Event.{Event}

@@ -3,7 +3,8 @@ use Rattle.std.specs.Prelude.{true, false, List, [], ◌∷◌, Option, Some, No
 use Rattle.sc_entry.specs.Entries.{find_object}
 use Rattle.sc_entry.specs.declared.object.FileObjectSource.{FileObjectSource}
 use Rattle.sc_entry.specs.declared.object.Object.{Object}
-use Rattle.sc_model.specs.Job.{finish_key, finish_run, objects_of}
+use Rattle.sc_model.specs.Finishing.{finish_key, finish_run}
+use Rattle.sc_model.specs.Job.{objects_of}
 use Rattle.sc_model.specs.Script.{Setup}
 use Rattle.sc_model.specs.declared.event.KeyFound.{KeyFound}
 use Rattle.sc_model.specs.declared.event.KeyStep.{KeyStep}

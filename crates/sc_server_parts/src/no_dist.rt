@@ -4,7 +4,8 @@ ghost use Rattle.sc_compile_dist.specs.Clients.{Says};
 ghost use Rattle.sc_compile_dist.specs.GoodJobs.{is_good_dist};
 ghost use Rattle.sc_entry.specs.Failing.{one_more};
 ghost use Rattle.sc_server_parts.specs.Making.{no_dist_text};
-ghost use Rattle.sc_model.specs.World.{DistCause, MakerCause};
+ghost use Rattle.sc_model.specs.Containers.{MakerCause};
+ghost use Rattle.sc_model.specs.World.{DistCause};
 ghost use Rattle.sc_model.specs.declared.event.DistAnswer.TheVariants as dist_answers;
 ghost use Rattle.sc_model.specs.declared.level.Making.TheVariants as makings;
 

@@ -44,6 +44,13 @@ impl Span {
         }
     }
 
+    /// No span is longer than the longest: one stays as it is where no time is added to it.
+    pub fn keeps(&self)
+        ensures { more_time self.now 0 ≡ self.now }
+    {
+        let _nanoseconds = self.nanoseconds;
+    }
+
     /// Whole seconds, and nanoseconds below a second.
     pub fn new(seconds: u64, nanoseconds: u32) -> Span
         requires { nanoseconds < 1_000_000_000 }

@@ -2,7 +2,10 @@
 use Rattle.std.proofs.Common.{◌≡◌, ◌≢◌, ◌==◌, eqb-true, eq-eqb, ℕ, zero, suc, ◌<◌, Bool, true, false, ◌&&◌, IsTrue, List, [], ◌∷◌, length, map, slice_index_or, slice_set, Result, Ok, Err, IfOk, refl, arith, subst, sym, ap, ◌∙◌}
 use Rattle.std.proofs.lemmas.List.{length-map, map-set}
 use Rattle.sc_model.specs.Plan.{level_facts, no_level}
-use Rattle.sc_model.specs.World.{Asks, Later, Level, Wrote_at, causes, early_cause, no_level_held}
+use Rattle.sc_model.specs.Asking.{Asks}
+use Rattle.sc_model.specs.Levels.{Later, Level, no_level_held}
+use Rattle.sc_model.specs.WriteCauses.{causes, early_cause}
+use Rattle.sc_model.specs.Writing.{Wrote_at}
 use Rattle.sc_model.specs.declared.event.Answer.{Answer}
 use Rattle.sc_model.specs.declared.event.Mode.{Mode}
 use Rattle.sc_model.specs.declared.event.Written.{Written}

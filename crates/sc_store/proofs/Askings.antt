@@ -7,7 +7,10 @@ use Rattle.sc_entry.specs.Causes.{IfTold, Told}
 use Rattle.sc_entry.specs.Entries.{objects}
 use Rattle.sc_entry.specs.Keys.{IsStoreKey, is_store_key, normalize_key}
 use Rattle.sc_model.specs.Devices.{Calls, Failed, Loses, Made, MakesMade, MakesOn, Passed}
-use Rattle.sc_model.specs.World.{Asks, Files, IsPart, KeepsMarks, Later, Level, Puts_remote, Puts_remote_calls, Reads_remote_calls, Spells, Wrote_at, causes, early_cause, find_file, or_cause, put_file, read_only_store, refuses_writes, room_cause, write_cause}
+use Rattle.sc_model.specs.Asking.{Asks, Reads_remote_calls, Spells}
+use Rattle.sc_model.specs.Levels.{Files, IsPart, KeepsMarks, Later, Level, find_file, put_file}
+use Rattle.sc_model.specs.WriteCauses.{causes, early_cause, or_cause, read_only_store, refuses_writes, room_cause, write_cause}
+use Rattle.sc_model.specs.Writing.{Puts_remote, Puts_remote_calls, Wrote_at}
 use Rattle.sc_entry.specs.declared.object.Object.{Object}
 use Rattle.sc_model.specs.Plan.{reads_only}
 use Rattle.sc_model.specs.Script.{is_single}

@@ -2,7 +2,7 @@
 use Rattle.std.proofs.Common.{◌≡◌, ◌≢◌, ◌==◌, eqb-true, eq-eqb, ℕ, zero, suc, ◌<◌, Bool, true, false, List, [], ◌∷◌, length, map, slice_index_or, slice_set, refl, arith, subst, sym, ap, ◌∙◌}
 use Rattle.std.proofs.lemmas.List.{map-set}
 use Rattle.sc_model.specs.Plan.{level_facts, no_level}
-use Rattle.sc_model.specs.World.{Later, Level, no_level_held}
+use Rattle.sc_model.specs.Levels.{Later, Level, no_level_held}
 use Rattle.sc_model.specs.declared.level.LevelFacts.{LevelFacts}
 use Rattle.sc_model.specs.declared.level.LevelKind.{LevelKind}
 use Rattle.sc_model.specs.declared.level.LevelKind.TheVariants.{Disk, Remote}

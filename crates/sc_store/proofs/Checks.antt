@@ -1,7 +1,7 @@
 -- A check, which may be two calls of a device.
 use Rattle.std.proofs.Common.{◌≡◌, Bool, false, Option, Result, IfOk, subst, sym}
 use Rattle.sc_entry.specs.declared.memory.NoMemory.{NoMemory}
-use Rattle.sc_model.specs.World.{Level}
+use Rattle.sc_model.specs.Levels.{Level}
 use Rattle.sc_model.specs.declared.level.LevelFacts.{LevelFacts}
 use Rattle.sc_model.specs.declared.level.LevelKind.{LevelKind}
 use Rattle.sc_model.specs.declared.level.LevelKind.TheVariants.{Remote}

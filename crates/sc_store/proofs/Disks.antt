@@ -11,7 +11,7 @@ use Rattle.sc_store_disk.specs.declared.filling.Filling.{Filling}
 use Rattle.sc_store_disk.specs.declared.filling.Filling.TheVariants.{Filled, Refused as NotFilled}
 use Rattle.sc_store_disk.specs.declared.reserving.Reservation.{Reservation}
 use Rattle.sc_store_disk.specs.declared.reserving.Reservation.TheVariants.{Open, Refused as NotReserved}
-use Rattle.sc_model.specs.World.{early_cause}
+use Rattle.sc_model.specs.WriteCauses.{early_cause}
 use Rattle.sc_model.specs.declared.event.Written.{Written}
 use Rattle.sc_model.specs.declared.event.Written.TheVariants.{Done, Refused}
 use Rattle.sc_model.specs.declared.level.Cause.{Cause}

@@ -1,7 +1,7 @@
 -- What the modes of levels come to.
 use Rattle.std.proofs.Common.{◌≡◌, ℕ, ◌-◌, ◌<◌, ◌≤◌, Bool, true, false, ◌&&◌, ◌==◌, List, [], ◌∷◌, ◌++◌, length, take, drop, get_or, refl, ap, sym, ◌∙◌, arith, eq-eqb, eqb-true, append-nil}
 use Rattle.sc_entry.specs.declared.cache_mode.CacheMode.TheVariants.{ReadWrite}
-use Rattle.sc_model.specs.Follows.{all_read_only, mode_of}
+use Rattle.sc_model.specs.Describing.{all_read_only, mode_of}
 use Rattle.sc_model.specs.Plan.{levels_of, reads_only}
 use Rattle.sc_model.specs.declared.level.LevelPolicy.{LevelPolicy}
 use Rattle.sc_store.proofs.Behind.{behind}

@@ -12,7 +12,7 @@ use Rattle.std.specs.List.{AllByRecursion}
 use Rattle.std.specs.List.Sorted.{IsStrictlySortedBy}
 use Rattle.std.specs.FinMap.Entries.{below_all, is_sorted}
 use Rattle.std.specs.FinMap.{entries, from_sorted, entries-from_sorted, get-from_sorted, get, insert, find, get-from_entries, get-insert, same_map, slice_cmp-IsAntisymmetric, nat_cmp-IsAntisymmetric}
-use Rattle.sc_model.specs.World.{sum_lengths}
+use Rattle.sc_model.specs.Levels.{sum_lengths}
 use Rattle.sc_store.specs.Paths.{files_of}
 
 abbrev pub path_cmp : List ℕ → List ℕ → Ordering

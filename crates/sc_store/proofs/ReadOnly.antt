@@ -4,7 +4,10 @@ use Rattle.sc_disk.specs.Store.{AddEntry}
 use Rattle.sc_store_disk.specs.DiskStores.{OpenEntry, entry_at}
 use Rattle.sc_store_disk.specs.Entries.{IsOpenAt}
 use Rattle.sc_entry.specs.Entries.{objects}
-use Rattle.sc_model.specs.World.{Answers, KeepsMarks, Later, Level, Puts_pre, Puts_pre_remote, Reserves, causes}
+use Rattle.sc_model.specs.Asking.{Answers}
+use Rattle.sc_model.specs.Levels.{KeepsMarks, Later, Level}
+use Rattle.sc_model.specs.WriteCauses.{causes}
+use Rattle.sc_model.specs.Writing.{Puts_pre, Puts_pre_remote, Reserves}
 use Rattle.sc_model.specs.declared.event.Answer.{Answer}
 use Rattle.sc_model.specs.declared.event.Answer.TheVariants.{Found as FoundAt, Hit, Miss, Refused, Size as SizeIs}
 use Rattle.sc_model.specs.declared.event.Mode.{Mode}

@@ -9,7 +9,10 @@ use Rattle.sc_store_disk.specs.Marks.{Marks, Sets, is_marked}
 use Rattle.sc_store_disk.specs.Moving.{AskCause as DiskCause, written_of as reserved_of}
 use Rattle.sc_store_disk.specs.Preprocessor.{PreCause}
 use Rattle.sc_store_disk.specs.declared.reserving.Reservation.{Reservation}
-use Rattle.sc_model.specs.World.{Asks, Level, Later, Reserves, Spells, Wrote_at, causes, early_cause}
+use Rattle.sc_model.specs.Asking.{Asks, Spells}
+use Rattle.sc_model.specs.Levels.{Level, Later}
+use Rattle.sc_model.specs.WriteCauses.{causes, early_cause}
+use Rattle.sc_model.specs.Writing.{Reserves, Wrote_at}
 use Rattle.sc_model.specs.declared.event.Answer.{Answer}
 use Rattle.sc_model.specs.declared.event.Answer.TheVariants.{Hit, Miss, Refused, Size as SizeIs}
 use Rattle.sc_model.specs.declared.event.Mode.{Mode}

@@ -3,7 +3,7 @@ use Rattle.std.specs.Prelude.{◌≡◌, Bool, true, false, List, ℕ, Option, N
 use Rattle.sc_entry.specs.declared.cache_mode.CacheMode.{CacheMode}
 use Rattle.sc_entry.specs.declared.cache_mode.CacheMode.TheVariants.{ReadOnly, ReadWrite}
 use Rattle.sc_model.specs.Plan.{level_facts}
-use Rattle.sc_model.specs.World.{Later, Level}
+use Rattle.sc_model.specs.Levels.{Later, Level}
 use Rattle.sc_model.specs.declared.level.Cause.TheVariants.{RemoteFault as RemoteRefused}
 use Rattle.sc_model.specs.declared.level.LevelFacts.{LevelFacts}
 use Rattle.sc_model.specs.declared.level.LevelKind.{LevelKind}

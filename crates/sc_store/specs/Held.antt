@@ -7,7 +7,8 @@ use Rattle.sc_store_disk.specs.DiskStores.{DiskStore, OpenEntry, with_marked}
 use Rattle.sc_store_disk.specs.Marks.{Marks, marks_code, no_marks}
 use Rattle.sc_model.specs.Devices.{Calls, Numbers}
 use Rattle.sc_model.specs.Plan.{level_facts}
-use Rattle.sc_model.specs.World.{Files, Level, no_files, no_level_held, part_size}
+use Rattle.sc_model.specs.Evicting.{part_size}
+use Rattle.sc_model.specs.Levels.{Files, Level, no_files, no_level_held}
 use Rattle.sc_model.specs.contracts.level.LevelFacts as facts_type
 use Rattle.sc_model.specs.contracts.level.Policy as policy_type
 use Rattle.sc_model.specs.declared.level.LevelFacts.{LevelFacts}

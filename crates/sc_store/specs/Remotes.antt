@@ -2,7 +2,7 @@
 use Rattle.std.specs.Prelude.{◌≡◌, ℕ, Bool, true, false, List, Option, Some, None, ◌⊎◌}
 use Rattle.sc_entry.specs.Causes.{IfTold, Rose}
 use Rattle.sc_model.specs.Devices.{Calls, Failed, MakesMade, Passed}
-use Rattle.sc_model.specs.World.{Files, IsPart, and_one, find_file, put_file}
+use Rattle.sc_model.specs.Levels.{Files, IsPart, and_one, find_file, put_file}
 use Rattle.sc_model.specs.declared.level.RemoteFault.TheVariants.{Other}
 use Rattle.sc_store.specs.declared.remote.RemoteRead.{RemoteRead}
 use Rattle.sc_store.specs.declared.remote.RemoteRead.TheVariants.{Found, NotFound, Refused as ReadRefused}

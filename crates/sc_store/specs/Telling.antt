@@ -1,7 +1,7 @@
 -- What a daemon's store tells of itself, and the counters that its levels begin with.
 use Rattle.std.specs.Prelude.{ℕ, suc, ◌&&◌, not, List, [], ◌∷◌, ◌++◌, codes, decimal, length, map, Option, Some, None}
 use Rattle.sc_entry.specs.declared.cache_mode.CacheMode.{CacheMode}
-use Rattle.sc_model.specs.Follows.{all_read_only, mode_of, some_size}
+use Rattle.sc_model.specs.Describing.{all_read_only, mode_of, some_size}
 use Rattle.sc_model.specs.Plan.{is_none}
 use Rattle.sc_model.specs.declared.level.LevelFacts.{LevelFacts}
 use Rattle.sc_model.specs.declared.level.LevelKind.{LevelKind}

@@ -10,7 +10,9 @@ ghost use Rattle.sc_store_disk.specs.declared.filling.EntryError.TheVariants.{No
 ghost use Rattle.sc_store_disk.specs.declared.reserving.Reservation.TheVariants.{Refused as IsNotReserved};
 ghost use Rattle.sc_entry.specs.Keys.{is_store_key as is_key};
 ghost use Rattle.sc_disk_pair.specs.Twos.{joined_state, joins};
-ghost use Rattle.sc_model.specs.World.{KeepsMarks, causes, early_cause as early, part_size};
+ghost use Rattle.sc_model.specs.Evicting.{part_size};
+ghost use Rattle.sc_model.specs.Levels.{KeepsMarks};
+ghost use Rattle.sc_model.specs.WriteCauses.{causes, early_cause as early};
 ghost use Rattle.sc_model.specs.declared.level.Cause.{Cause};
 ghost use Rattle.sc_model.specs.declared.level.LevelKind.TheVariants.{Disk as IsDisk};
 ghost use Rattle.sc_store.specs.Asking.{ReservesDisk, TellsMark, reads_key};

@@ -8,7 +8,8 @@ ghost use Rattle.sc_store_disk.specs.Moving.{EvictsFor, OpensBy, ReserveCause, S
 ghost use Rattle.sc_store_disk.specs.declared.filling.EntryError.TheVariants.{NotOpen as IsNotOpen};
 ghost use Rattle.sc_store_disk.specs.declared.reserving.Reservation.TheVariants.{Refused as IsNotReserved};
 ghost use Rattle.sc_entry.specs.Keys.{is_store_key as is_key};
-ghost use Rattle.sc_model.specs.World.{Later, causes, early_cause as early};
+ghost use Rattle.sc_model.specs.Levels.{Later};
+ghost use Rattle.sc_model.specs.WriteCauses.{causes, early_cause as early};
 ghost use Rattle.sc_model.specs.declared.level.Cause.{Cause as CauseType};
 ghost use Rattle.sc_model.specs.declared.level.Cause.TheVariants.{ReadOnly as ForReading};
 ghost use Rattle.sc_model.specs.declared.level.Store.TheVariants.{Wrapper};

@@ -8,7 +8,8 @@ ghost use Rattle.sc_store_disk.specs.declared.filling.EntryError.TheVariants.{No
 ghost use Rattle.sc_store_disk.specs.declared.reserving.Reservation.TheVariants.{Refused as IsNotReserved};
 ghost use Rattle.sc_entry.specs.Keys.{is_store_key as is_key};
 ghost use Rattle.sc_model.specs.Plan.{level_facts};
-ghost use Rattle.sc_model.specs.World.{Later, causes, early_cause as early};
+ghost use Rattle.sc_model.specs.Levels.{Later};
+ghost use Rattle.sc_model.specs.WriteCauses.{causes, early_cause as early};
 ghost use Rattle.sc_model.specs.declared.level.Cause.{Cause};
 ghost use Rattle.sc_model.specs.declared.level.Cause.TheVariants.{ReadOnly as ForReading};
 ghost use Rattle.sc_model.specs.declared.level.Store.TheVariants.{Wrapper};

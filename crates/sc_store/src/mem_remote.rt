@@ -3,7 +3,7 @@ ghost use Rattle.std.specs.List.{list_any};
 ghost use Rattle.std.specs.Ordering.{nat_cmp, eq_by_cmp};
 ghost use Rattle.sc_entry.specs.Failing.{fails_at, faults_after, one_more};
 ghost use Rattle.sc_model.specs.Devices.{Failed, MakesMade, MakesOn, Passed, calls_failing};
-ghost use Rattle.sc_model.specs.World.{no_files, find_file, put_file};
+ghost use Rattle.sc_model.specs.Levels.{no_files, find_file, put_file};
 ghost use Rattle.sc_store_disk.specs.Devices.{calls_of};
 ghost use Rattle.sc_store.specs.Held.{memory_names};
 ghost use Rattle.sc_store.specs.Paths.{entries_of, put_all, told_size};

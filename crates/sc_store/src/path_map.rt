@@ -1,6 +1,6 @@
 ghost use Rattle.std.specs.Prelude.{◌≡◌, length, OnOk, OnErr};
 ghost use Rattle.std.specs.Option.{option_copied};
-ghost use Rattle.sc_model.specs.World.{no_files, find_file, put_file};
+ghost use Rattle.sc_model.specs.Levels.{no_files, find_file, put_file};
 ghost use Rattle.sc_store.specs.Paths.{entries_of, told_size};
 
 use sc_entry::{ByteText, NoMemory, Text};
@@ -15,7 +15,7 @@ pub struct PathMap {
 }
 
 impl Model for PathMap {
-    ghost use Rattle.sc_model.specs.World.{Files};
+    ghost use Rattle.sc_model.specs.Levels.{Files};
     ghost use Rattle.sc_store.specs.Paths.{files_code, files_of};
 
     ghost Value = { Files };

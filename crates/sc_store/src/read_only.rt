@@ -1,7 +1,7 @@
 //! A store that is only read.
 ghost use Rattle.sc_store.specs.Held.{IsWithin};
 ghost use Rattle.sc_store.specs.Levels.{held_read_only};
-ghost use Rattle.sc_model.specs.World.{KeepsMarks};
+ghost use Rattle.sc_model.specs.Levels.{KeepsMarks};
 
 use crate::disk_cache::DiskCache;
 use crate::remote::Remote;

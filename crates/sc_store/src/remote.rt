@@ -1,7 +1,7 @@
 ghost use Rattle.std.specs.Prelude.{◌≡◌, ◌≤◌, ℕ, List, Option, IfOk, is_some};
 ghost use Rattle.sc_entry.specs.Causes.{Told};
 ghost use Rattle.sc_model.specs.Devices.{Calls, Loses, MakesOn};
-ghost use Rattle.sc_model.specs.World.{Files};
+ghost use Rattle.sc_model.specs.Levels.{Files};
 ghost use Rattle.sc_store.specs.Held.{Names};
 ghost use Rattle.sc_store.specs.Remotes.{ReachesBy, ReadCalls, ReadCause, Reads, WriteCalls, WriteCause, Writes};
 

@@ -1,6 +1,6 @@
 //! What a daemon's store tells of itself.
 ghost use Rattle.std.specs.Prelude.{◌≡◌, ◌++◌, codes, decimal, IfOk};
-ghost use Rattle.sc_model.specs.Follows as sizes;
+ghost use Rattle.sc_model.specs.Describing as sizes;
 ghost use Rattle.sc_stats.specs.Sums.{no_level_stats};
 ghost use Rattle.sc_store.specs.Basedirs as dirs;
 ghost use Rattle.sc_store.specs.Levels.{held_level};

@@ -1,7 +1,7 @@
 -- A store that stands alone: what its one lookup or put says of a call.
 use Rattle.std.proofs.Common.{◌≡◌, List, ℕ, Option, Result, Ok, Err, IfOk, IfErr, subst, sym}
 use Rattle.sc_entry.specs.declared.cache.Cache.{Cache}
-use Rattle.sc_model.specs.World.{Level}
+use Rattle.sc_model.specs.Levels.{Level}
 use Rattle.sc_model.specs.declared.event.Answer.{Answer}
 use Rattle.sc_model.specs.declared.event.Answer.TheVariants.{Found, Hit, Miss, Refused as AnswersRefused, Size}
 use Rattle.sc_model.specs.declared.event.Mode.{Mode}

@@ -14,7 +14,11 @@ use Rattle.sc_store_disk.specs.declared.reserving.Reservation.TheVariants.{Open,
 use Rattle.sc_entry.proofs.Gatherings.{rose_later}
 use Rattle.sc_entry.specs.Keys.{is_store_key, make_key_path}
 use Rattle.sc_model.specs.Plan.{level_facts}
-use Rattle.sc_model.specs.World.{Causes, Evicts, Evicts_unless, Fills as FillsLevel, IsFault, KeepsMarks, Later, Level, Reserves, SetsMark, causes, drop_part, find_file, is_later, is_marked as is_marked_at, is_there, or_cause, put_file, read_only_store, refuses_writes, room_cause, same_maps}
+use Rattle.sc_model.specs.Asking.{same_maps}
+use Rattle.sc_model.specs.Evicting.{Evicts, drop_part}
+use Rattle.sc_model.specs.Levels.{IsFault, KeepsMarks, Later, Level, SetsMark, find_file, is_later, is_marked as is_marked_at, is_there, put_file}
+use Rattle.sc_model.specs.WriteCauses.{Causes, causes, or_cause, read_only_store, refuses_writes, room_cause}
+use Rattle.sc_model.specs.Writing.{Evicts_unless, Fills as FillsLevel, Reserves}
 use Rattle.sc_model.specs.declared.event.Written.{Written}
 use Rattle.sc_model.specs.declared.event.Written.TheVariants.{Done, Refused}
 use Rattle.sc_model.specs.declared.level.Cause.{Cause}

@@ -1,7 +1,9 @@
 -- Puts of the preprocessor's entries at a disk store that stands alone.
 use Rattle.std.proofs.Common.{◌≡◌, ℕ, Bool, true, false, List, length, Some, Result, Ok, Err, IfOk, IfErr, subst, sym}
 use Rattle.sc_store_disk.specs.Preprocessor.{PreCause, PutsPre as PutsOnDisk}
-use Rattle.sc_model.specs.World.{Later, Puts_pre, causes, early_cause}
+use Rattle.sc_model.specs.Levels.{Later}
+use Rattle.sc_model.specs.WriteCauses.{causes, early_cause}
+use Rattle.sc_model.specs.Writing.{Puts_pre}
 use Rattle.sc_model.specs.declared.event.Written.{Written}
 use Rattle.sc_model.specs.declared.event.Written.TheVariants.{Done, Refused}
 use Rattle.sc_model.specs.declared.level.Cause.{Cause}

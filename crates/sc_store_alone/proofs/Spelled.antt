@@ -2,7 +2,8 @@
 use Rattle.std.proofs.Common.{◌≡◌, ℕ, Bool, List, Option, Some, None, refl}
 use Rattle.sc_entry.specs.Entries.{objects}
 use Rattle.sc_entry.specs.declared.object.Object.{Object}
-use Rattle.sc_model.specs.World.{Level, Spells}
+use Rattle.sc_model.specs.Asking.{Spells}
+use Rattle.sc_model.specs.Levels.{Level}
 use Rattle.sc_model.specs.declared.event.Answer.TheVariants.{Hit as AnswersHit}
 use Rattle.sc_model.specs.declared.event.Mode.TheVariants.{Whole}
 use Rattle.sc_model.specs.declared.level.LevelKind.{LevelKind}

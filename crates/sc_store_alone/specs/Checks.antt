@@ -3,7 +3,7 @@ use Rattle.std.specs.Prelude.{◌≡◌, ℕ, zero, suc, length, slice_index_or,
 use Rattle.sc_entry.specs.declared.cache_mode.CacheMode.{CacheMode}
 use Rattle.sc_entry.specs.declared.cache_mode.CacheMode.TheVariants.{ReadOnly, ReadWrite}
 use Rattle.sc_model.specs.Plan.{level_facts}
-use Rattle.sc_model.specs.World.{Later}
+use Rattle.sc_model.specs.Levels.{Later}
 use Rattle.sc_model.specs.declared.level.LevelPolicy.{LevelPolicy}
 use Rattle.sc_model.specs.declared.level.LevelPolicy.TheVariants.{Background, Off, Required}
 use Rattle.sc_model.specs.declared.level.Policy.{Policy}

@@ -8,7 +8,7 @@ use Rattle.sc_entry.specs.declared.object.Object.{Object}
 use Rattle.sc_model.specs.Machine.{counted_at}
 use Rattle.sc_model.specs.Plan.{backfills, level_facts}
 use Rattle.sc_model.specs.Rows.{asked_row}
-use Rattle.sc_model.specs.World.{Later}
+use Rattle.sc_model.specs.Levels.{Later}
 use Rattle.sc_model.specs.declared.event.Answer.{Answer}
 use Rattle.sc_model.specs.declared.event.Answer.TheVariants.{Hit as AnswersHit}
 use Rattle.sc_model.specs.declared.event.Mode.{Mode}

@@ -2,7 +2,8 @@
 use Rattle.std.specs.Prelude.{◌≡◌, ℕ, zero, suc, Bool, true, false, List, [], ◌∷◌, length, Some}
 use Rattle.sc_store_disk.specs.Moving.{SameEntries}
 use Rattle.sc_model.specs.Plan.{level_facts, pre_plan}
-use Rattle.sc_model.specs.World.{Later, early_cause}
+use Rattle.sc_model.specs.Levels.{Later}
+use Rattle.sc_model.specs.WriteCauses.{early_cause}
 use Rattle.sc_model.specs.declared.event.Answer.{Answer}
 use Rattle.sc_model.specs.declared.event.Answer.TheVariants.{Miss}
 use Rattle.sc_model.specs.declared.event.Mode.TheVariants.{Pre}

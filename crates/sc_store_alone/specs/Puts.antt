@@ -8,7 +8,9 @@ use Rattle.sc_entry.specs.Keys.{make_key_path}
 use Rattle.sc_model.specs.Machine.{counted_at}
 use Rattle.sc_model.specs.Plan.{handed_by, level_facts, note, plan, put_answer}
 use Rattle.sc_model.specs.Rows.{by_backfill, written_level_row}
-use Rattle.sc_model.specs.World.{Causes, Evicts_unless, IsRefused, KeepsMarks, Later, Level, SetsMark, causes, early_cause, find_file, put_file}
+use Rattle.sc_model.specs.Levels.{KeepsMarks, Later, Level, SetsMark, find_file, put_file}
+use Rattle.sc_model.specs.WriteCauses.{Causes, causes, early_cause}
+use Rattle.sc_model.specs.Writing.{Evicts_unless, IsRefused}
 use Rattle.sc_model.specs.declared.event.Written.{Written}
 use Rattle.sc_model.specs.declared.event.Written.TheVariants.{Done, Refused}
 use Rattle.sc_model.specs.declared.level.Cause.{Cause}

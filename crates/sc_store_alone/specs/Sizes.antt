@@ -1,7 +1,7 @@
 -- How much the levels of a store take.
 use Rattle.std.specs.Prelude.{ℕ, zero, suc, length, Option}
 use Rattle.sc_model.specs.Plan.{level_facts}
-use Rattle.sc_model.specs.World.{level_size}
+use Rattle.sc_model.specs.Asking.{level_size}
 use Rattle.sc_stats.specs.Sums.{sat}
 use Rattle.sc_store.specs.Held.{Held, level_in, room_in}
 use Rattle.sc_store.specs.Telling.{known}

@@ -8,10 +8,12 @@ use Rattle.sc_entry.specs.declared.cache_mode.CacheMode.{CacheMode}
 use Rattle.sc_entry.specs.declared.cache_mode.CacheMode.TheVariants.{ReadOnly}
 use Rattle.sc_entry.specs.declared.get_path_result.GetPathResult.{GetPathResult}
 use Rattle.sc_entry.specs.declared.get_path_result.GetPathResult.TheVariants.{Found as FoundAt, Miss as NoFile, Unsupported as NoPaths}
-use Rattle.sc_model.specs.Follows.{some_size}
+use Rattle.sc_model.specs.Describing.{some_size}
 use Rattle.sc_model.specs.Plan.{cause_text}
-use Rattle.sc_model.specs.World as world
-use Rattle.sc_model.specs.World.{Later, early_cause}
+use Rattle.sc_model.specs.Asking as asking
+use Rattle.sc_model.specs.Evicting as evicting
+use Rattle.sc_model.specs.Levels.{Later}
+use Rattle.sc_model.specs.WriteCauses.{early_cause}
 use Rattle.sc_model.specs.declared.event.Answer.{Answer}
 use Rattle.sc_model.specs.declared.event.Answer.TheVariants.{Found as AnswersFound, Hit as AnswersHit, Refused as AnswersRefused}
 use Rattle.sc_model.specs.declared.event.Mode.{Mode}
@@ -83,7 +85,7 @@ tells (Layered m) = m.held.told
 tells (Wrapped s) = tells s
 
 abbrev pub size_of : State → Option ℕ
-size_of (Alone l) = world.level_size l.facts.kind l.level l.room.reserved
+size_of (Alone l) = asking.level_size l.facts.kind l.level l.room.reserved
 size_of (Layered m) = some_size (size_sum m.held)
 size_of (Wrapped s) = size_of s
 
@@ -236,7 +238,7 @@ pub record PutsRemote (key bytes : List ℕ) (how : Written) (old new : HeldLeve
 abbrev pub PutsFile : List ℕ → List ℕ → Written → HeldLevel → HeldLevel → Type 0
 PutsFile key bytes how old new =
     PutsDisk Single key bytes false how (disk_of old) (disk_of new) × PutMarks (entry_path key) false how old.marks new.marks (disk_of new)
-    × (world.part_size new.level + new.room.reserved ≤ new.facts.capacity)
+    × (evicting.part_size new.level + new.room.reserved ≤ new.facts.capacity)
 
 -- A put at a store that stands alone.
 abbrev pub PutsAlone : LevelKind → List ℕ → List ℕ → Written → HeldLevel → HeldLevel → Type 0

@@ -7,7 +7,7 @@ use Rattle.sc_model.specs.declared.event.Answer.TheVariants.{Found, Hit as Answe
 use Rattle.sc_model.specs.declared.event.Mode.{Mode}
 use Rattle.sc_model.specs.declared.event.Mode.TheVariants.{Whole}
 use Rattle.sc_model.specs.declared.level.LevelKind.{LevelKind}
-use Rattle.sc_model.specs.World.{Level}
+use Rattle.sc_model.specs.Levels.{Level}
 use Rattle.sc_store_alone.specs.Lookups.{FindsFrom, FoundOr, IsSpelled, LooksAt, hit_in}
 use Rattle.sc_store_alone.specs.Moving.{Counted, Keeps}
 use Rattle.sc_store_alone.specs.declared.hit.Hit.{Hit}

@@ -3,7 +3,8 @@ use Rattle.std.proofs.Common.{◌≡◌, ℕ, suc, ◌-◌, ◌<◌, Bool, true,
 use Rattle.sc_entry.specs.Keys.{is_store_key}
 use Rattle.sc_store_disk.specs.Moving.{SameEntries}
 use Rattle.sc_model.specs.Plan.{level_facts}
-use Rattle.sc_model.specs.World.{Later, early_cause}
+use Rattle.sc_model.specs.Levels.{Later}
+use Rattle.sc_model.specs.WriteCauses.{early_cause}
 use Rattle.sc_model.specs.declared.event.Answer.{Answer}
 use Rattle.sc_model.specs.declared.event.Answer.TheVariants.{Refused as AnswersRefused}
 use Rattle.sc_model.specs.declared.event.Mode.TheVariants.{Pre}

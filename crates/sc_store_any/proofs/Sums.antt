@@ -1,7 +1,8 @@
 -- What levels take, level by level.
 use Rattle.std.proofs.Common.{◌≡◌, ℕ, suc, ◌-◌, ◌<◌, ap, subst, sym, ◌∙◌}
 use Rattle.sc_model.specs.Plan.{level_facts}
-use Rattle.sc_model.specs.World.{Level, level_size}
+use Rattle.sc_model.specs.Asking.{level_size}
+use Rattle.sc_model.specs.Levels.{Level}
 use Rattle.sc_model.specs.declared.level.LevelFacts.{LevelFacts}
 use Rattle.sc_stats.specs.Sums.{sat}
 use Rattle.sc_store_any.proofs.Turns.{one_less}

@@ -2,7 +2,7 @@
 ghost use Rattle.std.specs.Prelude.{◌≡◌, ◌<◌, false, true, IfErr, IfOk, Option, length};
 ghost use Rattle.sc_model.specs.declared.level.Policy.TheVariants.{Levels as ByLevel};
 ghost use Rattle.sc_entry.specs.Entries.{entry as spelling};
-ghost use Rattle.sc_model.specs.Follows.{some_size};
+ghost use Rattle.sc_model.specs.Describing.{some_size};
 ghost use Rattle.sc_model.specs.Script.{is_single};
 ghost use Rattle.sc_model.specs.declared.event.Mode.TheVariants.{Raw, Whole};
 ghost use Rattle.sc_store_alone.specs.Checks.{ChecksAll, Stays};

@@ -7,7 +7,7 @@ ghost use Rattle.sc_model.specs.Plan as plans;
 ghost use Rattle.sc_model.specs.Plan.{level_facts};
 ghost use Rattle.sc_model.specs.Script.{is_single};
 ghost use Rattle.sc_model.specs.There.{AreHanded, AreLevels};
-ghost use Rattle.sc_model.specs.World.{Later};
+ghost use Rattle.sc_model.specs.Levels.{Later};
 ghost use Rattle.sc_model.specs.declared.level.LevelKind.TheVariants.{Disk as IsDisk, Remote as IsRemote};
 ghost use Rattle.sc_model.specs.declared.phase.Refusal.TheVariants.{NoneYet};
 ghost use Rattle.sc_store_alone.specs.Moving.{Keeps, counted};

@@ -1,7 +1,7 @@
 //! How much the levels of a store take.
 ghost use Rattle.std.specs.Prelude.{◌≡◌, true};
-ghost use Rattle.sc_model.specs.Follows as follows;
-ghost use Rattle.sc_model.specs.World as world;
+ghost use Rattle.sc_model.specs.Describing as follows;
+ghost use Rattle.sc_model.specs.Asking as world;
 ghost use Rattle.sc_store_alone.specs.Sizes.{size_sum};
 ghost use Rattle.sc_store.specs.Levels.{held_level};
 ghost use Rattle.sc_store.specs.Telling.{known};

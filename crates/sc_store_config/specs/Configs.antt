@@ -7,7 +7,7 @@ use Rattle.sc_disk.specs.Disks.{DiskState}
 use Rattle.sc_store_disk.specs.DiskStores.{unopened_store}
 use Rattle.sc_store_disk.specs.Marks.{no_marks}
 use Rattle.sc_model.specs.Devices.{Calls}
-use Rattle.sc_model.specs.World.{Files}
+use Rattle.sc_model.specs.Levels.{Files}
 use Rattle.sc_model.specs.declared.level.Policy.{Policy}
 use Rattle.sc_model.specs.declared.level.Policy.TheVariants.{Levels, Single}
 use Rattle.sc_disk_pair.specs.Twos.{joined_state, joins}

@@ -6,7 +6,8 @@ use Rattle.sc_entry.specs.Keys.{IsStoreKey, is_store_key, make_key_path, normali
 use Rattle.sc_entry.specs.declared.cache_mode.CacheMode.{CacheMode}
 use Rattle.sc_entry.specs.declared.memory.NoMemory.{NoMemory}
 use Rattle.sc_entry.specs.declared.object.Object.{Object}
-use Rattle.sc_model.specs.World.{Answers, Answers_path, Answers_pre, Answers_whole, Answers_raw, Asks, Asks_calls, CallsOf, Keeps_all, Level, Opens_by, Spells, Tells_mark, find_file, is_marked as is_marked_at, is_there, level_size}
+use Rattle.sc_model.specs.Asking.{Answers, Answers_path, Answers_pre, Answers_whole, Answers_raw, Asks, Asks_calls, CallsOf, Opens_by, Spells, Tells_mark, level_size}
+use Rattle.sc_model.specs.Levels.{Keeps_all, Level, find_file, is_marked as is_marked_at, is_there}
 use Rattle.sc_model.specs.declared.event.Answer.{Answer}
 use Rattle.sc_model.specs.declared.event.Answer.TheVariants.{Found as FoundAt, Hit, Miss, Refused, Size as SizeIs}
 use Rattle.sc_model.specs.declared.event.Mode.{Mode}

@@ -21,7 +21,7 @@ use Rattle.sc_disk.specs.declared.disk_file.DiskFile.{DiskFile}
 use Rattle.sc_disk.specs.declared.error.Error.{Error}
 use Rattle.sc_disk.specs.declared.error.Error.TheVariants.{Io}
 use Rattle.sc_disk.specs.declared.pending.Pending.{Pending}
-use Rattle.sc_model.specs.World.{same_maps}
+use Rattle.sc_model.specs.Asking.{same_maps}
 use Rattle.sc_disk_pair.specs.declared.part.Part.{Part}
 use Rattle.sc_disk_pair.specs.declared.part.Part.TheVariants.{Main, Pre}
 use Rattle.sc_store_disk.specs.DiskStores.{OpenEntry, bytes_or, entries_of, entry_at, level_of, open_entry, opened_store, told_files}

@@ -21,7 +21,8 @@ use Rattle.sc_disk.specs.declared.disk_file.DiskFile.{DiskFile}
 use Rattle.sc_disk.specs.declared.error.Error.{Error}
 use Rattle.sc_disk.specs.declared.error.Error.TheVariants.{FileTooLarge, Io, Reserved}
 use Rattle.sc_disk.specs.declared.pending.Pending.{Pending}
-use Rattle.sc_model.specs.World.{put_file, same_maps}
+use Rattle.sc_model.specs.Asking.{same_maps}
+use Rattle.sc_model.specs.Levels.{put_file}
 use Rattle.sc_model.specs.declared.event.Written.TheVariants.{Done as WriteDone, Refused as WriteRefused}
 use Rattle.sc_model.specs.declared.level.Cause.TheVariants.{FileTooLarge as ForSize, Io as ForIo, Reserved as ForRoom}
 use Rattle.sc_disk_pair.specs.Parts.{in_part}

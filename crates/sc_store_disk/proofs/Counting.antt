@@ -15,7 +15,7 @@ use Rattle.sc_disk.proofs.Pairs.{absent_later}
 use Rattle.sc_disk.specs.Disks.{DiskFiles, DiskRecord, files_now}
 use Rattle.sc_disk.specs.Sound.{IsSound}
 use Rattle.sc_disk.specs.Store.{AreKeys, HasFiles, Store}
-use Rattle.sc_model.specs.World.{Files, find_file, no_files, put_file}
+use Rattle.sc_model.specs.Levels.{Files, find_file, no_files, put_file}
 use Rattle.sc_disk_pair.specs.Parts.{ArePlaced, in_part}
 use Rattle.sc_disk_pair.specs.Twos.{TwoState}
 use Rattle.sc_disk_pair.specs.declared.pair_cache.PairCache.{PairCache}

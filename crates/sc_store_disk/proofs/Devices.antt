@@ -11,7 +11,7 @@ use Rattle.sc_entry.specs.Failing.{fails_at}
 use Rattle.sc_entry.specs.declared.calls.Calls.{Calls as Counted}
 use Rattle.sc_disk.specs.Devices as device
 use Rattle.sc_model.specs.Devices.{Calls, Loses, Makes, MakesOn, calls_failing, is_listed, numbers_of}
-use Rattle.sc_model.specs.World.{Later, Level, is_later}
+use Rattle.sc_model.specs.Levels.{Later, Level, is_later}
 use Rattle.sc_store_disk.specs.Devices.{calls_of}
 
 -- a number is listed exactly where its call is to fail

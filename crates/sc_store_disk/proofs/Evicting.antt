@@ -8,7 +8,8 @@ use Rattle.sc_disk.proofs.Files.{same_path, self_path}
 use Rattle.sc_disk.proofs.Pairs.{absent_later}
 use Rattle.sc_disk.specs.Disks.{DiskFiles}
 use Rattle.sc_disk.specs.Store.{size_of as measure}
-use Rattle.sc_model.specs.World.{Evicts, Files, Level, drop_file, drop_part, part_file, size_of}
+use Rattle.sc_model.specs.Evicting.{Evicts, drop_part, part_file}
+use Rattle.sc_model.specs.Levels.{Files, Level, drop_file, size_of}
 use Rattle.sc_disk_pair.specs.Parts.{in_part}
 use Rattle.sc_disk_pair.specs.declared.part.Part.{Part}
 use Rattle.sc_disk_pair.specs.declared.part.Part.TheVariants.{Main, Pre}

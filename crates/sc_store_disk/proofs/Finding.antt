@@ -8,7 +8,7 @@ use Rattle.std.specs.Map.{lookup}
 use Rattle.std.specs.Ordering.{nat_cmp}
 use Rattle.sc_disk.proofs.Files.{same_path}
 use Rattle.sc_disk.specs.Disks.{DiskFiles}
-use Rattle.sc_model.specs.World.{Files, drop_file, find_file, put_file}
+use Rattle.sc_model.specs.Levels.{Files, drop_file, find_file, put_file}
 use Rattle.sc_disk_pair.proofs.Joined.{Kind, kind_of}
 use Rattle.sc_disk_pair.specs.Pairs.{own_key}
 use Rattle.sc_disk_pair.specs.Parts.{cut_part, in_part}

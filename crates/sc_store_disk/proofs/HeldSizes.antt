@@ -12,7 +12,8 @@ use Rattle.sc_disk.specs.Sound.{IsSound}
 use Rattle.sc_disk.specs.Store.{Store, indexed, reserved, size_of as measure}
 use Rattle.sc_disk.specs.declared.disk.Listed.{Listed}
 use Rattle.sc_disk.specs.declared.disk_file.DiskFile.{DiskFile}
-use Rattle.sc_model.specs.World.{part_size, size_of}
+use Rattle.sc_model.specs.Evicting.{part_size}
+use Rattle.sc_model.specs.Levels.{size_of}
 use Rattle.sc_disk_pair.proofs.Joined.{Kind, kind_of}
 use Rattle.sc_disk_pair.proofs.Placed.{placed-told}
 use Rattle.sc_disk_pair.specs.Parts.{ArePlaced}

@@ -11,7 +11,8 @@ use Rattle.sc_disk.specs.Disks.{DiskRecord, files_now}
 use Rattle.sc_disk.specs.Sound.{IsSound}
 use Rattle.sc_disk.specs.Store.{AreKeys, HasFiles, Store, indexed, reserved, size_of as measure}
 use Rattle.sc_disk.specs.declared.error.Error.{Error}
-use Rattle.sc_model.specs.World.{level_size, size_of}
+use Rattle.sc_model.specs.Asking.{level_size}
+use Rattle.sc_model.specs.Levels.{size_of}
 use Rattle.sc_model.specs.declared.event.Answer.{Answer}
 use Rattle.sc_model.specs.declared.level.LevelKind.TheVariants.{Disk}
 use Rattle.sc_disk_pair.specs.Parts.{ArePlaced}

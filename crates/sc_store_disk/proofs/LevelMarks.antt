@@ -3,7 +3,8 @@ use Rattle.std.proofs.Common.{◌≡◌, inl, inr, ℕ, Bool, true, false, ◌&&
 use Rattle.std.specs.Cmp.Lexicographic.{nat_list_eq_equiv}
 use Rattle.std.specs.List.{list_any}
 use Rattle.sc_disk.proofs.Files.{same_path, self_path}
-use Rattle.sc_model.specs.World.{Evicts, Files, KeepsMarks, Level, SetsMark, drop_part, find_file, is_marked, is_there, put_file}
+use Rattle.sc_model.specs.Evicting.{Evicts, drop_part}
+use Rattle.sc_model.specs.Levels.{Files, KeepsMarks, Level, SetsMark, find_file, is_marked, is_there, put_file}
 use Rattle.sc_disk_pair.proofs.Joined.{Kind, kind_of}
 use Rattle.sc_disk_pair.specs.Pairs.{own_key}
 use Rattle.sc_disk_pair.specs.Parts.{cut_part, in_part}

@@ -16,7 +16,7 @@ use Rattle.sc_disk.specs.Store.{AreKeys, HasFiles, Store}
 use Rattle.sc_disk.specs.declared.change.Change.TheVariants.{Touched}
 use Rattle.sc_disk.specs.declared.error.Error.{Error}
 use Rattle.sc_disk.specs.declared.error.Error.TheVariants.{BadKey, FileNotInCache, FileTooLarge, Io, NoMemory, Reserved}
-use Rattle.sc_model.specs.World.{find_file}
+use Rattle.sc_model.specs.Levels.{find_file}
 use Rattle.sc_disk_pair.proofs.Shares.{lookup-part}
 use Rattle.sc_disk_pair.specs.Pairs.{FindsPath, RefusesRead, index_of}
 use Rattle.sc_disk_pair.specs.Parts.{in_part}

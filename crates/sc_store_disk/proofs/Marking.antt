@@ -6,7 +6,7 @@ use Rattle.std.specs.Map.{lookup}
 use Rattle.sc_entry.specs.declared.cache_mode.CacheMode.{CacheMode}
 use Rattle.sc_disk.proofs.Files.{same_path}
 use Rattle.sc_disk.specs.Disks.{DiskFiles}
-use Rattle.sc_model.specs.World.{find_file}
+use Rattle.sc_model.specs.Levels.{find_file}
 use Rattle.sc_disk_pair.specs.Parts.{in_part}
 use Rattle.sc_disk_pair.specs.Twos.{TwoState}
 use Rattle.sc_disk_pair.specs.declared.pair_cache.PairCache.{PairCache}

@@ -19,7 +19,10 @@ use Rattle.sc_disk.specs.declared.change.Change.TheVariants.{Made}
 use Rattle.sc_disk.specs.declared.error.Error.{Error}
 use Rattle.sc_disk.specs.declared.error.Error.TheVariants.{Io}
 use Rattle.sc_disk.specs.declared.pending.Pending.{Pending}
-use Rattle.sc_model.specs.World.{Evicts, Evicts_unless, Level, Reserves, main_count, room_cause}
+use Rattle.sc_model.specs.Evicting.{Evicts, main_count}
+use Rattle.sc_model.specs.Levels.{Level}
+use Rattle.sc_model.specs.WriteCauses.{room_cause}
+use Rattle.sc_model.specs.Writing.{Evicts_unless, Reserves}
 use Rattle.sc_model.specs.declared.event.Written.TheVariants.{Done as WriteDone, Refused as WriteRefused}
 use Rattle.sc_model.specs.declared.level.Cause.{Cause}
 use Rattle.sc_model.specs.declared.level.Cause.TheVariants.{Io as ForIo}

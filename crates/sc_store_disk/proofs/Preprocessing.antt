@@ -11,7 +11,11 @@ use Rattle.sc_entry.specs.declared.memory.NoMemory.{NoMemory}
 use Rattle.sc_disk.specs.Disks.{files_now}
 use Rattle.sc_disk.specs.Sound.{IsSound}
 use Rattle.sc_disk.specs.Store.{AddEntry, Store, reserved}
-use Rattle.sc_model.specs.World.{Evicts, Evicts_unless, IsFault, Level, Puts_pre_by, Reserves, causes, early_cause, main_count, part_size, put_file, room_cause, same_maps, write_cause}
+use Rattle.sc_model.specs.Asking.{same_maps}
+use Rattle.sc_model.specs.Evicting.{Evicts, main_count, part_size}
+use Rattle.sc_model.specs.Levels.{IsFault, Level, put_file}
+use Rattle.sc_model.specs.WriteCauses.{causes, early_cause, room_cause, write_cause}
+use Rattle.sc_model.specs.Writing.{Evicts_unless, Puts_pre_by, Reserves}
 use Rattle.sc_model.specs.declared.event.Written.{Written}
 use Rattle.sc_model.specs.declared.event.Written.TheVariants.{Done as WriteDone, Refused as WriteRefused}
 use Rattle.sc_model.specs.declared.level.Cause.{Cause}

@@ -4,7 +4,10 @@ use Rattle.sc_entry.specs.Causes.{Rose}
 use Rattle.sc_entry.specs.Keys.{IsStoreKey, is_store_key}
 use Rattle.sc_entry.specs.declared.cache_mode.CacheMode.{CacheMode}
 use Rattle.sc_entry.specs.declared.memory.NoMemory.{NoMemory}
-use Rattle.sc_model.specs.World.{Evicts, Evicts_unless, IsRefused, Level, Reserves, Reserves_by, causes, early_cause, or_cause, read_only_store, refuses_writes, room_cause, write_cause}
+use Rattle.sc_model.specs.Evicting.{Evicts}
+use Rattle.sc_model.specs.Levels.{Level}
+use Rattle.sc_model.specs.WriteCauses.{causes, early_cause, or_cause, read_only_store, refuses_writes, room_cause, write_cause}
+use Rattle.sc_model.specs.Writing.{Evicts_unless, IsRefused, Reserves, Reserves_by}
 use Rattle.sc_model.specs.declared.event.Written.{Written}
 use Rattle.sc_model.specs.declared.event.Written.TheVariants.{Done as WriteDone, Refused as WriteRefused}
 use Rattle.sc_model.specs.declared.level.Cause.{Cause}

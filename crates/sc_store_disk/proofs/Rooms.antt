@@ -20,7 +20,7 @@ use Rattle.sc_disk.specs.declared.change.Change.{Change}
 use Rattle.sc_disk.specs.declared.change.Change.TheVariants.{Made, Added, Touched, Moved, Gone}
 use Rattle.sc_disk.specs.declared.disk_file.DiskFile.{DiskFile}
 use Rattle.sc_disk.specs.declared.pending.Pending.{Pending}
-use Rattle.sc_model.specs.World.{Evicts}
+use Rattle.sc_model.specs.Evicting.{Evicts}
 use Rattle.sc_disk_pair.specs.Parts.{ArePlaced, in_part}
 use Rattle.sc_disk_pair.specs.declared.part.Part.{Part}
 use Rattle.sc_disk_pair.specs.declared.part.Part.TheVariants.{Main, Pre}

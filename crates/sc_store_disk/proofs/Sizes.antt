@@ -17,7 +17,7 @@ use Rattle.sc_disk.specs.Disks.{DiskFiles, disk_file_at}
 use Rattle.sc_disk.specs.Names.{is_temporary_path}
 use Rattle.sc_disk.specs.Store.{Agrees, AreKeys, size_of as measure}
 use Rattle.sc_disk.specs.declared.disk_file.DiskFile.{DiskFile}
-use Rattle.sc_model.specs.World.{Files, find_file, no_files, put_file, size_of, sum_lengths}
+use Rattle.sc_model.specs.Levels.{Files, find_file, no_files, put_file, size_of, sum_lengths}
 use Rattle.sc_disk_pair.proofs.Joined.{Kind, kind_of}
 use Rattle.sc_disk_pair.specs.Parts.{ArePlaced, in_part}
 use Rattle.sc_disk_pair.specs.declared.part.Part.{Part}

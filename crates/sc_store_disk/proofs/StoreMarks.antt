@@ -2,7 +2,11 @@
 use Rattle.std.proofs.Common.{◌≡◌, ℕ, zero, suc, ◌+◌, ◌<◌, ◌≤◌, Bool, true, false, is_some, bytes_eq, option_map, List, [], ◌∷◌, ◌++◌, length, IfOk, OnErr, Option, Some, None, Result, Ok, Err, refl, sym, ap, ◌∙◌, subst, arith}
 use Rattle.std.specs.Option.{option_map_or}
 use Rattle.sc_disk.specs.Store.{AddEntry}
-use Rattle.sc_model.specs.World.{Causes, Evicts, Evicts_unless, IsFault, Later, Level, Puts_pre_by, Reserves, Reserves_by, causes, drop_file, drop_part, find_file, same_maps, size_of}
+use Rattle.sc_model.specs.Asking.{same_maps}
+use Rattle.sc_model.specs.Evicting.{Evicts, drop_part}
+use Rattle.sc_model.specs.Levels.{IsFault, Later, Level, drop_file, find_file, size_of}
+use Rattle.sc_model.specs.WriteCauses.{Causes, causes}
+use Rattle.sc_model.specs.Writing.{Evicts_unless, Puts_pre_by, Reserves, Reserves_by}
 use Rattle.sc_model.specs.declared.event.Written.{Written}
 use Rattle.sc_model.specs.declared.event.Written.TheVariants.{Done as WriteDone, Refused as WriteRefused}
 use Rattle.sc_model.specs.declared.level.Cause.{Cause}

@@ -11,7 +11,7 @@ use Rattle.sc_disk.specs.declared.pending.Pending.{Pending}
 use Rattle.sc_entry.specs.Keys.{make_key_path}
 use Rattle.sc_lru.specs.LruCache.{total}
 use Rattle.sc_entry.specs.declared.cache_mode.CacheMode.{CacheMode}
-use Rattle.sc_model.specs.World.{Files, Level, find_file}
+use Rattle.sc_model.specs.Levels.{Files, Level, find_file}
 use Rattle.sc_model.specs.declared.level.LevelFacts.{LevelFacts}
 use Rattle.sc_model.specs.declared.level.LevelKind.TheVariants.{Disk}
 use Rattle.sc_disk_pair.specs.Pairs.{index_of, own_key}

@@ -3,7 +3,10 @@ use Rattle.std.specs.Prelude.{◌≡◌, ◌≢◌, ◌⊎◌, ℕ, ◌+◌, ◌
 use Rattle.std.specs.Option.{option_map_or}
 use Rattle.sc_disk.specs.Store.{AddEntry, IsOpen, Store}
 use Rattle.sc_entry.specs.Causes.{Rose}
-use Rattle.sc_model.specs.World.{Commits_calls, DiskCalls, Evicts, Fills, IsFault, KeepsMarks, Level, SameStore, SetsMark, put_file, same_maps}
+use Rattle.sc_model.specs.Asking.{DiskCalls, same_maps}
+use Rattle.sc_model.specs.Evicting.{Evicts}
+use Rattle.sc_model.specs.Levels.{IsFault, KeepsMarks, Level, SetsMark, put_file}
+use Rattle.sc_model.specs.Writing.{Commits_calls, Fills, SameStore}
 use Rattle.sc_model.specs.declared.event.Written.{Written}
 use Rattle.sc_model.specs.declared.event.Written.TheVariants.{Done as WriteDone, Refused as WriteRefused}
 use Rattle.sc_model.specs.declared.level.Cause.TheVariants.{FileTooLarge, Io, Reserved as NoRoom}

@@ -1,7 +1,7 @@
 -- What the calls of a disk store do to its marks.
 use Rattle.std.specs.Prelude.{◌≡◌, ℕ, Bool, true, false, bytes_eq, List, Option, Some, None}
 use Rattle.sc_disk.specs.declared.disk.Disk as device
-use Rattle.sc_model.specs.World.{find_file}
+use Rattle.sc_model.specs.Levels.{find_file}
 use Rattle.sc_model.specs.declared.event.Answer.{Answer}
 use Rattle.sc_model.specs.declared.event.Answer.TheVariants.{Hit}
 use Rattle.sc_model.specs.declared.event.Written.{Written}

@@ -6,7 +6,10 @@ use Rattle.sc_entry.specs.Entries.{objects}
 use Rattle.sc_entry.specs.Keys.{IsStoreKey}
 use Rattle.sc_disk_pair.specs.declared.part.Part.{Part}
 use Rattle.sc_disk_pair.specs.declared.part.Part.TheVariants.{Main, Pre}
-use Rattle.sc_model.specs.World.{Files, Asks, Causes, Evicts, KeepsMarks, Later, Level, Spells, find_file, room_cause}
+use Rattle.sc_model.specs.Asking.{Asks, Spells}
+use Rattle.sc_model.specs.Evicting.{Evicts}
+use Rattle.sc_model.specs.Levels.{Files, KeepsMarks, Later, Level, find_file}
+use Rattle.sc_model.specs.WriteCauses.{Causes, room_cause}
 use Rattle.sc_model.specs.declared.event.Answer.{Answer}
 use Rattle.sc_model.specs.declared.event.Answer.TheVariants.{Found, Hit, Miss, Refused, Size as SizeIs}
 use Rattle.sc_model.specs.declared.event.Mode.{Mode}

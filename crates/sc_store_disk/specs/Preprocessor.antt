@@ -2,7 +2,8 @@
 use Rattle.std.specs.Prelude.{◌≡◌, ℕ, ◌+◌, ◌<◌, ◌≤◌, Bool, true, List, length, Option, Some, None}
 use Rattle.sc_entry.specs.Causes.{Rose}
 use Rattle.sc_entry.specs.Keys.{normalize_key}
-use Rattle.sc_model.specs.World.{Puts_pre_by, Puts_pre_disk, causes}
+use Rattle.sc_model.specs.WriteCauses.{causes}
+use Rattle.sc_model.specs.Writing.{Puts_pre_by, Puts_pre_disk}
 use Rattle.sc_model.specs.declared.event.Written.{Written}
 use Rattle.sc_model.specs.declared.event.Written.TheVariants.{Done as WriteDone, Refused as WriteRefused}
 use Rattle.sc_model.specs.declared.level.Cause.{Cause}

@@ -3,7 +3,7 @@ use Rattle.std.specs.Prelude.{ℕ, cond, is_some, bytes_eq, List, [], ◌∷◌,
 use Rattle.std.specs.Map.{lookup}
 use Rattle.std.specs.Option.{option_map}
 use Rattle.sc_disk.specs.Disks.{DiskFiles, disk_file_at}
-use Rattle.sc_model.specs.World.{Files, no_files, put_file}
+use Rattle.sc_model.specs.Levels.{Files, no_files, put_file}
 use Rattle.sc_disk_pair.specs.Pairs.{own_key}
 use Rattle.sc_disk_pair.specs.Parts.{cut_part}
 use Rattle.sc_disk_pair.specs.declared.part.Part.{Part}

@@ -5,7 +5,7 @@ ghost use Rattle.sc_store_disk.specs.Marked.{TellsMark, marks_of, with_mark};
 ghost use Rattle.sc_store_disk.specs.Marks.{is_marked};
 ghost use Rattle.sc_store_disk.specs.Moving.{AskCause, AsksDisk, HasFile, OpensFor, ReadsAt, Steady, hit_or_miss, reads_key};
 ghost use Rattle.sc_entry.specs.Keys.{IsStoreKey, is_file_key, is_store_key as is_key, make_key_path as make_path};
-ghost use Rattle.sc_model.specs.World.{level_size};
+ghost use Rattle.sc_model.specs.Asking.{level_size};
 ghost use Rattle.sc_model.specs.declared.event.Answer.TheVariants.{Refused as IsRefused};
 ghost use Rattle.sc_model.specs.declared.level.Cause.TheVariants.{BadKey as IsBadKey};
 ghost use Rattle.sc_model.specs.declared.level.LevelKind.TheVariants.{Disk as IsDisk};

@@ -3,7 +3,8 @@ ghost use Rattle.std.specs.Prelude.{◌≡◌, ◌+◌, ◌≤◌, false, codes}
 ghost use Rattle.sc_store_disk.specs.DiskStores.{held_disk, indexed_bytes, unopened_store};
 ghost use Rattle.sc_store_disk.specs.Marked.{marks_of};
 ghost use Rattle.sc_store_disk.specs.Marks.{no_marks};
-ghost use Rattle.sc_model.specs.World.{KeepsMarks, part_size};
+ghost use Rattle.sc_model.specs.Evicting.{part_size};
+ghost use Rattle.sc_model.specs.Levels.{KeepsMarks};
 ghost use Rattle.sc_model.specs.declared.level.LevelKind.TheVariants.{Disk as IsDisk};
 ghost use Rattle.sc_disk_pair.specs.Twos.{joined_state, joins};
 

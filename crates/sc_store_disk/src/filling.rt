@@ -10,7 +10,7 @@ ghost use Rattle.sc_disk.specs.Store.{IsOpen};
 ghost use Rattle.sc_disk.specs.declared.error.Error.TheVariants.{Io as IsDiskFault};
 ghost use Rattle.sc_store_disk.specs.declared.filling.Filling.TheVariants.{Refused as IsRefused};
 ghost use Rattle.sc_store_disk.specs.declared.filling.EntryError.TheVariants.{NotOpen as IsNotOpen};
-ghost use Rattle.sc_model.specs.World.{same_maps};
+ghost use Rattle.sc_model.specs.Asking.{same_maps};
 ghost use Rattle.sc_model.specs.declared.level.Cause.TheVariants.{Io as IsIo};
 ghost use Rattle.sc_entry.specs.declared.cache_mode.CacheMode.{CacheMode};
 

@@ -5,7 +5,7 @@ ghost use Rattle.sc_disk.specs.Store.{size_of};
 ghost use Rattle.sc_store_disk.specs.DiskStores.{bare_disk, count_of, held_disk};
 ghost use Rattle.sc_store_disk.specs.Reopened.{IsReopenedSize};
 ghost use Rattle.sc_lru.specs.LruCache.{suffix_within, total};
-ghost use Rattle.sc_model.specs.World.{part_size};
+ghost use Rattle.sc_model.specs.Evicting.{part_size};
 
 use crate::entry_cache::EntryCache;
 use sc_disk::{Listed, MemDisk, is_kept};

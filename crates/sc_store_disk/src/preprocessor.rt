@@ -6,7 +6,7 @@ ghost use Rattle.sc_store_disk.specs.Moving.{EvictsFiles, EvictsFor, SameEntries
 ghost use Rattle.sc_store_disk.specs.Preprocessor.{PreCause, PutsPre, StoresKey, StoresPre};
 ghost use Rattle.sc_entry.specs.Keys.{is_file_key};
 ghost use Rattle.sc_entry.specs.declared.cache_mode.CacheMode.{CacheMode};
-ghost use Rattle.sc_model.specs.World.{early_cause as early};
+ghost use Rattle.sc_model.specs.WriteCauses.{early_cause as early};
 ghost use Rattle.sc_model.specs.declared.event.Written.TheVariants.{Refused as IsNotWritten};
 ghost use Rattle.sc_model.specs.declared.level.Cause.{Cause as CauseOf};
 

@@ -7,7 +7,8 @@ ghost use Rattle.sc_store_disk.specs.declared.reserving.Reservation.TheVariants.
 ghost use Rattle.sc_entry.specs.Keys.{is_file_key};
 ghost use Rattle.sc_entry.specs.declared.cache_mode.CacheMode.{CacheMode};
 ghost use Rattle.sc_disk.specs.Store.{reserved};
-ghost use Rattle.sc_model.specs.World.{Reserves, causes, early_cause as early};
+ghost use Rattle.sc_model.specs.WriteCauses.{causes, early_cause as early};
+ghost use Rattle.sc_model.specs.Writing.{Reserves};
 ghost use Rattle.sc_model.specs.declared.level.Cause.{Cause as CauseOf};
 ghost use Rattle.sc_model.specs.Plan.{reads_only};
 ghost use Rattle.sc_model.specs.Script.{is_single as single};

@@ -3,7 +3,8 @@ use Rattle.std.proofs.Common.{◌≡◌, ◌⊎◌, ⊎_elim, inl, inr, ℕ, ◌
 use Rattle.std.proofs.lemmas.Slice.Eq.{bytes_eq-Decides}
 use Rattle.sc_disk_pair.specs.declared.part.Part.{Part}
 use Rattle.sc_disk_pair.specs.declared.part.Part.TheVariants.{Main, Pre}
-use Rattle.sc_model.specs.World.{Evicts, Files, Level, drop_file, drop_part, find_file, part_size, put_file, size_of}
+use Rattle.sc_model.specs.Evicting.{Evicts, drop_part, part_size}
+use Rattle.sc_model.specs.Levels.{Files, Level, drop_file, find_file, put_file, size_of}
 use Rattle.sc_store_disk.proofs.Finding.{find-drop, find-put, same_map_files}
 use Rattle.sc_store_disk.proofs.Sizes.{size-put}
 use Rattle.sc_store_disk.specs.Moving.{part_files}

@@ -4,7 +4,10 @@ use Rattle.sc_disk_pair.specs.declared.part.Part.{Part}
 use Rattle.sc_disk_pair.specs.declared.part.Part.TheVariants.{Main, Pre}
 use Rattle.sc_entry.specs.Causes.{Rose}
 use Rattle.sc_entry.specs.Keys.{make_key_path, normalize_key}
-use Rattle.sc_model.specs.World.{Causes, Evicts, Evicts_unless, Files, IsPart, Level, Puts_remote, find_file, main_path, part_size, put_file}
+use Rattle.sc_model.specs.Evicting.{Evicts, part_size}
+use Rattle.sc_model.specs.Levels.{Files, IsPart, Level, find_file, main_path, put_file}
+use Rattle.sc_model.specs.WriteCauses.{Causes}
+use Rattle.sc_model.specs.Writing.{Evicts_unless, Puts_remote}
 use Rattle.sc_model.specs.declared.event.Written.{Written}
 use Rattle.sc_model.specs.declared.event.Written.TheVariants.{Done, Refused}
 use Rattle.sc_model.specs.declared.level.Cause.{Cause}

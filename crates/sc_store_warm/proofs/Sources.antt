@@ -3,7 +3,7 @@ use Rattle.std.proofs.Common.{◌≡◌, ◌≢◌, ◌⊎◌, inl, inr, ℕ, �
 use Rattle.sc_entry.specs.Causes.{Rose}
 use Rattle.sc_model.proofs.Entries.{keeps_held}
 use Rattle.sc_model.specs.Devices.{Calls, Loses}
-use Rattle.sc_model.specs.World.{IsPart, Keeps_all, Level, find_file, held}
+use Rattle.sc_model.specs.Levels.{IsPart, Keeps_all, Level, find_file, held}
 use Rattle.sc_model.specs.declared.event.Answer.{Answer}
 use Rattle.sc_model.specs.declared.event.Answer.TheVariants.{Found, Hit, Miss, Refused as AnswersRefused, Size}
 use Rattle.sc_model.specs.declared.event.Mode.TheVariants.{Raw}

@@ -5,7 +5,10 @@ use Rattle.std.proofs.lemmas.Bool.Decides.{nat_tests}
 use Rattle.sc_disk_pair.specs.declared.part.Part.{Part}
 use Rattle.sc_disk_pair.specs.declared.part.Part.TheVariants.{Main, Pre}
 use Rattle.sc_entry.specs.Keys.{IsStoreKey, is_store_key}
-use Rattle.sc_model.specs.World.{Puts_remote, causes, find_file, main_path, or_cause, part_size, read_only_store, refuses_writes, room_cause}
+use Rattle.sc_model.specs.Evicting.{part_size}
+use Rattle.sc_model.specs.Levels.{find_file, main_path}
+use Rattle.sc_model.specs.WriteCauses.{causes, or_cause, read_only_store, refuses_writes, room_cause}
+use Rattle.sc_model.specs.Writing.{Puts_remote}
 use Rattle.sc_model.specs.declared.event.Written.{Written}
 use Rattle.sc_model.specs.declared.event.Written.TheVariants.{Done, Refused as WriteRefused}
 use Rattle.sc_model.specs.declared.level.Cause.{Cause}

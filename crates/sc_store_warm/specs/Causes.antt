@@ -2,7 +2,8 @@
 use Rattle.std.specs.Prelude.{◌≡◌, ◌↔◌, ℕ, Bool, true, false, List, length, Option, Some, None}
 use Rattle.sc_entry.specs.Entries.{objects}
 use Rattle.sc_entry.specs.Keys.{is_store_key}
-use Rattle.sc_model.specs.World.{Causes, Level, causes, held}
+use Rattle.sc_model.specs.Levels.{Level, held}
+use Rattle.sc_model.specs.WriteCauses.{Causes, causes}
 use Rattle.sc_model.specs.declared.event.Answer.TheVariants.{Refused as AnswersRefused}
 use Rattle.sc_model.specs.declared.event.Mode.TheVariants.{Raw}
 use Rattle.sc_model.specs.declared.event.Written.{Written}

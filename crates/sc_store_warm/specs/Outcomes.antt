@@ -3,7 +3,8 @@ use Rattle.std.specs.Prelude.{◌≡◌, ◌⊎◌, ◌+◌, ◌<◌, ◌≤◌,
 use Rattle.sc_disk_pair.specs.declared.part.Part.{Part}
 use Rattle.sc_disk_pair.specs.declared.part.Part.TheVariants.{Main, Pre}
 use Rattle.sc_entry.specs.Causes.{Rose}
-use Rattle.sc_model.specs.World.{Keeps_all, find_file, main_path, part_size}
+use Rattle.sc_model.specs.Evicting.{part_size}
+use Rattle.sc_model.specs.Levels.{Keeps_all, find_file, main_path}
 use Rattle.sc_model.specs.declared.level.LevelKind.{LevelKind}
 use Rattle.sc_model.specs.declared.level.LevelKind.TheVariants.{Disk, Remote}
 use Rattle.sc_store.specs.Held.{HeldLevel}

@@ -1,7 +1,7 @@
 //! What warming leaves in both stores, as laws over the relation of `warm`'s clause `each`. The target stands alone.
 ghost use Rattle.std.specs.Prelude.{◌≡◌, ◌+◌, ◌≤◌, ℕ, true, false, List, Some};
 ghost use Rattle.sc_disk_pair.specs.declared.part.Part.{Part};
-ghost use Rattle.sc_model.specs.World.{part_size};
+ghost use Rattle.sc_model.specs.Evicting.{part_size};
 ghost use Rattle.sc_model.specs.declared.level.LevelKind.TheVariants.{Disk as IsDisk};
 ghost use Rattle.sc_store.specs.Asking.{mark_path};
 ghost use Rattle.sc_store.specs.Held.{HeldLevel};

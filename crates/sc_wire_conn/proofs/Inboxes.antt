@@ -1,6 +1,7 @@
 -- What an inbox takes, request by request, and what that is to the daemon's machine.
 use Rattle.std.proofs.Common.{◌≡◌, ℕ, ◌+◌, ◌≤◌, Bool, List, [], ◌∷◌, ◌++◌, length, sym, ap, ◌∙◌, subst, append_assoc, arith, length-append}
-use Rattle.sc_model.specs.Machine.{Conn, end_at, more}
+use Rattle.sc_model.specs.Conns.{Conn, more}
+use Rattle.sc_model.specs.Machine.{end_at}
 use Rattle.sc_model.specs.Script.{Reader, Script}
 use Rattle.sc_model.specs.Stream.{Frame}
 use Rattle.sc_model.specs.Trace.{if_too_long}

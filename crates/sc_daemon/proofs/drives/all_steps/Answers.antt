@@ -12,7 +12,6 @@ step_all-stepped-requires g c =
     record {
       idle = subst IsIdleDaemon (sym began) (idle_anew c.args.daemon.now c.requires.idle);
       told = ap (λ (d : Kept). d.state.told) began ∙ c.requires.told;
-      handed = ap (λ (d : Kept). d.handed) began;
       conns = c.in_ok-driver.ensures.conns ∙ ap (λ (n : ℕ). lines_of n (length c.args.inputs.now)) c.limit.ensures;
       events = c.in_ok-driver.ensures.events;
     }

@@ -1,15 +1,10 @@
 use Rattle.std.proofs.Common.{◌∙◌, Option, None, sym, subst}
 use Rattle.sc_daemon_action.proofs.Holding.{plain_serves, still_hands}
-use Rattle.sc_daemon_action.proofs.Saying.{write_says}
 use Rattle.sc_daemon_action.specs.Hands.{hand_of}
 use Rattle.sc_daemon_action.specs.declared.acted.Action.{Action}
 use Rattle.sc_disk.specs.Store.{AddEntry}
 use Rattle.sc_daemon_hold.specs.Holding.{HandsBy}
-use Rattle.sc_daemon_job.specs.Setups.{setup}
 use Rattle.sc_daemon_action.proofs.dispatch.act.Goals as goal
-
-pub returns-then-is_write-clause-says : goal.returns-then-is_write-clause-says
-returns-then-is_write-clause-says g c = write_says (setup (g.H.Hold.config c.args.hold.now)) c.args.request.now c.args.phase c.in_ok-action.action.what (sym c.is_write.ensures ∙ c.if-is_write.true) c.in_ok-action.ensures.acts.fits (g.H.Hold.config c.args.hold.now).policy c.args.stats.now c.args.levels.now
 
 pub returns-clause-hands : goal.returns-clause-hands
 returns-clause-hands g c =

@@ -1,29 +1,21 @@
 use Rattle.std.proofs.Common.{sym, subst}
 use Rattle.std.specs.Prelude.{IfOk}
 use Rattle.sc_daemon_action.specs.declared.acted.Acted.{Acted}
+use Rattle.sc_daemon_job.specs.Askers.{asker}
 use Rattle.sc_daemon_job.specs.Setups.{setup}
-use Rattle.sc_model.specs.Machine.{need_at}
+use Rattle.sc_daemon_job.specs.declared.since.Since.{Since}
+use Rattle.sc_model.specs.Conns.{need_at}
 use Rattle.sc_model.specs.declared.message.Request.{Request}
 use Rattle.sc_model.specs.declared.phase.Phase.{Phase}
 use Rattle.sc_model.specs.declared.phase.Phase.TheVariants.{AtSend}
-use Rattle.sc_daemon_action.proofs.Plains.{if_levels, if_stats, send_says}
 use Rattle.sc_daemon_action.proofs.Requests.{if_all}
 use Rattle.sc_daemon_action.proofs.dispatch.act_stats.Goals as goal
 
 pub returns-in-AtBegin-clause-moves : goal.returns-in-AtBegin-clause-moves
-returns-in-AtBegin-clause-moves g c = subst (λ (p : Phase). IfOk c.act_begin_stats.result (λ (a : Acted). g.H.Hold.moves c.args.hold.now (need_at (setup (g.H.Hold.config c.args.hold.now)) c.args.request.now p) a.what c.act_begin_stats.new.hold)) (sym c.in-AtBegin.is) c.act_begin_stats.ensures.moves
-
-pub returns-in-AtSend-clause-says : goal.returns-in-AtSend-clause-says
-returns-in-AtSend-clause-says g c = send_says (g.H.Hold.config c.args.hold.now) (g.H.Hold.moment c.args.hold.now) c.in-AtSend.reply (g.H.Hold.config c.args.hold.now).policy c.args.stats.now c.args.levels.now c.act_send.result c.act_send.ensures.acts
+returns-in-AtBegin-clause-moves g c = subst (λ (p : Phase). IfOk c.act_begin_stats.result (λ (a : Acted). (since : Since) → g.H.Hold.moves c.args.hold.now (asker since (need_at (setup (g.H.Hold.config c.args.hold.now)) c.args.request.now p) c.args.request.now) a.what c.act_begin_stats.new.hold)) (sym c.in-AtBegin.is) c.act_begin_stats.ensures.moves
 
 pub returns-in-AtSend-clause-moves : goal.returns-in-AtSend-clause-moves
-returns-in-AtSend-clause-moves g c = subst (λ (p : Phase). IfOk c.act_send.result (λ (a : Acted). g.H.Hold.moves c.args.hold.now (need_at (setup (g.H.Hold.config c.args.hold.now)) c.args.request.now p) a.what c.act_send.new.hold)) (sym c.in-AtSend.is) (if_all (λ (a : Acted) (q : Request). g.H.Hold.moves c.args.hold.now (need_at (setup (g.H.Hold.config c.args.hold.now)) q (AtSend c.in-AtSend.reply)) a.what c.act_send.new.hold) c.act_send.result c.args.request.now c.act_send.ensures.moves)
+returns-in-AtSend-clause-moves g c = subst (λ (p : Phase). IfOk c.act_send.result (λ (a : Acted). (since : Since) → g.H.Hold.moves c.args.hold.now (asker since (need_at (setup (g.H.Hold.config c.args.hold.now)) c.args.request.now p) c.args.request.now) a.what c.act_send.new.hold)) (sym c.in-AtSend.is) (if_all (λ (a : Acted) (q : Request). (since : Since) → g.H.Hold.moves c.args.hold.now (asker since (need_at (setup (g.H.Hold.config c.args.hold.now)) q (AtSend c.in-AtSend.reply)) q) a.what c.act_send.new.hold) c.act_send.result c.args.request.now c.act_send.ensures.moves)
 
 pub returns-in-SizeAsk-clause-moves : goal.returns-in-SizeAsk-clause-moves
-returns-in-SizeAsk-clause-moves g c = subst (λ (p : Phase). IfOk c.act_size_ask.result (λ (a : Acted). g.H.Hold.moves c.args.hold.now (need_at (setup (g.H.Hold.config c.args.hold.now)) c.args.request.now p) a.what c.act_size_ask.new.hold)) (sym c.in-SizeAsk.is) c.act_size_ask.ensures.moves
-
-pub returns-in-AtBegin-clause-says : goal.returns-in-AtBegin-clause-says
-returns-in-AtBegin-clause-says g c = if_stats (g.H.Hold.config c.args.hold.now).policy c.args.stats.now c.args.levels.now c.act_begin_stats.result c.act_begin_stats.ensures.says
-
-pub returns-in-SizeAsk-clause-says : goal.returns-in-SizeAsk-clause-says
-returns-in-SizeAsk-clause-says g c = if_levels (g.H.Hold.config c.args.hold.now).policy c.args.stats.now c.args.levels.now c.act_size_ask.result c.act_size_ask.ensures.says
+returns-in-SizeAsk-clause-moves g c = subst (λ (p : Phase). IfOk c.act_size_ask.result (λ (a : Acted). (since : Since) → g.H.Hold.moves c.args.hold.now (asker since (need_at (setup (g.H.Hold.config c.args.hold.now)) c.args.request.now p) c.args.request.now) a.what c.act_size_ask.new.hold)) (sym c.in-SizeAsk.is) c.act_size_ask.ensures.moves

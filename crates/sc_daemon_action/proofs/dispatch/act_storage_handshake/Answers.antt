@@ -1,21 +1,19 @@
 use Rattle.std.proofs.Common.{sym, subst}
 use Rattle.std.specs.Prelude.{IfOk}
 use Rattle.sc_daemon_action.specs.declared.acted.Acted.{Acted}
+use Rattle.sc_daemon_job.specs.Askers.{asker}
 use Rattle.sc_daemon_job.specs.Setups.{setup}
-use Rattle.sc_model.specs.Machine.{need_at}
+use Rattle.sc_daemon_job.specs.declared.since.Since.{Since}
+use Rattle.sc_model.specs.Conns.{need_at}
 use Rattle.sc_model.specs.declared.message.Request.TheVariants.{StorageHandshake}
 use Rattle.sc_model.specs.declared.message.Request.{Request}
 use Rattle.sc_model.specs.declared.phase.Phase.{Phase}
 use Rattle.sc_model.specs.declared.phase.Phase.TheVariants.{AtSend}
-use Rattle.sc_daemon_action.proofs.Plains.{sends_say}
 use Rattle.sc_daemon_action.proofs.Requests.{if_all}
 use Rattle.sc_daemon_action.proofs.dispatch.act_storage_handshake.Goals as goal
 
 pub returns-in-AtBegin-clause-moves : goal.returns-in-AtBegin-clause-moves
-returns-in-AtBegin-clause-moves g c = subst (λ (p : Phase). IfOk c.act_handshake.result (λ (a : Acted). g.H.Hold.moves c.args.hold.now (need_at (setup (g.H.Hold.config c.args.hold.now)) StorageHandshake p) a.what c.act_handshake.new.hold)) (sym c.in-AtBegin.is) c.act_handshake.ensures.moves
-
-pub returns-in-AtSend-clause-says : goal.returns-in-AtSend-clause-says
-returns-in-AtSend-clause-says g c = sends_say (g.H.Hold.config c.args.hold.now) (g.H.Hold.moment c.args.hold.now) c.in-AtSend.reply c.act_send.result c.act_send.ensures.acts
+returns-in-AtBegin-clause-moves g c = subst (λ (p : Phase). IfOk c.act_handshake.result (λ (a : Acted). (since : Since) → g.H.Hold.moves c.args.hold.now (asker since (need_at (setup (g.H.Hold.config c.args.hold.now)) StorageHandshake p) StorageHandshake) a.what c.act_handshake.new.hold)) (sym c.in-AtBegin.is) c.act_handshake.ensures.moves
 
 pub returns-in-AtSend-clause-moves : goal.returns-in-AtSend-clause-moves
-returns-in-AtSend-clause-moves g c = subst (λ (p : Phase). IfOk c.act_send.result (λ (a : Acted). g.H.Hold.moves c.args.hold.now (need_at (setup (g.H.Hold.config c.args.hold.now)) StorageHandshake p) a.what c.act_send.new.hold)) (sym c.in-AtSend.is) (if_all (λ (a : Acted) (q : Request). g.H.Hold.moves c.args.hold.now (need_at (setup (g.H.Hold.config c.args.hold.now)) q (AtSend c.in-AtSend.reply)) a.what c.act_send.new.hold) c.act_send.result StorageHandshake c.act_send.ensures.moves)
+returns-in-AtSend-clause-moves g c = subst (λ (p : Phase). IfOk c.act_send.result (λ (a : Acted). (since : Since) → g.H.Hold.moves c.args.hold.now (asker since (need_at (setup (g.H.Hold.config c.args.hold.now)) StorageHandshake p) StorageHandshake) a.what c.act_send.new.hold)) (sym c.in-AtSend.is) (if_all (λ (a : Acted) (q : Request). (since : Since) → g.H.Hold.moves c.args.hold.now (asker since (need_at (setup (g.H.Hold.config c.args.hold.now)) q (AtSend c.in-AtSend.reply)) q) a.what c.act_send.new.hold) c.act_send.result StorageHandshake c.act_send.ensures.moves)

@@ -1,6 +1,6 @@
 use Rattle.std.proofs.Common.{ℕ, ap, ◌∙◌}
 use Rattle.sc_daemon_job.specs.Setups.{setup}
-use Rattle.sc_model.specs.Machine.{placed_phase}
+use Rattle.sc_model.specs.Phases.{placed_phase}
 use Rattle.sc_model.specs.declared.message.Request.TheVariants.{Compile as CompileOf}
 use Rattle.sc_daemon_action.proofs.lookup.act_place.Goals as goal
 
@@ -11,6 +11,6 @@ returns-clause-acts g c =
       fits = tt;
       then = c.in_ok-phase.ensures.phase k c.args.request.now ∙ ap (λ (m : ℕ). placed_phase (setup k) (CompileOf c.args.request.now) c.args.job c.args.entry c.args.duration m c.in_ok-placing.placing) c.now-now.ensures;
       stands = c.in_ok-phase.ensures.stands k c.args.request.now;
-      plain = tt;
+      still = tt;
       there = tt;
     }

@@ -11,6 +11,6 @@ returns-clause-acts g c =
       fits = (refl, c.in_ok-asked_key.ensures, refl, lookup.ensures.handed);
       then = c.in_ok-phase.ensures.phase k (sym c.level_count-levels.ensures);
       stands = c.in_ok-phase.ensures.stands k c.args.wanted.now (sym c.level_count-levels.ensures);
-      plain = tt;
+      still = tt;
       there = hit_there k.policy k.levels c.args.level c.args.key Raw lookup.lookup.answer lookup.lookup.handed lookup.ensures.handed;
     }

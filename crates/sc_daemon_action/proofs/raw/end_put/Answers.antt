@@ -12,6 +12,6 @@ returns-clause-acts g c =
       fits = (end.ensures.answer, end.ensures.handed);
       then = ap (λ r. AtSend (PutReply r)) c.in_ok-told.ensures;
       stands = tt;
-      plain = tt;
+      still = tt;
       there = put_there k.policy k.levels c.args.bytes c.args.refusal end.end.handed end.ensures.handed;
     }

@@ -1,6 +1,5 @@
 use Rattle.std.proofs.Common.{ℕ, List, ap, sym, ◌∙◌}
-use Rattle.sc_model.specs.Job.{judge_objects}
-use Rattle.sc_model.specs.Job.Judged.{IsBroken}
+use Rattle.sc_model.specs.Judging.{IsBroken, judge_objects}
 use Rattle.sc_model.specs.declared.event.Objects.{Objects}
 use Rattle.sc_daemon_action.specs.Ran.{ran_by}
 use Rattle.sc_daemon_action.proofs.running.cacheable.Goals as goal

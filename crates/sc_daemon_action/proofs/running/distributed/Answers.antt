@@ -1,7 +1,7 @@
-use Rattle.std.proofs.Common.{ℕ, List, [], ◌∷◌, ap, sym, ◌∙◌}
+use Rattle.std.proofs.Common.{ℕ, List, [], ap, sym, ◌∙◌}
 use Rattle.sc_daemon_job.specs.Setups.{setup}
-use Rattle.sc_model.specs.Job.{finish_fatal}
-use Rattle.sc_model.specs.Machine.{dist_phase, ending_of}
+use Rattle.sc_model.specs.Finishing.{finish_fatal}
+use Rattle.sc_model.specs.Phases.{dist_phase, ending_of}
 use Rattle.sc_model.specs.declared.event.DistAnswer.{DistAnswer}
 use Rattle.sc_model.specs.declared.event.Verdict.TheVariants.{Fault, Http}
 use Rattle.sc_model.specs.declared.message.CompileFinished.{CompileFinished}

@@ -1,7 +1,7 @@
 use Rattle.std.proofs.Common.{ℕ, List, [], ap, sym, ◌∙◌}
 use Rattle.sc_daemon_job.specs.Setups.{setup}
-use Rattle.sc_model.specs.Job.{finish_fatal, finish_output, notes_in}
-use Rattle.sc_model.specs.Machine.{ending_of, ran_phase}
+use Rattle.sc_model.specs.Finishing.{finish_fatal, finish_output, notes_in}
+use Rattle.sc_model.specs.Phases.{ending_of, ran_phase}
 use Rattle.sc_model.specs.declared.event.RunAnswer.{RunAnswer}
 use Rattle.sc_model.specs.declared.event.Verdict.TheVariants.{Fault, ProcessError}
 use Rattle.sc_model.specs.declared.message.Request.TheVariants.{Compile as CompileOf}

@@ -1,7 +1,7 @@
 use Rattle.std.proofs.Common.{ap, sym, ◌∙◌}
 use Rattle.sc_daemon_job.specs.Judgements.{judged_by}
 use Rattle.sc_daemon_job.specs.declared.verdict.Judgement.{Judgement}
-use Rattle.sc_model.specs.Job.{Judged}
+use Rattle.sc_model.specs.Judging.{Judged}
 use Rattle.sc_daemon_action.specs.Ran.{ran_by}
 use Rattle.sc_daemon_action.proofs.running.ran_output.Goals as goal
 

@@ -1,5 +1,5 @@
 use Rattle.std.proofs.Common.{◌≡◌, ◌++◌, length}
-use Rattle.sc_model.specs.Follows.{notes_then}
+use Rattle.sc_model.specs.Afterwards.{notes_then}
 use Rattle.sc_daemon_action.proofs.sending.replies_left.Given as goal
 
 abbrev pub invariant-loop-note : goal.invariant-loop-note

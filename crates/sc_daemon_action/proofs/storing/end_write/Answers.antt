@@ -10,6 +10,6 @@ returns-clause-acts g c =
       fits = (end.ensures.answer, end.ensures.handed);
       then = refl;
       stands = tt;
-      plain = tt;
+      still = tt;
       there = put_there k.policy k.levels c.args.bytes c.args.refusal end.end.handed end.ensures.handed;
     }

@@ -1,6 +1,6 @@
 use Rattle.std.proofs.Common.{◌≡◌, ◌++◌}
 use Rattle.std.specs.Vec.Iter.{into_iter_items}
-use Rattle.sc_model.specs.Follows.{counters_in}
+use Rattle.sc_model.specs.Describing.{counters_in}
 use Rattle.sc_daemon_action.proofs.telling.counters_told.Given as goal
 
 -- the counters so far, and those that are left

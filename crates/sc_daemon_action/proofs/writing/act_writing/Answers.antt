@@ -2,8 +2,9 @@ use Rattle.std.proofs.Common.{Option, sym, subst}
 use Rattle.sc_daemon_action.specs.Hands.{hand_of}
 use Rattle.sc_disk.specs.Store.{AddEntry}
 use Rattle.sc_daemon_hold.specs.Holding.{KeepsHands}
+use Rattle.sc_daemon_job.specs.Askers.{asker}
 use Rattle.sc_daemon_job.specs.Setups.{setup}
-use Rattle.sc_model.specs.Machine.{need_at}
+use Rattle.sc_model.specs.Conns.{need_at}
 use Rattle.sc_model.specs.declared.phase.Phase.{Phase}
 use Rattle.sc_model.specs.declared.phase.Phase.TheVariants.{AtCommit, AtFill}
 use Rattle.sc_daemon_action.proofs.Putting.{keeps_write}
@@ -18,7 +19,7 @@ returns-in_ok-action-in-AtWrite-clause-others g c =
 
 pub returns-in_ok-action-in-AtWrite-clause-moves : goal.returns-in_ok-action-in-AtWrite-clause-moves
 returns-in_ok-action-in-AtWrite-clause-moves g c =
-    subst (λ (p : Phase). g.H.Hold.moves c.args.hold.now (need_at (setup (g.H.Hold.config c.args.hold.now)) c.args.request.now p) c.in_ok-action-in-AtWrite.action.what c.act_next.new.hold) (sym c.in-AtWrite.is) c.in_ok-action-in-AtWrite.ensures.moves
+    subst (λ (p : Phase). g.H.Hold.moves c.args.hold.now (asker c.args.since (need_at (setup (g.H.Hold.config c.args.hold.now)) c.args.request.now p) c.args.request.now) c.in_ok-action-in-AtWrite.action.what c.act_next.new.hold) (sym c.in-AtWrite.is) c.in_ok-action-in-AtWrite.ensures.moves
 
 pub returns-in_ok-action-in-AtFill-clause-others : goal.returns-in_ok-action-in-AtFill-clause-others
 returns-in_ok-action-in-AtFill-clause-others g c =
@@ -30,7 +31,7 @@ returns-in_ok-action-in-AtFill-clause-others g c =
 
 pub returns-in_ok-action-in-AtFill-clause-moves : goal.returns-in_ok-action-in-AtFill-clause-moves
 returns-in_ok-action-in-AtFill-clause-moves g c =
-    subst (λ (p : Phase). g.H.Hold.moves c.args.hold.now (need_at (setup (g.H.Hold.config c.args.hold.now)) c.args.request.now p) c.in_ok-action-in-AtFill.action.what c.act_fill.new.hold) (sym c.in-AtFill.is) (c.in_ok-action-in-AtFill.ensures.moves c.args.request.now)
+    subst (λ (p : Phase). g.H.Hold.moves c.args.hold.now (asker c.args.since (need_at (setup (g.H.Hold.config c.args.hold.now)) c.args.request.now p) c.args.request.now) c.in_ok-action-in-AtFill.action.what c.act_fill.new.hold) (sym c.in-AtFill.is) (c.in_ok-action-in-AtFill.ensures.moves c.args.request.now)
 
 pub returns-in_ok-action-in-AtCommit-clause-others : goal.returns-in_ok-action-in-AtCommit-clause-others
 returns-in_ok-action-in-AtCommit-clause-others g c =
@@ -42,4 +43,4 @@ returns-in_ok-action-in-AtCommit-clause-others g c =
 
 pub returns-in_ok-action-in-AtCommit-clause-moves : goal.returns-in_ok-action-in-AtCommit-clause-moves
 returns-in_ok-action-in-AtCommit-clause-moves g c =
-    subst (λ (p : Phase). g.H.Hold.moves c.args.hold.now (need_at (setup (g.H.Hold.config c.args.hold.now)) c.args.request.now p) c.in_ok-action-in-AtCommit.action.what c.act_commit.new.hold) (sym c.in-AtCommit.is) (c.in_ok-action-in-AtCommit.ensures.moves c.args.request.now)
+    subst (λ (p : Phase). g.H.Hold.moves c.args.hold.now (asker c.args.since (need_at (setup (g.H.Hold.config c.args.hold.now)) c.args.request.now p) c.args.request.now) c.in_ok-action-in-AtCommit.action.what c.act_commit.new.hold) (sym c.in-AtCommit.is) (c.in_ok-action-in-AtCommit.ensures.moves c.args.request.now)

@@ -1,6 +1,6 @@
 use Rattle.std.proofs.Common.{◌+◌, ◌++◌, drop, ap, ◌∙◌, arith, rules, append-nil}
 use Rattle.std.proofs.lemmas.Grind.{common_steps}
-use Rattle.sc_model.specs.Job.{caused_by}
+use Rattle.sc_model.specs.Finishing.{caused_by}
 use Rattle.sc_daemon_job.proofs.Causes.{cause_written}
 use Rattle.sc_daemon_job.proofs.finish.append_causes.Goals as goal
 

@@ -1,5 +1,5 @@
 use Rattle.std.proofs.Common.{◌≡◌, ◌++◌, drop}
-use Rattle.sc_model.specs.Job.{caused_by}
+use Rattle.sc_model.specs.Finishing.{caused_by}
 use Rattle.sc_daemon_job.proofs.finish.append_causes.Given as goal
 
 -- what is written, and the lines that are left

@@ -1,6 +1,6 @@
 use Rattle.std.proofs.Common.{◌≡◌, ◌++◌, length}
 use Rattle.sc_model.specs.Notes.{is_note}
-use Rattle.sc_model.specs.Job.{kept_lines, lines}
+use Rattle.sc_model.specs.Finishing.{kept_lines, lines}
 use Rattle.sc_daemon_job.proofs.notes.notes_of.Given as goal
 
 -- what is kept, and what is to be kept of the rest

@@ -1,5 +1,5 @@
 use Rattle.std.proofs.Common.{ap}
-use Rattle.sc_model.specs.World.{Level}
+use Rattle.sc_model.specs.Levels.{Level}
 use Rattle.sc_main_memory.proofs.Sizing.{remote_size}
 use Rattle.sc_main_memory.proofs.sizes.remote_size.Goals as goal
 

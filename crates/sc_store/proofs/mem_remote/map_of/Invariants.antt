@@ -1,6 +1,6 @@
 use Rattle.std.proofs.Common.{◌≡◌}
 use Rattle.std.specs.Vec.Iter.{into_iter_items}
-use Rattle.sc_model.specs.World.{no_files}
+use Rattle.sc_model.specs.Levels.{no_files}
 use Rattle.sc_store.specs.Paths.{put_all}
 use Rattle.sc_store.proofs.mem_remote.map_of.Given as goal
 

@@ -1,5 +1,5 @@
 use Rattle.std.proofs.Common.{◌≡◌, length}
-use Rattle.sc_model.specs.Follows.{all_read_only}
+use Rattle.sc_model.specs.Describing.{all_read_only}
 use Rattle.sc_store.specs.Planning.{facts_of}
 use Rattle.sc_store.proofs.telling.all_read_only.Given as goal
 

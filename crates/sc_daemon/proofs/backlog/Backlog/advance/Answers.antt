@@ -27,7 +27,7 @@ returns-clause-advances g c =
     }
 
 pub returns-clause-moves : goal.returns-clause-moves
-returns-clause-moves g c n marks =
+returns-clause-moves g c n r marks =
     let i = c.args.place in
     let w = c.in-Some.write.now in
-    c.in_ok-what.ensures.moves n (marks w (subst (λ (vs : List Write). write_at i vs ≡ Some w) c.self.view_is (at_slice c.self.inside.writes i w (sym c.get_mut.ensures.value ∙ ap (λ o. option_map (λ r. r.now) o) c.in-Some.is))))
+    c.in_ok-what.ensures.moves n r (marks w (subst (λ (vs : List Write). write_at i vs ≡ Some w) c.self.view_is (at_slice c.self.inside.writes i w (sym c.get_mut.ensures.value ∙ ap (λ o. option_map (λ r. r.now) o) c.in-Some.is))))

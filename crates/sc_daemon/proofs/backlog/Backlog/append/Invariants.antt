@@ -1,6 +1,6 @@
 use Rattle.std.proofs.Common.{◌≡◌, ◌+◌, ◌++◌, length}
 use Rattle.sc_daemon.specs.Backlogs.{fresh_writes}
-use Rattle.sc_model.specs.Machine.{pend}
+use Rattle.sc_model.specs.Pendings.{pend}
 use Rattle.sc_model.specs.Trace.{numbered}
 use Rattle.sc_daemon.proofs.backlog.Backlog.append.Given as goal
 

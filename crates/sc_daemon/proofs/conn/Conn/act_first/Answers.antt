@@ -1,16 +1,15 @@
-use Rattle.std.proofs.Common.{ℕ, Option, drop, sym, ap, ◌≡◌, ◌∙◌, subst}
+use Rattle.std.proofs.Common.{Option, drop, sym, subst}
 use Rattle.sc_daemon_action.specs.Hands.{ActsWith, ServesWith, hand_of}
-use Rattle.sc_daemon_action.specs.declared.acted.Action.{Action}
-use Rattle.sc_daemon.specs.Lines.{Line, conn_of}
-use Rattle.sc_daemon.specs.Turns.{ActsFirst, ActsFirst_or_none, CountsFirst, MovesFirst, SaysFirst}
+use Rattle.sc_daemon.specs.Lines.{Line, asker_at, conn_of}
+use Rattle.sc_daemon.specs.Turns.{ActsFirst}
 use Rattle.sc_daemon.specs.contracts.conn.Conn.{the_view}
-use Rattle.sc_daemon.proofs.Counted.{if_both, if_map}
 use Rattle.sc_daemon.proofs.Firsts.{current_is, first_rest}
 use Rattle.sc_disk.specs.Store.{AddEntry}
 use Rattle.sc_daemon_hold.specs.Holding.{HandsBy, KeepsHands}
+use Rattle.sc_daemon_job.specs.Askers.{Asker}
 use Rattle.sc_daemon_job.specs.Setups.{setup}
-use Rattle.sc_model.specs.Machine.{current, need_at}
-use Rattle.sc_model.specs.Rows.{count, row, zeroes}
+use Rattle.sc_model.specs.Conns.{current, need_at}
+use Rattle.sc_model.specs.Rows.{Direct}
 use Rattle.sc_model.specs.declared.message.Request.{Request}
 use Rattle.sc_model.specs.declared.phase.Phase.{Phase}
 use Rattle.sc_daemon.proofs.conn.Conn.act_first.Goals as goal
@@ -32,7 +31,7 @@ returns-clause-acts g c =
     let k = g.H.Hold.config c.args.hold.now in
     let d = g.H.Hold.disk c.args.hold.now in
     let d2 = g.H.Hold.disk c.act.new.hold in
-    let m = g.H.Hold.moment c.args.hold.now in
+    let m = g.H.Hold.moment c.act.new.hold in
     let acted = c.in_ok-acted.acted in
     let x = acted.what in
     let i = c.self.inside in
@@ -54,39 +53,16 @@ returns-clause-acts g c =
       same = λ j. after (c.replace-phase.ensures.after j) (c.take-entry.ensures.after j);
       out = c.in_ok-acted.ensures.sent;
     } in
-    if_map c.if_counted.result c.if_counted.ensures.acted
-    (λ a e. subst (λ (o : Option Action). ActsFirst_or_none k d d2 m o c.args.self.now now) (sym e) first)
-
-pub returns-clause-says : goal.returns-clause-says
-returns-clause-says g c =
-    let k = g.H.Hold.config c.args.hold.now in
-    if_map c.if_counted.result c.if_counted.ensures.acted
-    (λ a e. subst (λ (o : Option Action). SaysFirst k.policy c.args.stats.now c.args.levels.now o) (sym e) c.in_ok-acted.ensures.says)
+    first
 
 pub returns-clause-moves : goal.returns-clause-moves
 returns-clause-moves g c =
     let k = g.H.Hold.config c.args.hold.now in
     let what = c.in_ok-acted.acted.what in
-    let at : Line = the_view c.self.inside in
-    let moved = subst (λ (l : Line). g.H.Hold.moves c.args.hold.now (need_at (setup k) (current (conn_of l)) l.phase) what c.act.new.hold) c.self.view_is
-    (subst (λ (r : Request). g.H.Hold.moves c.args.hold.now (need_at (setup k) r c.self.inside.phase) what c.act.new.hold)
-    (sym (current_is at c.in-Some.request.now (drop 1 c.self.inside.waiting) (first_rest c.self.inside.waiting c.in-Some.request.now c.in-Some.ensures)))
-    (subst (λ (p : Phase). g.H.Hold.moves c.args.hold.now (need_at (setup k) c.in-Some.request.now p) what c.act.new.hold) c.replace-phase.ensures.value c.in_ok-acted.ensures.moves)) in
-    if_map c.if_counted.result c.if_counted.ensures.acted
-    (λ a e. subst (λ (o : Option Action). MovesFirst g.H.Hold.moves (need_at (setup k) (current (conn_of c.args.self.now)) c.args.self.now.phase) o c.args.hold.now c.act.new.hold) (sym e) moved)
-
-pub returns-clause-counts : goal.returns-clause-counts
-returns-clause-counts g c =
-    let k = g.H.Hold.config c.args.hold.now in
-    let m = g.H.Hold.moment c.args.hold.now in
-    let what = c.in_ok-acted.acted.what in
-    let at : Line = the_view c.self.inside in
-    let here : current (conn_of at) ≡ c.in-Some.request.now = current_is at c.in-Some.request.now (drop 1 c.self.inside.waiting) (first_rest c.self.inside.waiting c.in-Some.request.now c.in-Some.ensures) in
-    let old = c.args.stats.now in
-    let new = c.count_event-counted.new.stats in
-    if_both c.if_counted.result c.count_event-counted.result c.if_counted.ensures.acted c.if_counted.ensures.counted c.count_event-counted.ensures
-    (λ a e counted. subst (λ (o : Option Action). CountsFirst k m o c.args.self.now old new) (sym e)
-    (subst (λ (l : Line). new ≡ count (zeroes what) old (row (setup k) (current (conn_of l)) l.outcome m what)) c.self.view_is
-    (counted k
-    ∙ ap (λ (r : Request). count (zeroes what) old (row (setup k) r c.self.inside.outcome c.now-now.result what)) (sym here)
-    ∙ ap (λ (n : ℕ). count (zeroes what) old (row (setup k) (current (conn_of at)) c.self.inside.outcome n what)) c.now-now.ensures)))
+    let i = c.self.inside in
+    let at : Line = the_view i in
+    let asks : Request → Phase → Asker = λ r p. record { need = need_at (setup k) r p; request = r; origin = Direct; last = i.last; outcome = i.outcome; reserved = i.reserved } in
+    subst (λ (l : Line). g.H.Hold.moves c.args.hold.now (asker_at k l) what c.act.new.hold) c.self.view_is
+    (subst (λ (r : Request). g.H.Hold.moves c.args.hold.now (asks r i.phase) what c.act.new.hold)
+    (sym (current_is at c.in-Some.request.now (drop 1 i.waiting) (first_rest i.waiting c.in-Some.request.now c.in-Some.ensures)))
+    (subst (λ (p : Phase). g.H.Hold.moves c.args.hold.now (asks c.in-Some.request.now p) what c.act.new.hold) c.replace-phase.ensures.value c.in_ok-acted.ensures.moves))

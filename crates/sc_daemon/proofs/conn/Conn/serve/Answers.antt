@@ -1,15 +1,13 @@
 use Rattle.std.proofs.Common.{Option, refl, sym, subst}
 use Rattle.sc_daemon_action.specs.declared.acted.Action.{Action}
-use Rattle.sc_daemon.specs.Lines.{conn_of}
-use Rattle.sc_daemon.specs.Turns.{ActsFirst, ActsFirst_or_none, CountsFirst, MovesFirst, SaysFirst, Serves_one}
+use Rattle.sc_daemon.specs.Lines.{asker_at}
+use Rattle.sc_daemon.specs.Turns.{ActsFirst, ActsFirst_or_none, MovesFirst, Serves_one}
 use Rattle.sc_daemon.proofs.Serving.{first_serves, serves_one, serves_rests}
-use Rattle.sc_daemon_job.specs.Setups.{setup}
-use Rattle.sc_model.specs.Machine.{current, need_at}
 use Rattle.sc_daemon.proofs.conn.Conn.serve.Given as given
 use Rattle.sc_daemon.proofs.conn.Conn.serve.Goals as goal
 
-acts : (g : given.Over) (c : goal.After-move_to g) → ActsFirst (g.H.Hold.config c.args.hold.now) (g.H.Hold.disk c.args.hold.now) (g.H.Hold.disk c.act_first.new.hold) (g.H.Hold.moment c.args.hold.now) c.in-Some.acted c.args.self.now c.act_first.new.self
-acts g c = subst (λ (a : Option Action). ActsFirst_or_none (g.H.Hold.config c.args.hold.now) (g.H.Hold.disk c.args.hold.now) (g.H.Hold.disk c.act_first.new.hold) (g.H.Hold.moment c.args.hold.now) a c.args.self.now c.act_first.new.self) c.in-Some.is c.in_ok-acted.ensures.acts
+acts : (g : given.Over) (c : goal.After-move_to g) → ActsFirst (g.H.Hold.config c.args.hold.now) (g.H.Hold.disk c.args.hold.now) (g.H.Hold.disk c.act_first.new.hold) (g.H.Hold.moment c.act_first.new.hold) c.in-Some.acted c.args.self.now c.act_first.new.self
+acts g c = subst (λ (a : Option Action). ActsFirst_or_none (g.H.Hold.config c.args.hold.now) (g.H.Hold.disk c.args.hold.now) (g.H.Hold.disk c.act_first.new.hold) (g.H.Hold.moment c.act_first.new.hold) a c.args.self.now c.act_first.new.self) c.in-Some.is c.in_ok-acted.ensures.acts
 
 pub act_first-requires : goal.act_first-requires
 act_first-requires g c = first_serves (g.H.Hold.config c.args.hold.now) (g.H.Hold.disk c.args.hold.now) c.args.self.now c.requires (c.if-is_idle.ensures.some refl) (c.if-is_idle.ensures.goes refl)
@@ -28,15 +26,7 @@ returns-clause-serves g c =
 pub returns-clause-moves : goal.returns-clause-moves
 returns-clause-moves g c =
     let k = g.H.Hold.config c.args.hold.now in
-    subst (λ (a : Option Action). MovesFirst g.H.Hold.moves (need_at (setup k) (current (conn_of c.args.self.now)) c.args.self.now.phase) a c.args.hold.now c.act_first.new.hold) c.in-Some.is c.in_ok-acted.ensures.moves
-
-pub returns-clause-says : goal.returns-clause-says
-returns-clause-says g c =
-    subst (λ (a : Option Action). SaysFirst (g.H.Hold.config c.args.hold.now).policy c.args.stats.now c.args.levels.now a) c.in-Some.is c.in_ok-acted.ensures.says
-
-pub returns-clause-counts : goal.returns-clause-counts
-returns-clause-counts g c =
-    subst (λ (a : Option Action). CountsFirst (g.H.Hold.config c.args.hold.now) (g.H.Hold.moment c.args.hold.now) a c.args.self.now c.args.stats.now c.act_first.new.stats) c.in-Some.is c.in_ok-acted.ensures.counts
+    subst (λ (a : Option Action). MovesFirst g.H.Hold.moves (asker_at k c.args.self.now) a c.args.hold.now c.act_first.new.hold) c.in-Some.is c.in_ok-acted.ensures.moves
 
 pub returns-clause-rests : goal.returns-clause-rests
 returns-clause-rests g c =

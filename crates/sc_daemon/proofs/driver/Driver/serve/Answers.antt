@@ -13,7 +13,6 @@ serve-requires g c =
     let lt : c.args.number < length c.args.self.now.conns.items = subst (λ (n : ℕ). c.args.number < n) (c.len.ensures ∙ c.args.self.now.conns.ok.0) c.if-number-len.false in
     record {
       rests = subst (λ (l : Line). Rests (config_of d.state.config) (disk_at d.state) l.phase l.entry l.waiting) (sym c.index_mut.ensures.value) (at_line d c.args.self.now.conns.items c.args.number _ lt c.requires.at).1;
-      free = c.requires.free;
     }
 
 pub returns-clause-steps : goal.returns-clause-steps
@@ -23,7 +22,7 @@ returns-clause-steps g c s opens is_setup tied =
     let lt : c.args.number < length c.args.self.now.conns.items = subst (λ (n : ℕ). c.args.number < n) (c.len.ensures ∙ c.args.self.now.conns.ok.0) c.if-number-len.false in
     steps_serve s d c.serve.new.self c.args.self.now.conns.items opens c.args.number _ c.serve.new.conn e is_setup tied c.requires.told lt
     (subst (λ (l : Line). ServesEvent c.args.number e d c.serve.new.self l c.serve.new.conn) c.index_mut.ensures.value c.in_ok-event.ensures.serves)
-    c.in_ok-event.ensures.rests c.keeps-2.ensures c.in_ok-event.ensures.free
+    c.in_ok-event.ensures.rests c.keeps-2.ensures
 
 pub returns-then-number-len-clause-steps : goal.returns-then-number-len-clause-steps
 returns-then-number-len-clause-steps g c s opens is_setup tied =

@@ -1,9 +1,8 @@
 use Rattle.std.proofs.Common.{◌≡◌, ap, refl, sym, ◌∙◌}
 use Rattle.sc_daemon.proofs.Writes.{commits}
-use Rattle.sc_daemon.specs.Backlogs.{MarksAs, Write}
+use Rattle.sc_daemon.specs.Backlogs.{Write}
 use Rattle.sc_model.specs.Job.{mark_of}
-use Rattle.sc_model.specs.Machine.{stage_fills}
-use Rattle.sc_model.specs.World.{Need}
+use Rattle.sc_model.specs.Pendings.{stage_fills}
 use Rattle.sc_daemon.proofs.write.Write.commit.Goals as goal
 
 pub returns-clause-goes : goal.returns-clause-goes
@@ -13,7 +12,7 @@ returns-clause-goes g c =
     c.self.view_is c.requires.pending c.requires.filled (sym c.take.ensures.value ∙ c.in-Some.is) e.what e.hands e.others refl c.take.ensures.after
 
 pub returns-clause-moves : goal.returns-clause-moves
-returns-clause-moves g c n marks =
+returns-clause-moves g c n r marks =
     let w = c.args.self.now in
     let filled : mark_of (stage_fills w.pending.stage w.pending.handed.marked) ≡ w.pending.handed.marked = ap (λ stage. mark_of (stage_fills stage w.pending.handed.marked)) c.requires.filled in
-    c.in_ok-action.ensures.moves n (marks ∙ filled ∙ ap (λ (v : Write). v.pending.handed.marked) (sym c.self.view_is))
+    c.in_ok-action.ensures.moves n r (marks ∙ filled ∙ ap (λ (v : Write). v.pending.handed.marked) (sym c.self.view_is))

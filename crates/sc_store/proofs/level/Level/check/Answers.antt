@@ -1,5 +1,5 @@
 use Rattle.std.proofs.Common.{subst, sym}
-use Rattle.sc_model.specs.World.{Later}
+use Rattle.sc_model.specs.Levels.{Later}
 use Rattle.sc_store.specs.Levels.{held_level}
 use Rattle.sc_store.proofs.Devices.{later_same}
 use Rattle.sc_store.proofs.ReadOnly.{later_read}

@@ -1,5 +1,5 @@
 use Rattle.std.proofs.Common.{subst, sym}
-use Rattle.sc_model.specs.World.{Later}
+use Rattle.sc_model.specs.Levels.{Later}
 use Rattle.sc_model.specs.declared.event.Written.TheVariants.{Done, Refused as NotWritten}
 use Rattle.sc_model.specs.declared.level.Cause.{Cause}
 use Rattle.sc_store.specs.Asking.{PutsPre}

@@ -1,5 +1,5 @@
 use Rattle.std.proofs.Common.{rules, ◌≡◌, ap, sym, ◌∙◌}
-use Rattle.sc_model.specs.Follows.{some_size}
+use Rattle.sc_model.specs.Describing.{some_size}
 use Rattle.sc_store.specs.Planning.{facts_of}
 use Rattle.sc_store.specs.Telling.{first_max, max_onto, store_max}
 use Rattle.sc_store.proofs.Tellings.{by_facts}

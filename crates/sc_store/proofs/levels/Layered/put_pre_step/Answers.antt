@@ -1,6 +1,6 @@
 use Rattle.std.proofs.Common.{rules, length, ◌<◌, ◌≡◌, map, slice_index_or, slice_set, ap, sym, subst, ◌∙◌}
 use Rattle.sc_store_disk.specs.Moving.{EvictsFor, SameEntries}
-use Rattle.sc_model.specs.World.{early_cause}
+use Rattle.sc_model.specs.WriteCauses.{early_cause}
 use Rattle.sc_store.specs.Asking.{PreCauseAt, PutsPre}
 use Rattle.sc_store.specs.Held.{AreWithin, disk_in, disk_of, held_of}
 use Rattle.sc_store.specs.Levels.{held_level}

@@ -1,5 +1,5 @@
 use Rattle.std.proofs.Common.{rules, length, ◌<◌, subst, ◌≡◌, map, slice_index_or, slice_set, ap, sym, ◌∙◌}
-use Rattle.sc_model.specs.World.{early_cause}
+use Rattle.sc_model.specs.WriteCauses.{early_cause}
 use Rattle.sc_store.specs.Asking.{Fewer, MarksWrote}
 use Rattle.sc_store.specs.Held.{AreWithin, held_of}
 use Rattle.sc_store.specs.Levels.{held_level}

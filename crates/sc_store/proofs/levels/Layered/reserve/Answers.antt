@@ -2,7 +2,7 @@ use Rattle.std.proofs.Common.{rules, length, ◌<◌, ◌≡◌, map, slice_inde
 use Rattle.sc_store_disk.specs.DiskStores.{entry_path}
 use Rattle.sc_store_disk.specs.Marked.{MarksOpened}
 use Rattle.sc_store_disk.specs.Moving.{EvictsFor, OpensBy, SameEntries}
-use Rattle.sc_model.specs.World.{early_cause}
+use Rattle.sc_model.specs.WriteCauses.{early_cause}
 use Rattle.sc_store.specs.Asking.{ReservesDisk}
 use Rattle.sc_store.specs.Held.{AreWithin, disk_in, disk_of, held_of}
 use Rattle.sc_store.specs.Levels.{held_level}

@@ -3,7 +3,7 @@ use Rattle.std.proofs.lemmas.Map.Iter.{iter_end}
 use Rattle.std.proofs.lemmas.List.{map-append}
 use Rattle.std.specs.FinMap.{entries}
 use Rattle.std.specs.Map.Iter.{deref_pair}
-use Rattle.sc_model.specs.World.{sum_lengths}
+use Rattle.sc_model.specs.Levels.{sum_lengths}
 use Rattle.sc_store.proofs.PathMaps.{entries_of_files, stopped_more, sum_lengths-push}
 use Rattle.sc_store.proofs.path_map.PathMap.size.Goals as goal
 

@@ -1,6 +1,6 @@
 use Rattle.std.proofs.Common.{◌≡◌, ◌-◌, ◌^◌, map, min}
 use Rattle.std.specs.Map.Iter.{deref_pair}
-use Rattle.sc_model.specs.World.{sum_lengths}
+use Rattle.sc_model.specs.Levels.{sum_lengths}
 use Rattle.sc_store.proofs.path_map.PathMap.size.Given as goal
 
 -- the bytes that were given so far

@@ -1,5 +1,5 @@
 use Rattle.std.proofs.Common.{ap, subst, sym, ◌∙◌}
-use Rattle.sc_model.specs.World.{Later}
+use Rattle.sc_model.specs.Levels.{Later}
 use Rattle.sc_store.specs.Held.{HeldLevel, remote_level}
 use Rattle.sc_store.specs.declared.checked.Checked.TheVariants.{Mode}
 use Rattle.sc_store.proofs.Checks.{checks_probed}

@@ -1,7 +1,7 @@
 use Rattle.std.proofs.Common.{◌≡◌, ℕ, true, is_some, List, ap, subst, sym, ◌∙◌}
 use Rattle.sc_entry.specs.Causes.{Told}
 use Rattle.sc_entry.specs.Entries.{objects}
-use Rattle.sc_model.specs.World.{Asks}
+use Rattle.sc_model.specs.Asking.{Asks}
 use Rattle.sc_model.specs.declared.event.Answer.{Answer}
 use Rattle.sc_model.specs.declared.event.Mode.TheVariants.{Raw}
 use Rattle.sc_store.specs.Asking.{ForgetsLost, raw_answer}

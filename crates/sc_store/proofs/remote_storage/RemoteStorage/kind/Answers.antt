@@ -1,5 +1,5 @@
 use Rattle.std.proofs.Common.{subst}
-use Rattle.sc_model.specs.World.{KeepsMarks}
+use Rattle.sc_model.specs.Levels.{KeepsMarks}
 use Rattle.sc_store.specs.Held.{HeldLevel, modes_of, remote_given}
 use Rattle.sc_store.proofs.Askings.{same_marks}
 use Rattle.sc_store.proofs.remote_storage.RemoteStorage.kind.Goals as goal

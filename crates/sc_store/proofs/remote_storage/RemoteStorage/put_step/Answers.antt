@@ -1,6 +1,7 @@
 use Rattle.std.proofs.Common.{rules, ◌≡◌, None, Some, refl, subst, sym, ◌∙◌}
 use Rattle.sc_entry.specs.Keys.{normalize_key}
-use Rattle.sc_model.specs.World.{Later, early_cause}
+use Rattle.sc_model.specs.Levels.{Later}
+use Rattle.sc_model.specs.WriteCauses.{early_cause}
 use Rattle.sc_model.specs.declared.event.Written.TheVariants.{Refused as NotWritten}
 use Rattle.sc_store.specs.Asking.{PutsLevel}
 use Rattle.sc_store.specs.Held.{HeldLevel, modes_of, remote_facts, remote_given, remote_level}

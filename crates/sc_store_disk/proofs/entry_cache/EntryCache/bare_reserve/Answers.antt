@@ -1,5 +1,6 @@
 use Rattle.std.proofs.Common.{◌≡◌, ap, subst, sym}
-use Rattle.sc_model.specs.World.{Reserves, causes}
+use Rattle.sc_model.specs.WriteCauses.{causes}
+use Rattle.sc_model.specs.Writing.{Reserves}
 use Rattle.sc_store_disk.specs.DiskStores.{DiskStore, bare_disk}
 use Rattle.sc_store_disk.specs.Moving.{written_of}
 use Rattle.sc_store_disk.proofs.entry_cache.EntryCache.bare_reserve.Goals as goal

@@ -1,5 +1,5 @@
 use Rattle.std.proofs.Common.{refl, sym}
-use Rattle.sc_model.specs.World.{same_maps}
+use Rattle.sc_model.specs.Asking.{same_maps}
 use Rattle.sc_store_disk.specs.Entries.{ClosesEntry, FillsBy}
 use Rattle.sc_store_disk.specs.Moving.{Stays}
 use Rattle.sc_store_disk.proofs.Lending.{lent, lent-limit, of_some}

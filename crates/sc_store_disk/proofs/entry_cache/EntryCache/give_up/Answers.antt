@@ -1,7 +1,7 @@
 use Rattle.std.proofs.Common.{sym}
 use Rattle.sc_store_disk.specs.Entries.{ClosesEntry}
 use Rattle.sc_store_disk.specs.Moving.{Stays}
-use Rattle.sc_model.specs.World.{same_maps}
+use Rattle.sc_model.specs.Asking.{same_maps}
 use Rattle.sc_store_disk.proofs.Lending.{lent, lent-limit, of_some}
 use Rattle.sc_store_disk.proofs.entry_cache.EntryCache.give_up.Goals as goal
 

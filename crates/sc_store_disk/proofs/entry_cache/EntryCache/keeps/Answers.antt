@@ -1,5 +1,5 @@
 use Rattle.std.proofs.Common.{ℕ, ◌+◌, ◌≤◌, sym, subst}
-use Rattle.sc_model.specs.World.{part_size}
+use Rattle.sc_model.specs.Evicting.{part_size}
 use Rattle.sc_store_disk.specs.DiskStores.{bare_disk, held_disk, indexed_bytes}
 use Rattle.sc_store_disk.proofs.LevelMarks.{marks-there}
 use Rattle.sc_store_disk.proofs.Within.{bound-opened, bound-unopened, capacity-is, within-opened, within-unopened}

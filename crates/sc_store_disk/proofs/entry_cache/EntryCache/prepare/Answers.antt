@@ -1,6 +1,6 @@
 use Rattle.std.proofs.Common.{ℕ, true, is_some, ◌≡◌, IfOk, OnErr, sym, subst}
 use Rattle.sc_disk.specs.Store.{reserved}
-use Rattle.sc_model.specs.World.{Reserves}
+use Rattle.sc_model.specs.Writing.{Reserves}
 use Rattle.sc_disk_pair.specs.Parts.{in_part}
 use Rattle.sc_disk_pair.specs.declared.part.Part.TheVariants.{Main}
 use Rattle.sc_store_disk.specs.DiskStores.{level_of, opened_store}

@@ -2,7 +2,7 @@ use Rattle.sc_store_disk.specs.DiskStores.{bare_disk, entry_path}
 use Rattle.sc_store_disk.proofs.Lending.{if_oks, on_errs}
 use Rattle.sc_store_disk.proofs.StoreMarks.{evicts-marked, opened-same, opens-marked, reserves-marked, same-entries, stays-marked}
 use Rattle.sc_store_disk.specs.Moving.{written_of}
-use Rattle.sc_model.specs.World.{causes}
+use Rattle.sc_model.specs.WriteCauses.{causes}
 use Rattle.sc_store_disk.proofs.entry_cache.EntryCache.reserve.Goals as goal
 
 pub returns-clause-stays : goal.returns-clause-stays
