@@ -1,0 +1,3 @@
+pub mod Cacheables
+pub mod Plainly
+pub mod Steps
