@@ -25,8 +25,8 @@ use Rattle.sc_model.specs.declared.level.Handed.{Handed}
 use Rattle.sc_model.specs.declared.phase.Pending.{Pending}
 use Rattle.sc_daemon_owned.specs.Laws.{one_level}
 use Rattle.sc_daemon_owned.specs.State.{disk_at, reserved_in}
-use Rattle.sc_wire.specs.Requests.{read_served}
-use Rattle.sc_wire.specs.Streams.{served_reader}
+use Rattle.sc_wire.specs.Requests.{read_request}
+use Rattle.sc_wire.specs.Streams.{request_reader}
 use Rattle.sc_daemon_owned.specs.Facts.{DaemonFacts, config_of}
 
 new_conns : (limit n c : ℕ) → get_or (map conn_of (lines_of limit n)) c new_conn ≡ new_conn
@@ -39,8 +39,8 @@ count_of limit zero = refl
 count_of limit (suc n) = ap suc (count_of limit n)
 
 at_first : (k : Config) (d : ℕ → DiskStore) (n : ℕ) → AreAt k d (lines_of k.limit n)
-at_first k d zero c = (refl, ((refl, refl), tt))
-at_first k d (suc n) zero = (refl, ((refl, refl), tt))
+at_first k d zero c = (refl, (refl, refl))
+at_first k d (suc n) zero = (refl, (refl, refl))
 at_first k d (suc n) (suc c) = at_first k d n c
 
 no_hand : (limit n c : ℕ) → line_hand (get_or (lines_of limit n) c (new_line limit)) ≡ None
@@ -54,7 +54,7 @@ no_owner l number = None
 -- a drive begins with an idle machine
 pub is_idle : (d : Kept) (inputs : List (List ℕ)) → IsIdleDaemon d → d.handed ≡ 0 → IsIdle (script_of d inputs) (machine_of d (lines_of d.state.config.limit (length inputs)) [])
 is_idle d inputs idle first = record {
-  reads_on = reads_on d.state.config.limit read_served;
+  reads_on = reads_on d.state.config.limit read_request;
   conns = λ c. new_conns d.state.config.limit (length inputs) c;
   same_count = length-map (lines_of d.state.config.limit (length inputs)) conn_of ∙ count_of d.state.config.limit (length inputs);
   free = idle.free;
@@ -103,7 +103,7 @@ pub goes_on : (d0 d d2 : Kept) (inputs : List (List ℕ)) (steps rest : List Ste
     → StepsOn (config_of d.state.config) inputs p events events2 d d2 lines lines2 → Progress d0 d2 inputs steps rest events2 lines2
 goes_on d0 d d2 inputs steps rest p events events2 lines lines2 before on =
     let s = script_of d0 inputs in
-    let of : IsScriptOf s (config_of d.state.config) inputs = record { of_setup = ap (λ (f : DaemonFacts). setup (config_of f)) (sym before.config); of_reader = ap (λ (f : DaemonFacts). served_reader f.limit) (sym before.config); of_inputs = refl } in
+    let of : IsScriptOf s (config_of d.state.config) inputs = record { of_setup = ap (λ (f : DaemonFacts). setup (config_of f)) (sym before.config); of_reader = ap (λ (f : DaemonFacts). request_reader f.limit) (sym before.config); of_inputs = refl } in
     let step = on.steps s before.opens of before.tied in
     let m0 = machine_of d0 (lines_of d0.state.config.limit (length inputs)) [] in
     let opens2 = reserved_by on.event.owner on.event.what before.opens in
@@ -127,11 +127,11 @@ sent_lines : (lines : List Line) → map (λ (k : Conn). k.out) (map conn_of lin
 sent_lines [] = refl
 sent_lines (l ∷ lines) = ap (λ (o : List (List ℕ)). l.out ∷ o) (sent_lines lines)
 
-end_line : (s : Script) (limit : ℕ) (l : Line) → s.reader ≡ served_reader limit → l.limit ≡ limit → end_at s (conn_of l) ≡ line_end l
+end_line : (s : Script) (limit : ℕ) (l : Line) → s.reader ≡ request_reader limit → l.limit ≡ limit → end_at s (conn_of l) ≡ line_end l
 end_line s limit l reads same =
-    ap (λ r. if_too_long l.long (r.ends l.rest l.closed)) reads ∙ ap (λ (n : ℕ). if_too_long l.long ((served_reader n).ends l.rest l.closed)) (sym same)
+    ap (λ r. if_too_long l.long (r.ends l.rest l.closed)) reads ∙ ap (λ (n : ℕ). if_too_long l.long ((request_reader n).ends l.rest l.closed)) (sym same)
 
-end_lines : (s : Script) (k : Config) (d : ℕ → DiskStore) (lines : List Line) → s.reader ≡ served_reader k.limit → AreAt k d lines → map (end_at s) (map conn_of lines) ≡ map line_end lines
+end_lines : (s : Script) (k : Config) (d : ℕ → DiskStore) (lines : List Line) → s.reader ≡ request_reader k.limit → AreAt k d lines → map (end_at s) (map conn_of lines) ≡ map line_end lines
 end_lines s k d [] reads at = refl
 end_lines s k d (l ∷ lines) reads at =
     ap (λ (e : End). e ∷ map (end_at s) (map conn_of lines)) (end_line s k.limit l reads ((at 0).0)) ∙ ap (λ (es : List End). line_end l ∷ es) (end_lines s k d lines reads (λ c. at (suc c)))
@@ -150,7 +150,7 @@ headline every d0 d inputs steps left events lines driven idle first progress no
     let s = script_of d0 inputs in
     let m = machine_of d lines progress.opens in
     let all : progress.done ≡ steps = sym (append-nil progress.done) ∙ ap (λ (l : List Step). progress.done ++ l) (sym none) ∙ progress.split in
-    let reads : s.reader ≡ served_reader d.state.config.limit = ap (λ (f : DaemonFacts). served_reader f.limit) (sym progress.config) in
+    let reads : s.reader ≡ request_reader d.state.config.limit = ap (λ (f : DaemonFacts). request_reader f.limit) (sym progress.config) in
     let same : result_of_run s m ≡ result_of d driven =
     (λ i. record {
       stats = d.stats;

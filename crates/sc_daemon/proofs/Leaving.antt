@@ -69,8 +69,8 @@ at_there k d AtOver entry r rests = none_there d AtOver entry rests.1
 
 -- an entry that is held is open
 pub rests_there : (k : Config) (d : ℕ → DiskStore) (p : Phase) (entry : Option AddEntry) (w : List Request) → Rests k d p entry w → IsThere d (hand_of entry p)
-rests_there k d p entry [] rests = none_there d p entry rests.0.1
-rests_there k d p entry (r ∷ w) rests = at_there k d p entry r rests.0
+rests_there k d p entry [] rests = none_there d p entry rests.1
+rests_there k d p entry (r ∷ w) rests = at_there k d p entry r rests
 
 stage_there : (k : Config) (d : ℕ → DiskStore) (stage : Stage) (entry : Option AddEntry) (l : ℕ) (b : Bytes) → IsAtStage k d stage entry l b → IsThere d (hand_at entry l (length b.bytes))
 stage_there k d Fresh entry l b at = subst (λ (e : Option AddEntry). IsThere d (hand_at e l (length b.bytes))) (sym at) tt

@@ -27,7 +27,7 @@ use Rattle.sc_model.specs.declared.event.What.TheVariants.{Closed, Idle, Taken}
 use Rattle.sc_model.specs.declared.phase.Pending.{Pending}
 use Rattle.sc_daemon_owned.specs.Moving.{MovesWorld}
 use Rattle.sc_daemon_owned.specs.State.{reserved_in}
-use Rattle.sc_wire.specs.Streams.{served_reader}
+use Rattle.sc_wire.specs.Streams.{request_reader}
 use Rattle.sc_daemon_owned.specs.Facts.{config_of}
 
 -- the connection of that number
@@ -140,17 +140,17 @@ serve_does c z (OfWrite n) _ d d2 lines opens l new lt told tied now serves = ab
 abbrev NoMoreBy : Script → Conn → Type 0
 NoMoreBy s k = ((k.closed ≡ true) ⊎ (s.reader.ends k.rest false ≡ BadFrame)) ⊎ ((0 < length k.queue) × Ended (due_at s.setup (current k) k.phase))
 
-no_more : (s : Script) (l : Line) → s.reader ≡ served_reader l.limit → IsDone l → NoMoreBy s (conn_of l)
+no_more : (s : Script) (l : Line) → s.reader ≡ request_reader l.limit → IsDone l → NoMoreBy s (conn_of l)
 no_more s l reads (inl (inl closed)) = inl (inl closed)
 no_more s l reads (inl (inr bad)) = inl (inr (ends_are s l.limit reads l.rest false ∙ bad))
 no_more s l reads (inr (some, ended)) = inr (some, ended_due s.setup (current (conn_of l)) l.phase ended)
 
-is_done : (s : Script) (l : Line) → s.reader ≡ served_reader l.limit → NoMoreBy s (conn_of l) → IsDone l
+is_done : (s : Script) (l : Line) → s.reader ≡ request_reader l.limit → NoMoreBy s (conn_of l) → IsDone l
 is_done s l reads (inl (inl closed)) = inl (inl closed)
 is_done s l reads (inl (inr bad)) = inl (inr (sym (ends_are s l.limit reads l.rest false) ∙ bad))
 is_done s l reads (inr (some, ended)) = inr (some, due_ended s.setup (current (conn_of l)) l.phase ended)
 
-more_comes : (s : Script) (l new : Line) (bytes : List ℕ) → s.reader ≡ served_reader l.limit → TakesMore bytes l new → conn_of new ≡ more s (conn_of l) bytes
+more_comes : (s : Script) (l new : Line) (bytes : List ℕ) → s.reader ≡ request_reader l.limit → TakesMore bytes l new → conn_of new ≡ more s (conn_of l) bytes
 more_comes s l new bytes reads takes =
     ap conn_of takes.same
     ∙ (λ i. record (conn_of l) { queue = takes.requests i; rest = takes.rest i; got = takes.got i })
@@ -171,7 +171,7 @@ conns_are d lines opens c new k is_k =
     let conns = map-set conn_of lines c new ∙ ap (λ (x : Conn). set (map conn_of lines) c x) is_k in
     λ i. record (machine_of d lines opens) { conns = conns i }
 
-pub read_does : (s : Script) (c n : ℕ) (o : Owner) (x : What) (d : Kept) (lines : List Line) (opens : List Open) (l new : Line) → c < length lines → s.reader ≡ served_reader (get_or lines c l).limit
+pub read_does : (s : Script) (c n : ℕ) (o : Owner) (x : What) (d : Kept) (lines : List Line) (opens : List Open) (l new : Line) → c < length lines → s.reader ≡ request_reader (get_or lines c l).limit
     → o ≡ Nobody → ReadsWhat c (input s c) n x (get_or lines c l) new
     → DoesRead s (machine_of d lines opens) c n o x (machine_of d (set lines c new) opens)
 read_does s c n o x d lines opens l new lt reads nobody what =

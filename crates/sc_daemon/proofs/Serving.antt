@@ -3,7 +3,7 @@ use Rattle.std.proofs.Common.{◌≡◌, ℕ, ◌<◌, List, [], ◌∷◌, ◌+
 use Rattle.sc_daemon_action.specs.Hands.{ServesWith, StandsWith, hand_of}
 use Rattle.sc_daemon_action.specs.declared.acted.Action.{Action}
 use Rattle.sc_daemon.specs.Lines.{Line, conn_of, line_hand}
-use Rattle.sc_daemon.specs.Standings.{FirstRests, Rests, RestsAt, standing_of}
+use Rattle.sc_daemon.specs.Standings.{Rests, RestsAt, standing_of}
 use Rattle.sc_daemon.specs.Turns.{ActsFirst, Serves_one}
 use Rattle.sc_daemon.specs.declared.standing.Standing.TheVariants.{Ended, Takes}
 use Rattle.sc_daemon.proofs.Firsts.{current_is}
@@ -20,7 +20,6 @@ use Rattle.sc_model.specs.declared.event.What.{What}
 use Rattle.sc_model.specs.declared.message.Request.{Request}
 use Rattle.sc_model.specs.declared.phase.Phase.{Phase}
 use Rattle.sc_model.specs.declared.phase.Phase.TheVariants.{AtAsk, AtBegin, AtCommit, AtDist, AtEnd, AtEnded, AtFill, AtFinish, AtKey, AtOver, AtPlace, AtRun, AtSend, AtStarted, AtStore, AtTake, AtWrite, PathAsk, PreAsk, PrePut, RawAsk, SizeAsk}
-use Rattle.sc_wire.specs.Requests.{AreServed}
 
 -- a phase where no reply was too long is one that is served
 pub goes_serves : (k : Config) (d : ℕ → DiskStore) (p : Phase) (entry : Option AddEntry) (r : Request) → RestsAt k d p entry r → (standing_of p ≡ Ended → ⊥) → ServesWith k d p entry r
@@ -49,53 +48,49 @@ goes_serves k d AtOver entry r rests goes = rests
 
 -- the first that waits is served, where no reply was too long
 pub first_serves : (k : Config) (d : ℕ → DiskStore) (l : Line) → Rests k d l.phase l.entry l.waiting → 0 < length l.waiting → (standing_of l.phase ≡ Ended → ⊥) → ServesWith k d l.phase l.entry (current (conn_of l))
-first_serves k d l rests some goes = goes_serves k d l.phase l.entry (current (conn_of l)) (first_at l.phase l.entry l.waiting rests.0 some) goes
+first_serves k d l rests some goes = goes_serves k d l.phase l.entry (current (conn_of l)) (first_at l.phase l.entry l.waiting rests some) goes
   where
-    first_at : (p : Phase) (entry : Option AddEntry) (w : List Request) → FirstRests k d p entry w → 0 < length w → RestsAt k d p entry (request w 0)
+    first_at : (p : Phase) (entry : Option AddEntry) (w : List Request) → Rests k d p entry w → 0 < length w → RestsAt k d p entry (request w 0)
     first_at p entry [] rests some = absurd (omega arith)
     first_at p entry (r ∷ w) rests some = rests
 
-pub begin_rests : (k : Config) (d : ℕ → DiskStore) (w : List Request) → AreServed w → Rests k d AtBegin None w
-begin_rests k d [] served = ((refl, refl), tt)
-begin_rests k d (r ∷ w) served = ((served.0, refl), served)
+pub begin_rests : (k : Config) (d : ℕ → DiskStore) (w : List Request) → Rests k d AtBegin None w
+begin_rests k d [] = (refl, refl)
+begin_rests k d (r ∷ w) = (tt, refl)
 
-rests_with : (k : Config) (d : ℕ → DiskStore) (p : Phase) (entry : Option AddEntry) (r : Request) (rest w : List Request) → w ≡ r ∷ rest → AreServed w → RestsAt k d p entry r → Rests k d p entry w
-rests_with k d p entry r rest w e served at = (subst (FirstRests k d p entry) (sym e) at, served)
-
-drop_served : (w : List Request) → AreServed w → AreServed (drop 1 w)
-drop_served [] served = tt
-drop_served (r ∷ w) served = served.1
+rests_with : (k : Config) (d : ℕ → DiskStore) (p : Phase) (entry : Option AddEntry) (r : Request) (rest w : List Request) → w ≡ r ∷ rest → RestsAt k d p entry r → Rests k d p entry w
+rests_with k d p entry r rest w e at = subst (Rests k d p entry) (sym e) at
 
 -- where the first stands after a phase of its, and the next behind one that is over
-settle_rests : (k : Config) (d : ℕ → DiskStore) (c : Conn) (p : Phase) (entry : Option AddEntry) (r : Request) (rest : List Request) → c.queue ≡ r ∷ rest → AreServed c.queue → StandsWith k d p entry r → Rests k d (settle c p).phase entry (settle c p).queue
-settle_rests k d c AtBegin entry r rest is served stands = rests_with k d AtBegin entry r rest c.queue is served stands
-settle_rests k d c (AtSend a) entry r rest is served stands = rests_with k d (AtSend a) entry r rest c.queue is served stands
-settle_rests k d c (AtStarted a) entry r rest is served stands = rests_with k d (AtStarted a) entry r rest c.queue is served stands
-settle_rests k d c (AtKey a b) entry r rest is served stands = rests_with k d (AtKey a b) entry r rest c.queue is served stands
-settle_rests k d c (AtAsk a b) entry r rest is served stands = rests_with k d (AtAsk a b) entry r rest c.queue is served stands
-settle_rests k d c (AtPlace a b f) entry r rest is served stands = rests_with k d (AtPlace a b f) entry r rest c.queue is served stands
-settle_rests k d c (AtDist a) entry r rest is served stands = rests_with k d (AtDist a) entry r rest c.queue is served stands
-settle_rests k d c (AtTake a) entry r rest is served stands = rests_with k d (AtTake a) entry r rest c.queue is served stands
-settle_rests k d c (AtRun a) entry r rest is served stands = rests_with k d (AtRun a) entry r rest c.queue is served stands
-settle_rests k d c (AtEnd a b f) entry r rest is served stands = rests_with k d (AtEnd a b f) entry r rest c.queue is served stands
-settle_rests k d c (AtStore a b f g) entry r rest is served stands = rests_with k d (AtStore a b f g) entry r rest c.queue is served stands
-settle_rests k d c (AtWrite a b f g) entry r rest is served stands = rests_with k d (AtWrite a b f g) entry r rest c.queue is served stands
-settle_rests k d c (AtFill a b f g h) entry r rest is served stands = rests_with k d (AtFill a b f g h) entry r rest c.queue is served stands
-settle_rests k d c (AtCommit a b f g h) entry r rest is served stands = rests_with k d (AtCommit a b f g h) entry r rest c.queue is served stands
-settle_rests k d c (AtFinish a b) entry r rest is served stands = rests_with k d (AtFinish a b) entry r rest c.queue is served stands
-settle_rests k d c (RawAsk a b) entry r rest is served stands = rests_with k d (RawAsk a b) entry r rest c.queue is served stands
-settle_rests k d c (PathAsk a) entry r rest is served stands = rests_with k d (PathAsk a) entry r rest c.queue is served stands
-settle_rests k d c (PreAsk a b) entry r rest is served stands = rests_with k d (PreAsk a b) entry r rest c.queue is served stands
-settle_rests k d c (PrePut a b f) entry r rest is served stands = rests_with k d (PrePut a b f) entry r rest c.queue is served stands
-settle_rests k d c (SizeAsk a b f) entry r rest is served stands = rests_with k d (SizeAsk a b f) entry r rest c.queue is served stands
-settle_rests k d c (AtEnded a) entry r rest is served stands = rests_with k d (AtEnded a) entry r rest c.queue is served stands.1
-settle_rests k d c AtOver entry r rest is served stands = subst (λ (e : Option AddEntry). Rests k d AtBegin e (drop 1 c.queue)) (sym stands.1) (begin_rests k d (drop 1 c.queue) (drop_served c.queue served))
+settle_rests : (k : Config) (d : ℕ → DiskStore) (c : Conn) (p : Phase) (entry : Option AddEntry) (r : Request) (rest : List Request) → c.queue ≡ r ∷ rest → StandsWith k d p entry r → Rests k d (settle c p).phase entry (settle c p).queue
+settle_rests k d c AtBegin entry r rest is stands = rests_with k d AtBegin entry r rest c.queue is stands
+settle_rests k d c (AtSend a) entry r rest is stands = rests_with k d (AtSend a) entry r rest c.queue is stands
+settle_rests k d c (AtStarted a) entry r rest is stands = rests_with k d (AtStarted a) entry r rest c.queue is stands
+settle_rests k d c (AtKey a b) entry r rest is stands = rests_with k d (AtKey a b) entry r rest c.queue is stands
+settle_rests k d c (AtAsk a b) entry r rest is stands = rests_with k d (AtAsk a b) entry r rest c.queue is stands
+settle_rests k d c (AtPlace a b f) entry r rest is stands = rests_with k d (AtPlace a b f) entry r rest c.queue is stands
+settle_rests k d c (AtDist a) entry r rest is stands = rests_with k d (AtDist a) entry r rest c.queue is stands
+settle_rests k d c (AtTake a) entry r rest is stands = rests_with k d (AtTake a) entry r rest c.queue is stands
+settle_rests k d c (AtRun a) entry r rest is stands = rests_with k d (AtRun a) entry r rest c.queue is stands
+settle_rests k d c (AtEnd a b f) entry r rest is stands = rests_with k d (AtEnd a b f) entry r rest c.queue is stands
+settle_rests k d c (AtStore a b f g) entry r rest is stands = rests_with k d (AtStore a b f g) entry r rest c.queue is stands
+settle_rests k d c (AtWrite a b f g) entry r rest is stands = rests_with k d (AtWrite a b f g) entry r rest c.queue is stands
+settle_rests k d c (AtFill a b f g h) entry r rest is stands = rests_with k d (AtFill a b f g h) entry r rest c.queue is stands
+settle_rests k d c (AtCommit a b f g h) entry r rest is stands = rests_with k d (AtCommit a b f g h) entry r rest c.queue is stands
+settle_rests k d c (AtFinish a b) entry r rest is stands = rests_with k d (AtFinish a b) entry r rest c.queue is stands
+settle_rests k d c (RawAsk a b) entry r rest is stands = rests_with k d (RawAsk a b) entry r rest c.queue is stands
+settle_rests k d c (PathAsk a) entry r rest is stands = rests_with k d (PathAsk a) entry r rest c.queue is stands
+settle_rests k d c (PreAsk a b) entry r rest is stands = rests_with k d (PreAsk a b) entry r rest c.queue is stands
+settle_rests k d c (PrePut a b f) entry r rest is stands = rests_with k d (PrePut a b f) entry r rest c.queue is stands
+settle_rests k d c (SizeAsk a b f) entry r rest is stands = rests_with k d (SizeAsk a b f) entry r rest c.queue is stands
+settle_rests k d c (AtEnded a) entry r rest is stands = rests_with k d (AtEnded a) entry r rest c.queue is stands.1
+settle_rests k d c AtOver entry r rest is stands = subst (λ (e : Option AddEntry). Rests k d AtBegin e (drop 1 c.queue)) (sym stands.1) (begin_rests k d (drop 1 c.queue))
 
 -- more came behind
-pub more_rests : (k : Config) (d : ℕ → DiskStore) (p : Phase) (entry : Option AddEntry) (w more new : List Request) → Rests k d p entry w → new ≡ w ++ more → AreServed new → Rests k d p entry new
-more_rests k d p entry [] more new rests e served =
-    subst (λ (q : Phase). Rests k d q entry new) (sym rests.0.0) (subst (λ (x : Option AddEntry). Rests k d AtBegin x new) (sym rests.0.1) (begin_rests k d new served))
-more_rests k d p entry (r ∷ w) more new rests e served = rests_with k d p entry r (w ++ more) new e served rests.0
+pub more_rests : (k : Config) (d : ℕ → DiskStore) (p : Phase) (entry : Option AddEntry) (w more new : List Request) → Rests k d p entry w → new ≡ w ++ more → Rests k d p entry new
+more_rests k d p entry [] more new rests e =
+    subst (λ (q : Phase). Rests k d q entry new) (sym rests.0) (subst (λ (x : Option AddEntry). Rests k d AtBegin x new) (sym rests.1) (begin_rests k d new))
+more_rests k d p entry (r ∷ w) more new rests e = rests_with k d p entry r (w ++ more) new e rests
 
 -- what is kept of an event of this moment, before the connection goes on to the next phase
 abbrev pub noted : ℕ → What → Line → Line
@@ -107,7 +102,7 @@ serves_rests k d d2 m acted old mid note new rests acts is_note moved entry =
     let same : note.waiting ≡ old.waiting = ap (λ (l : Line). l.waiting) is_note ∙ ap (λ (l : Line). l.waiting) acts.same in
     subst (λ (e : Option AddEntry). Rests k d2 (conn_of new).phase e (conn_of new).queue) (sym entry)
     (subst (λ (c : Conn). Rests k d2 c.phase acted.entry c.queue) (sym moved)
-    (settle_rests k d2 (conn_of note) acted.phase acted.entry acts.request acts.rest (same ∙ acts.first) (subst AreServed (sym same) rests.1) acts.acts.stands))
+    (settle_rests k d2 (conn_of note) acted.phase acted.entry acts.request acts.rest (same ∙ acts.first) acts.acts.stands))
 
 -- the entry that is held at a phase is held where its connection then stands
 settle_hand : (k : Config) (d : ℕ → DiskStore) (c : Conn) (p : Phase) (entry : Option AddEntry) (r : Request) → StandsWith k d p entry r → hand_of entry (settle c p).phase ≡ hand_of entry p

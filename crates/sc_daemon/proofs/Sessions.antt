@@ -16,7 +16,7 @@ use Rattle.sc_daemon_owned.specs.State.{disk_at}
 use Rattle.sc_model.specs.Trace.{reserved_by}
 use Rattle.sc_model.specs.declared.event.Event.{Event}
 use Rattle.sc_model.specs.declared.event.Owner.TheVariants.{Write as OfWrite}
-use Rattle.sc_wire.specs.Streams.{served_reader}
+use Rattle.sc_wire.specs.Streams.{request_reader}
 
 pub begins_serving : (d : Kept) → IsIdleDaemon d → IsServing (anew d) (new_line d.state.config.limit)
 begins_serving d idle = record { opens = []; tied = tied_first (anew d) (suc zero) (idle_anew d idle) }
@@ -51,7 +51,7 @@ feeds_on d old new bytes s (inr (going, takes)) =
     let k = config_of d.state.config in
     let a = disk_at d.state in
     let here : IsAt k a old = s.tied.at zero in
-    let rests : Rests k a old.phase old.entry new.waiting = more_rests k a old.phase old.entry old.waiting ((served_reader old.limit).requests (old.rest ++ bytes)) new.waiting here.1 takes.requests (takes.served here.1.1) in
+    let rests : Rests k a old.phase old.entry new.waiting = more_rests k a old.phase old.entry old.waiting ((request_reader old.limit).requests (old.rest ++ bytes)) new.waiting here.1 takes.requests in
     other_line d old new s
     (ap (λ (l : Line). l.limit) takes.same ∙ here.0, subst (λ (l : Line). Rests k a l.phase l.entry new.waiting) (sym takes.same) rests)
     (subst (λ (l : Line). TiesLine s.tied.owns s.opens a zero l) (sym takes.same) (s.tied.lines zero))
@@ -63,7 +63,7 @@ pub sends_on : (d : Kept) (l new : Line) → IsServing d l → new ≡ record l 
 sends_on d l new s is = subst (λ (n : Line). IsServing d n) (sym is) (other_line d l (record l { out = [] }) s (s.tied.at zero) (s.tied.lines zero))
 
 pub renews : (d : Kept) (l new : Line) → IsServing d l → new ≡ new_line d.state.config.limit → IsServing d new
-renews d l new s is = subst (λ (n : Line). IsServing d n) (sym is) (other_line d l (new_line d.state.config.limit) s (refl, ((refl, refl), tt)) tt)
+renews d l new s is = subst (λ (n : Line). IsServing d n) (sym is) (other_line d l (new_line d.state.config.limit) s (refl, (refl, refl)) tt)
 
 pub serves_on : (d d2 : Kept) (old new : Line) (e : Event) → IsServing d old → ServesEvent zero e d d2 old new → Rests (config_of d.state.config) (disk_at d2.state) new.phase new.entry new.waiting → IsServing d2 new
 serves_on d d2 old new e serving serves rests = record {

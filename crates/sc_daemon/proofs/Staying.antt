@@ -90,7 +90,7 @@ module _ (owns : Owners) (opens : List Open) (d d2 : ℕ → DiskStore) (o : Own
   -- where another connection's first request stands it can be gone on with still
   pub rests_stays : (k : Config) (p : Owner) (phase : Phase) (entry : Option AddEntry) (w : List Request) → same_owner o p ≡ false → TiesHand owns opens d p (hand_of entry phase) → Rests k d phase entry w → Rests k d2 phase entry w
   rests_stays k p phase entry [] apart theirs rests = rests
-  rests_stays k p phase entry (r ∷ w) apart theirs rests = (rests_at k p phase entry r apart theirs rests.0, rests.1)
+  rests_stays k p phase entry (r ∷ w) apart theirs rests = rests_at k p phase entry r apart theirs rests
 
   stage_stays : (k : Config) (p : Owner) (stage : Stage) (entry : Option AddEntry) (l : ℕ) (b : Bytes) → same_owner o p ≡ false → TiesHand owns opens d p (hand_at entry l (length b.bytes)) → IsAtStage k d stage entry l b → IsAtStage k d2 stage entry l b
   stage_stays k p Fresh entry l b apart theirs at = at

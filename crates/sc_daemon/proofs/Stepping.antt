@@ -34,7 +34,7 @@ use Rattle.sc_model.specs.declared.level.LevelKind.{LevelKind}
 use Rattle.sc_model.specs.declared.level.LevelKind.TheVariants.{Disk, Remote}
 use Rattle.sc_model.specs.declared.phase.Phase.{Phase}
 use Rattle.sc_daemon_owned.specs.State.{AreLevelsWithin, State, disk_at, reserved_in}
-use Rattle.sc_wire.specs.Streams.{served_reader}
+use Rattle.sc_wire.specs.Streams.{request_reader}
 use Rattle.sc_daemon_owned.specs.Facts.{DaemonFacts, config_of}
 
 -- which default is of no matter
@@ -188,7 +188,7 @@ rests_reads d c n input Idle old new reads rests = subst (λ (l : Line). Rests (
 rests_reads d c n input (Taken e bytes) old new reads rests =
     let takes = reads.1.3 in
     stands_reads (λ i p entry. Rests (config_of d.state.config) (disk_at d.state) p entry new.waiting) c n input (Taken e bytes) old new reads
-    (more_rests (config_of d.state.config) (disk_at d.state) old.phase old.entry old.waiting ((served_reader old.limit).requests (old.rest ++ bytes)) new.waiting rests takes.requests (takes.served rests.1))
+    (more_rests (config_of d.state.config) (disk_at d.state) old.phase old.entry old.waiting ((request_reader old.limit).requests (old.rest ++ bytes)) new.waiting rests takes.requests)
 rests_reads d c n input (Closed e) old new reads rests = subst (λ (l : Line). Rests (config_of d.state.config) (disk_at d.state) l.phase l.entry l.waiting) (sym (reads.1.3)) rests
 rests_reads d c n input _ old new reads rests = absurd reads
 
@@ -236,7 +236,7 @@ steps_read s inputs d lines opens c n l new b e of t most lt count reads =
       does = (
         reads.moment ∙ sym (ticked_reads c n d.state.world.moment (input s c) e.what old new what),
         subst (λ (r : List Open). DoesRead s (machine_of d lines opens) c n e.owner e.what (machine_of d (set lines c new) r)) (sym none)
-            (read_does s c n e.owner e.what d lines opens l new lt (of.of_reader ∙ ap (λ (i : ℕ). served_reader i) (sym here.0)) reads.owner what),
+            (read_does s c n e.owner e.what d lines opens l new lt (of.of_reader ∙ ap (λ (i : ℕ). request_reader i) (sym here.0)) reads.owner what),
         subst (λ (r : List Open). IsWithinBytes s.setup r d.state.world) (sym none) (within s d.state.config d.state opens of.of_setup refl most t.reserved),
       );
       config = refl;

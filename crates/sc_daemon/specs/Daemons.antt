@@ -27,7 +27,7 @@ use Rattle.sc_stats.specs.contracts.counters.ServerStats as stats_type
 use Rattle.sc_stats.specs.declared.counters.LevelStats.{LevelStats}
 use Rattle.sc_stats.specs.declared.counters.ServerStats.{ServerStats}
 use Rattle.sc_stats.specs.Sums.{no_stats, sat}
-use Rattle.sc_wire.specs.Streams.{served_reader}
+use Rattle.sc_wire.specs.Streams.{request_reader}
 use Rattle.sc_daemon_owned.specs.Facts.{config_of}
 
 pub record Kept : Type 0 where
@@ -142,7 +142,7 @@ abbrev pub script_of : Kept → List (List ℕ) → Script
 script_of d inputs = record {
   setup = setup (config_of d.state.config);
   inputs = inputs;
-  reader = served_reader d.state.config.limit;
+  reader = request_reader d.state.config.limit;
   first = d.stats;
   first_levels = d.levels;
 }

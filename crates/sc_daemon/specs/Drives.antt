@@ -17,7 +17,7 @@ use Rattle.sc_model.specs.declared.event.Event.{Event}
 use Rattle.sc_model.specs.declared.event.Owner.TheVariants.{Request as OfRequest, Write as OfWrite}
 use Rattle.sc_model.specs.declared.event.Step.{Step}
 use Rattle.sc_daemon_owned.specs.State.{disk_at, reserved_in}
-use Rattle.sc_wire.specs.Streams.{served_reader}
+use Rattle.sc_wire.specs.Streams.{request_reader}
 use Rattle.sc_daemon_owned.specs.Facts.{config_of}
 
 -- connections that nothing came over
@@ -56,7 +56,7 @@ pub record Tied (d : Kept) (conns : List Line) (opens : List Open) : Type 0 wher
 -- a script for a daemon that is made of this
 pub record IsScriptOf (s : Script) (k : Config) (inputs : List (List ℕ)) : Type 0 where
   pub of_setup : s.setup ≡ setup k
-  pub of_reader : s.reader ≡ served_reader k.limit
+  pub of_reader : s.reader ≡ request_reader k.limit
   pub of_inputs : s.inputs ≡ inputs
 
 -- one step of the machine, with these reservations before it
@@ -75,7 +75,7 @@ pub record StepsOn (k : Config) (inputs : List (List ℕ)) (p : Step) (events ev
 
 -- what a connection has come to
 abbrev pub line_end : Line → End
-line_end l = if_too_long l.long ((served_reader l.limit).ends l.rest l.closed)
+line_end l = if_too_long l.long ((request_reader l.limit).ends l.rest l.closed)
 
 -- a drive so far: what was done of its steps, and the machine's run of them
 pub record Progress (d0 d : Kept) (inputs : List (List ℕ)) (steps left : List Step) (events : List Event) (lines : List Line) : Type 0 where

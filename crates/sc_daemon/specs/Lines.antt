@@ -17,7 +17,7 @@ use Rattle.sc_model.specs.contracts.phase.Phase as phase_type
 use Rattle.sc_model.specs.declared.message.Request.{Request}
 use Rattle.sc_model.specs.declared.phase.Phase.{Phase}
 use Rattle.sc_model.specs.declared.phase.Phase.TheVariants.{AtBegin}
-use Rattle.sc_wire.specs.Streams.{served_reader}
+use Rattle.sc_wire.specs.Streams.{request_reader}
 
 abbrev pub listed : {A : Type 0} → Option A → List A
 listed None = []
@@ -73,7 +73,7 @@ conn_of l = record { queue = l.waiting; rest = l.rest; got = l.got; closed = l.c
 
 -- nothing more is read: it is closed, its bytes spell no request, or a reply was too long
 abbrev pub IsDone : Line → Type 0
-IsDone l = ((l.closed ≡ true) ⊎ ((served_reader l.limit).ends l.rest false ≡ BadFrame)) ⊎ ((0 < length l.waiting) × (standing_of l.phase ≡ Ended))
+IsDone l = ((l.closed ≡ true) ⊎ ((request_reader l.limit).ends l.rest false ≡ BadFrame)) ⊎ ((0 < length l.waiting) × (standing_of l.phase ≡ Ended))
 
 -- what the next event of its first request takes from it
 abbrev pub asker_at : Config → Line → Asker

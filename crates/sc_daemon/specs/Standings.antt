@@ -9,7 +9,6 @@ use Rattle.sc_daemon_job.specs.Setups.{Config}
 use Rattle.sc_model.specs.declared.message.Request.{Request}
 use Rattle.sc_model.specs.declared.phase.Phase.{Phase}
 use Rattle.sc_model.specs.declared.phase.Phase.TheVariants.{AtBegin, AtEnded, AtOver, AtTake}
-use Rattle.sc_wire.specs.Requests.{AreServed}
 
 abbrev pub standing_of : Phase → Standing
 standing_of (AtTake work) = Takes
@@ -23,14 +22,10 @@ abbrev pub RestsAt : Config → (ℕ → DiskStore) → Phase → Option AddEntr
 RestsAt k d (AtEnded left) entry r = entry ≡ None
 RestsAt k d p entry r = ServesWith k d p entry r
 
--- where the first of these requests may stand; where there is none, the next begins
-abbrev pub FirstRests : Config → (ℕ → DiskStore) → Phase → Option AddEntry → List Request → Type 0
-FirstRests k d p entry [] = (p ≡ AtBegin) × (entry ≡ None)
-FirstRests k d p entry (r ∷ rs) = RestsAt k d p entry r
-
--- requests that wait, each of them served, and the first at this phase
+-- requests that wait, the first at this phase; where there is none, the next begins
 abbrev pub Rests : Config → (ℕ → DiskStore) → Phase → Option AddEntry → List Request → Type 0
-Rests k d p entry waiting = FirstRests k d p entry waiting × AreServed waiting
+Rests k d p entry [] = (p ≡ AtBegin) × (entry ≡ None)
+Rests k d p entry (r ∷ rs) = RestsAt k d p entry r
 
 -- where a connection's first request stands after a phase: behind one that is over the next begins
 abbrev pub settled : Phase → Phase

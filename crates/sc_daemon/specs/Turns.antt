@@ -20,15 +20,13 @@ use Rattle.sc_model.specs.declared.event.What.{What}
 use Rattle.sc_model.specs.declared.message.Request.{Request}
 use Rattle.sc_model.specs.declared.phase.Phase.TheVariants.{AtOver}
 use Rattle.sc_model.specs.There.{AreHanded, handed_in}
-use Rattle.sc_wire.specs.Requests.{AreServed}
-use Rattle.sc_wire.specs.Streams.{served_reader}
+use Rattle.sc_wire.specs.Streams.{request_reader}
 
 -- more bytes came
 pub record TakesMore (bytes : List ℕ) (old new : Line) : Type 0 where
   pub same : new ≡ record old { waiting = new.waiting; rest = new.rest; got = new.got }
-  pub requests : new.waiting ≡ old.waiting ++ (served_reader old.limit).requests (old.rest ++ bytes)
-  pub served : AreServed old.waiting → AreServed new.waiting
-  pub rest : new.rest ≡ (served_reader old.limit).rest (old.rest ++ bytes)
+  pub requests : new.waiting ≡ old.waiting ++ (request_reader old.limit).requests (old.rest ++ bytes)
+  pub rest : new.rest ≡ (request_reader old.limit).rest (old.rest ++ bytes)
   pub got : new.got ≡ old.got + length bytes
 
 -- a step of reading at most n bytes

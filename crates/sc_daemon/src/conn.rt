@@ -9,7 +9,7 @@ ghost use Rattle.sc_daemon.specs.Turns.{ActsFirst_or_none, IsIdleLine, MovesFirs
 ghost use Rattle.sc_daemon.specs.declared.standing.Standing.TheVariants.{Ended, Takes};
 ghost use Rattle.sc_model.specs.Conns.{current, long_after, outcome_after, reserved_after, settle};
 ghost use Rattle.sc_model.specs.Trace.{if_too_long};
-ghost use Rattle.sc_wire.specs.Streams.{served_reader};
+ghost use Rattle.sc_wire.specs.Streams.{request_reader};
 
 use crate::reading::Reading;
 use crate::standing::{Standing, standing_at};
@@ -304,7 +304,7 @@ impl Conn {
 
     /// What the connection has come to.
     pub fn end(&self) -> End
-        ensures { end_of result ≡ if_too_long self.now.long ((served_reader self.now.limit).ends self.now.rest self.now.closed) }
+        ensures { end_of result ≡ if_too_long self.now.long ((request_reader self.now.limit).ends self.now.rest self.now.closed) }
     {
         match self.long {
             Some(size) => End::ReplyTooLong(size),

@@ -59,7 +59,7 @@ impl<P: Parts> Hold for Daemon<P> {
     ghost use Rattle.std.specs.Prelude.{refl};
     ghost use Rattle.sc_daemon.specs.Moving.{KeptMoves};
     ghost use Rattle.sc_daemon_owned.specs.Facts.{config_of};
-    ghost use Rattle.sc_daemon_owned.specs.Laws.{planned_levels, reserves_rooms, still_rooms, tells_same};
+    ghost use Rattle.sc_daemon_owned.specs.Laws.{planned_levels, pre_planned_levels, reserves_rooms, still_rooms, tells_same};
     ghost use Rattle.sc_daemon_owned.specs.State.{disk_at};
 
     ghost config = { λ d. config_of d.state.config };
@@ -79,6 +79,8 @@ impl<P: Parts> Hold for Daemon<P> {
     ghost spells = { λ d. refl };
 
     ghost planned = { λ d. planned_levels d.state };
+
+    ghost pre_planned = { λ d. pre_planned_levels d.state };
 
     fn now(&self) -> u64 {
         self.owned.now()
@@ -130,6 +132,14 @@ impl<P: Parts> Hold for Daemon<P> {
 
     fn kind(&self, level: u64) -> LevelKind {
         self.owned.kind(level)
+    }
+
+    fn pre_plan(&self, alloc: Global) -> Result<Queue<u64>, NoMemory> {
+        self.owned.pre_plan(alloc)
+    }
+
+    fn has_paths(&self) -> bool {
+        self.owned.has_paths()
     }
 
     fn tick(&mut self) {}
@@ -271,6 +281,20 @@ impl<P: Parts> Hold for Daemon<P> {
         let written = self.owned.write(alloc, level, bytes)?;
         let now = self.owned.now();
         let row = wrote_row(alloc, since.origin, since.last, now, Mode::Whole, written);
+        self.count(level, &row);
+        Ok(written)
+    }
+
+    fn write_pre(
+        &mut self,
+        alloc: Global,
+        level: u64,
+        bytes: &Bytes,
+        since: Since,
+    ) -> Result<Written, NoMemory> {
+        let written = self.owned.write_pre(level, bytes)?;
+        let now = self.owned.now();
+        let row = wrote_row(alloc, since.origin, since.last, now, Mode::Pre, written);
         self.count(level, &row);
         Ok(written)
     }

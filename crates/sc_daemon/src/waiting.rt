@@ -1,8 +1,7 @@
 //! The requests of a connection that are whole and not yet over.
 ghost use Rattle.std.specs.Prelude.{◌≡◌, ◌↔◌, ◌+◌, ◌<◌, ◌≤◌, ◌^◌, ◌++◌, [], length, drop, option_map, IsTrue, OnOk, OnErr};
 ghost use Rattle.sc_daemon.specs.Lines.{IsFirst, first_of, listed};
-ghost use Rattle.sc_wire.specs.Requests.{AreServed};
-ghost use Rattle.sc_wire.specs.Streams.{served_reader};
+ghost use Rattle.sc_wire.specs.Streams.{request_reader};
 
 use sc_entry::{NoMemory, Queue};
 use sc_model::Request;
@@ -75,14 +74,12 @@ impl Waiting {
     }
 
     /// Takes a piece of the connection's stream, and the requests that are whole by then.
-    #[tactic(auto, using(crate::proofs::Firsts::take_served))]
     pub fn take(&mut self, alloc: Global, inbox: &mut Inbox, piece: &[u8]) -> Result<(), NoMemory>
         requires { inbox.old.got + length piece.now < 2 ^ 64 }
-        ensures requests { OnOk result (self.new ≡ self.old ++ (served_reader inbox.old.limit).requests (inbox.old.rest ++ piece.now)) }
-        ensures rest { OnOk result (inbox.new.rest ≡ (served_reader inbox.old.limit).rest (inbox.old.rest ++ piece.now)) }
+        ensures requests { OnOk result (self.new ≡ self.old ++ (request_reader inbox.old.limit).requests (inbox.old.rest ++ piece.now)) }
+        ensures rest { OnOk result (inbox.new.rest ≡ (request_reader inbox.old.limit).rest (inbox.old.rest ++ piece.now)) }
         ensures got { OnOk result (inbox.new.got ≡ inbox.old.got + length piece.now) }
         ensures room { OnOk result (length self.new + length inbox.new.rest ≤ length self.old + length inbox.old.rest + length piece.now) }
-        ensures served { OnOk result (AreServed self.old → AreServed self.new) }
         ensures closed { OnOk result (inbox.new.closed ≡ inbox.old.closed) }
         ensures limit { OnOk result (inbox.new.limit ≡ inbox.old.limit) }
         ensures err { OnErr result (inbox.new ≡ record inbox.old { rest = [] }) }

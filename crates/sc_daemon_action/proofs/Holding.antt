@@ -46,7 +46,7 @@ module _ (l : ℕ) (old new : ℕ → DiskStore) (away : Elsewhere l old new) wh
   keeps_at held here m n o other at = by_number m l
       (λ same. subst (λ (k : ℕ). entry_at (new k).entries n ≡ Some o) (sym same)
       (here n o (λ is. other (subst (λ (k : ℕ). IsHand held k n) (sym same) is)) (subst (λ (k : ℕ). entry_at (old k).entries n ≡ Some o) same at)))
-      (λ apart. ap (λ es. entry_at es n) ((away m apart).1) ∙ at)
+      (λ apart. (away m apart).1 n ∙ at)
 
   opens_here : (path : List ℕ) (size : ℕ) (how : Reservation) → OpensBy path size how (old l) (new l) → (n : ℕ) (o : OpenEntry) → entry_at (old l).entries n ≡ Some o → entry_at (new l).entries n ≡ Some o
   opens_here path size (Open e) h n o at = by_number n e.number
@@ -89,7 +89,7 @@ fills_hold s t e f b same held h = subst (λ (x : AddEntry). Holds t x b b.bytes
 
 -- an event that opens, fills and closes no entry keeps each
 pub still_keeps : (held : Option Hand) (old new : ℕ → DiskStore) → ((l : ℕ) → SameRoom (old l) (new l)) → KeepsHands held old new
-still_keeps held old new same l n o other at = ap (λ es. entry_at es n) ((same l).1) ∙ at
+still_keeps held old new same l n o other at = (same l).1 n ∙ at
 
 pub still_none : (x : What) → IsStill x → OpensNone x
 still_none Idle still = tt

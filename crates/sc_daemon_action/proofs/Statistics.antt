@@ -11,12 +11,6 @@ use Rattle.sc_model.specs.declared.message.Request.{Request}
 use Rattle.sc_model.specs.declared.message.Request.TheVariants.{GetStats, Shutdown}
 use Rattle.sc_model.specs.declared.phase.Phase.TheVariants.{AtSend, SizeAsk}
 use Rattle.sc_stats.specs.declared.counters.ServerStats.{ServerStats}
-use Rattle.sc_wire.specs.Requests.{IsServed}
-
-pub tells_served : (r : Request) → TellsStatistics r → IsServed r
-tells_served GetStats tells = tt
-tells_served Shutdown tells = tt
-tells_served _ tells = absurd tells
 
 pub tells_begins : (s : Setup) (r : Request) (stats : ServerStats) → TellsStatistics r → Begins s r (TellsStats stats)
 tells_begins s GetStats stats tells = tt

@@ -11,12 +11,14 @@ ghost use Rattle.sc_daemon_job.specs.Setups.{setup};
 ghost use Rattle.sc_daemon_job.specs.declared.since.Since.{Since as Moments};
 ghost use Rattle.sc_model.specs.Conns.{need_at};
 ghost use Rattle.sc_model.specs.Trace.{sent_by};
-ghost use Rattle.sc_model.specs.declared.message.Request.TheVariants.{Compile as CompileOf, StorageGetRaw, StoragePutRaw};
+ghost use Rattle.sc_model.specs.declared.message.Request.TheVariants.{Compile as CompileOf, StorageGetPath, StorageGetPreprocessorEntry as GetPre, StorageGetRaw, StoragePutPreprocessorEntry as PutPre, StoragePutRaw};
 ghost use Rattle.sc_model.specs.declared.message.Request.TheVariants as requests;
 
 use crate::acted::{Acted, Action, holding_none};
 use crate::early::{act_begin, act_key};
 use crate::lookup::{act_ask, act_place};
+use crate::paths::{act_begin_path, act_path_ask};
+use crate::preprocessor::{act_begin_get_pre, act_begin_put_pre, act_pre_ask, act_pre_put};
 use crate::raw::{act_begin_get, act_begin_put, act_raw_ask};
 use crate::running::{act_dist, act_run, act_take};
 use crate::sending::{act_finish, act_send, act_started};
@@ -111,6 +113,81 @@ fn act_put_raw<H: Hold>(
 {
     match phase {
         Phase::AtBegin => act_begin_put(alloc, hold, key, put),
+        Phase::AtSend(reply) => act_send(alloc, hold, reply, out),
+        _ => unreachable!(),
+    }
+}
+
+/// Does the action that is due of a request for the path of an entry.
+fn act_get_path<H: Hold>(
+    alloc: Global,
+    hold: &mut H,
+    key: &Text,
+    phase: Phase,
+    out: &mut Vec<u8>,
+    since: Since,
+) -> Result<Acted, NoMemory>
+    requires serves { Serves (H.config hold.old) phase (StorageGetPath key.now) }
+    requires plain { writes phase ≡ false }
+    ensures acts { IfOk result (λ a. Acts (H.config hold.old) (StorageGetPath key.now) phase (H.moment hold.new) a) }
+    ensures moves { IfOk result (λ a. H.moves hold.old (asker since (need_at (setup (H.config hold.old)) (StorageGetPath key.now) phase) (StorageGetPath key.now)) a.what hold.new) }
+    ensures same { IfOk result (λ a. H.config hold.new ≡ H.config hold.old) }
+    ensures sent { IfOk result (λ a. Adds (H.config hold.old) (sent_by a.what) out.old.items out.new.items) }
+{
+    match phase {
+        Phase::AtBegin => act_begin_path(alloc, hold, key),
+        Phase::PathAsk(wanted) => act_path_ask(alloc, hold, key, wanted, since),
+        Phase::AtSend(reply) => act_send(alloc, hold, reply, out),
+        _ => unreachable!(),
+    }
+}
+
+/// Does the action that is due of a request for an entry of the preprocessor.
+fn act_get_pre<H: Hold>(
+    alloc: Global,
+    hold: &mut H,
+    key: &Text,
+    phase: Phase,
+    out: &mut Vec<u8>,
+    since: Since,
+) -> Result<Acted, NoMemory>
+    requires serves { Serves (H.config hold.old) phase (GetPre key.now) }
+    requires plain { writes phase ≡ false }
+    ensures acts { IfOk result (λ a. Acts (H.config hold.old) (GetPre key.now) phase (H.moment hold.new) a) }
+    ensures moves { IfOk result (λ a. H.moves hold.old (asker since (need_at (setup (H.config hold.old)) (GetPre key.now) phase) (GetPre key.now)) a.what hold.new) }
+    ensures same { IfOk result (λ a. H.config hold.new ≡ H.config hold.old) }
+    ensures sent { IfOk result (λ a. Adds (H.config hold.old) (sent_by a.what) out.old.items out.new.items) }
+{
+    match phase {
+        Phase::AtBegin => act_begin_get_pre(alloc, hold, key),
+        Phase::PreAsk(level, wanted) => act_pre_ask(alloc, hold, key, level, wanted, since),
+        Phase::AtSend(reply) => act_send(alloc, hold, reply, out),
+        _ => unreachable!(),
+    }
+}
+
+/// Does the action that is due of a put of an entry of the preprocessor.
+fn act_put_pre<H: Hold>(
+    alloc: Global,
+    hold: &mut H,
+    key: &Text,
+    put: &ByteText,
+    phase: Phase,
+    out: &mut Vec<u8>,
+    since: Since,
+) -> Result<Acted, NoMemory>
+    requires serves { Serves (H.config hold.old) phase (PutPre key.now put.now) }
+    requires plain { writes phase ≡ false }
+    ensures acts { IfOk result (λ a. Acts (H.config hold.old) (PutPre key.now put.now) phase (H.moment hold.new) a) }
+    ensures moves { IfOk result (λ a. H.moves hold.old (asker since (need_at (setup (H.config hold.old)) (PutPre key.now put.now) phase) (PutPre key.now put.now)) a.what hold.new) }
+    ensures same { IfOk result (λ a. H.config hold.new ≡ H.config hold.old) }
+    ensures sent { IfOk result (λ a. Adds (H.config hold.old) (sent_by a.what) out.old.items out.new.items) }
+{
+    match phase {
+        Phase::AtBegin => act_begin_put_pre(alloc, hold, key, put),
+        Phase::PrePut(bytes, levels, refusal) => {
+            act_pre_put(alloc, hold, bytes, levels, refusal, out, since)
+        }
         Phase::AtSend(reply) => act_send(alloc, hold, reply, out),
         _ => unreachable!(),
     }
@@ -248,7 +325,13 @@ fn act_plain<H: Hold>(
         Request::RecordStats(delta) => act_record_stats(alloc, hold, delta, phase, out),
         Request::StorageHandshake => act_storage_handshake(alloc, hold, phase, out),
         Request::DistStatus => act_told_dist(alloc, hold, phase, out),
-        _ => unreachable!(),
+        Request::StorageGetPath(key) => act_get_path(alloc, hold, key, phase, out, since),
+        Request::StorageGetPreprocessorEntry(key) => {
+            act_get_pre(alloc, hold, key, phase, out, since)
+        }
+        Request::StoragePutPreprocessorEntry(key, bytes) => {
+            act_put_pre(alloc, hold, key, bytes, phase, out, since)
+        }
     }
 }
 

@@ -8,6 +8,8 @@ mod dispatch;
 mod early;
 mod entries;
 mod lookup;
+mod paths;
+mod preprocessor;
 mod raw;
 mod running;
 mod sending;

@@ -36,7 +36,7 @@ fn add_frame(
 }
 
 /// Sends a reply. One whose payload is over the limit isn't sent: the answer is its length.
-fn send<H: Hold>(
+pub(crate) fn send<H: Hold>(
     alloc: Global,
     hold: &H,
     reply: &Response,
@@ -49,7 +49,7 @@ fn send<H: Hold>(
 }
 
 /// A reply alone.
-fn alone(alloc: Global, reply: Response) -> Result<Items<Response>, NoMemory>
+pub(crate) fn alone(alloc: Global, reply: Response) -> Result<Items<Response>, NoMemory>
     ensures { IfOk result (λ left. left ≡ reply ∷ []) }
 {
     let mut left = Items::new(alloc);

@@ -262,7 +262,6 @@ fn stats_reply(request: &Request, info: ServerInfo) -> Response
 }
 
 /// Where a request for statistics goes on: to its next level's size, or to its reply after the last.
-#[tactic(auto, using(crate::proofs::Statistics::tells_served))]
 fn next_size<H: Hold>(
     alloc: Global,
     hold: &H,

@@ -1,9 +1,11 @@
 //! What a put's refusal is told as.
 ghost use Rattle.std.specs.Prelude.{◌≡◌, ◌++◌, IfOk, codes, decimal, string_bytes};
 ghost use Rattle.sc_model.specs.Plan as plans;
+ghost use Rattle.sc_model.specs.Script.{is_single};
+ghost use Rattle.sc_model.specs.declared.level.Policy.{Policy as PolicyType};
 
 use sc_entry::{NoMemory, Text};
-use sc_model::{Cause, Put, RemoteFault, Store};
+use sc_model::{Cause, Put, Refusal, RemoteFault, Store};
 use std::alloc::Global;
 
 fn remote_text(fault: RemoteFault) -> &'static str
@@ -84,5 +86,34 @@ pub fn put_result(alloc: Global, put: &Put) -> Result<Result<(), Text>, NoMemory
             let text = Text::from_str(alloc, "No cache levels configured")?;
             Ok(Err(text))
         }
+    }
+}
+
+/// The text of a refusal.
+pub fn refusal_text(alloc: Global, cause: Cause) -> Result<Text, NoMemory>
+    ensures { IfOk result (λ text. text ≡ plans.cause_text cause) }
+{
+    let text = cause_text(alloc, cause)?;
+    Ok(Text::from_string(text))
+}
+
+/// What a put of a preprocessor entry is answered: the text of its refusal, where one store stands alone. Those of levels are
+/// passed over.
+pub fn pre_put_result(
+    alloc: Global,
+    single: bool,
+    refusal: Refusal,
+) -> Result<Result<(), Text>, NoMemory>
+    ensures { IfOk result (λ told. (p : PolicyType) → is_single p ≡ single → told ≡ plans.pre_put_result p refusal) }
+{
+    match refusal {
+        Refusal::At(_, cause) => {
+            if !single {
+                return Ok(Ok(()));
+            }
+            let text = refusal_text(alloc, cause)?;
+            Ok(Err(text))
+        }
+        Refusal::NoneYet => Ok(Ok(())),
     }
 }

@@ -33,9 +33,9 @@ abbrev pub filled_of : Filling → Written
 filled_of (Filled_on e) = Done
 filled_of (NotFilled c) = Refused c
 
--- nothing was opened or closed at a level
+-- nothing was opened or closed at a level: the same is reserved, and each number has the same entry
 abbrev pub SameRoom : DiskStore → DiskStore → Type 0
-SameRoom old new = (new.reserved ≡ old.reserved) × (new.entries ≡ old.entries)
+SameRoom old new = (new.reserved ≡ old.reserved) × ((number : ℕ) → entry_at new.entries number ≡ entry_at old.entries number)
 
 -- nor at any level but this one
 abbrev pub Elsewhere : ℕ → (ℕ → DiskStore) → (ℕ → DiskStore) → Type 0

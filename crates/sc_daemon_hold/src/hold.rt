@@ -12,15 +12,15 @@ ghost use Rattle.sc_daemon_job.specs.Askers.{Asker, asker, is_compile};
 ghost use Rattle.sc_daemon_job.specs.Setups.{Config, setup};
 ghost use Rattle.sc_model.specs.Collected.{GoodAnswer};
 ghost use Rattle.sc_model.specs.Describing.{all_read_only, mode_of};
-ghost use Rattle.sc_model.specs.Dues.{kind_at};
-ghost use Rattle.sc_model.specs.Plan.{backfills, handed_by, is_none, plan, put_answer};
+ghost use Rattle.sc_model.specs.Dues.{is_disk_alone, kind_at};
+ghost use Rattle.sc_model.specs.Plan.{backfills, handed_by, is_none, plan, pre_plan, put_answer};
 ghost use Rattle.sc_model.specs.Script.{is_single};
 ghost use Rattle.sc_model.specs.World.{Need, keys_of};
 ghost use Rattle.sc_model.specs.declared.event.What.{What};
 ghost use Rattle.sc_model.specs.declared.event.What.TheVariants.{Asked as AskedEvent, Began, Committed, Dist, Filled, Keyed, Outcome, Placed, Ran, Reserved, TokenTaken, WriteEnded, Wrote};
 ghost use Rattle.sc_model.specs.declared.event.Answer.TheVariants.{Size as SizeIs};
 ghost use Rattle.sc_model.specs.declared.event.Told.TheVariants.{Compile as TellsCompile, Dist as TellsDist, Stats as TellsStats};
-ghost use Rattle.sc_model.specs.declared.event.Mode.TheVariants.{Path, Size as SizeMode, Whole};
+ghost use Rattle.sc_model.specs.declared.event.Mode.TheVariants.{Path, Pre, Size as SizeMode, Whole};
 ghost use Rattle.sc_wire.specs.Responses.{payload};
 ghost use Rattle.sc_model.specs.declared.level.LevelKind.TheVariants.{Disk, Remote};
 ghost use Rattle.sc_model.specs.declared.message.Request.{Request as Asks};
@@ -125,6 +125,14 @@ pub trait Hold {
     fn plan(&self, alloc: Global) -> Result<Queue<u64>, NoMemory>
         ensures { IfOk result (λ levels. levels ≡ plan (config self.now).policy (config self.now).levels) };
 
+    /// The levels that take a preprocessor entry.
+    fn pre_plan(&self, alloc: Global) -> Result<Queue<u64>, NoMemory>
+        ensures { IfOk result (λ levels. levels ≡ pre_plan (config self.now).policy (config self.now).levels) };
+
+    /// Whether it tells paths of entries: its one store is a disk store that is not only read.
+    fn has_paths(&self) -> bool
+        ensures { result ≡ is_disk_alone (config self.now).policy (config self.now).levels };
+
     /// The end of an action that calls nothing.
     fn tick(&mut self)
         ensures moves { (n : Asker) (what : What) → IsTick what → moves self.old n what self.new }
@@ -217,7 +225,7 @@ pub trait Hold {
         ensures moves { IfOk result (λ placing. (n : Asker) → n.need.key ≡ key.now → n.need.outputs ≡ outputs.now → n.need.hit ≡ entry.now → moves self.old n (Placed placing) self.new) }
         ensures same { IfOk result (λ placing. config self.new ≡ config self.old) };
 
-    /// Asks a level, but for its size. Paths are asked for by a call of their own. The writes that it hands on are queued.
+    /// Asks a level, but for its size; a disk level alone for a path. The writes that it hands on are queued.
     fn ask(
         &mut self,
         alloc: Global,
@@ -227,7 +235,7 @@ pub trait Hold {
         since: Since,
     ) -> Result<Lookup, NoMemory>
         requires level { level < length (config self.old).levels }
-        requires mode { mode ≢ Path }
+        requires path { mode ≡ Path → kind_at (config self.old).levels level ≡ Disk }
         requires counted { mode ≢ SizeMode }
         ensures moves { IfOk result (λ lookup. (n : Need) (r : Asks) → moves self.old (asker since n r) (AskedEvent level key.now mode lookup.answer lookup.handed) self.new) }
         ensures handed { IfOk result (λ lookup. lookup.handed ≡ backfills (config self.old).policy (config self.old).levels level key.now mode lookup.answer) }
@@ -251,6 +259,18 @@ pub trait Hold {
         requires level { level < length (config self.old).levels }
         requires remote { kind_at (config self.old).levels level ≡ Remote }
         ensures moves { IfOk result (λ written. (n : Need) (r : Asks) → moves self.old (asker since n r) (Wrote level bytes.now.key bytes.now.bytes Whole bytes.now.run written) self.new) }
+        ensures same { IfOk result (λ written. config self.new ≡ config self.old) };
+
+    /// Puts a preprocessor entry at a level. A remote level keeps none.
+    fn write_pre(
+        &mut self,
+        alloc: Global,
+        level: u64,
+        bytes: &Bytes,
+        since: Since,
+    ) -> Result<Written, NoMemory>
+        requires level { level < length (config self.old).levels }
+        ensures moves { IfOk result (λ written. (n : Need) (r : Asks) → moves self.old (asker since n r) (Wrote level bytes.now.key bytes.now.bytes Pre bytes.now.run written) self.new) }
         ensures same { IfOk result (λ written. config self.new ≡ config self.old) };
 
     /// What kind of store a level is.
@@ -323,4 +343,7 @@ pub trait Hold {
 
     /// The levels that a write goes to are there.
     ghost planned: { (hold : Self) → AreLevels (length (config hold).levels) (plan (config hold).policy (config hold).levels) };
+
+    /// So are those that a preprocessor entry goes to.
+    ghost pre_planned: { (hold : Self) → AreLevels (length (config hold).levels) (pre_plan (config hold).policy (config hold).levels) };
 }

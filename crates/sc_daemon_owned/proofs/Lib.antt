@@ -1,3 +1,4 @@
+pub mod Alone
 pub mod Distributing
 pub mod Finding
 pub mod Making

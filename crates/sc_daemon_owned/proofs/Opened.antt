@@ -5,7 +5,7 @@ use Rattle.sc_disk.specs.Store.{AddEntry}
 use Rattle.sc_store_disk.specs.DiskStores.{DiskStore, OpenEntry, entry_at, entry_path}
 use Rattle.sc_store_disk.specs.Entries.{ClosesEntry, CommitsEntry, CommitsFile, FillsBy, IsOpenAt}
 use Rattle.sc_store_disk.specs.Marks.{filled_by}
-use Rattle.sc_store_disk.specs.Moving.{OpensBy, ReserveCause, written_of as reserved_of}
+use Rattle.sc_store_disk.specs.Moving.{OpensBy, ReserveCause, SameEntries, written_of as reserved_of}
 use Rattle.sc_store_disk.specs.declared.filling.Filling.{Filling}
 use Rattle.sc_store_disk.specs.declared.filling.Filling.TheVariants.{Filled as StillOpen, Refused as NotFilled}
 use Rattle.sc_store_disk.specs.declared.reserving.Reservation.{Reservation}
@@ -19,8 +19,9 @@ use Rattle.sc_model.specs.Levels.{Later, Level}
 use Rattle.sc_model.specs.World.{Need, World}
 use Rattle.sc_model.specs.WriteCauses.{causes, or_cause, read_only_store, refuses_writes, room_cause}
 use Rattle.sc_model.specs.Writing.{Commits, Fills}
+use Rattle.sc_model.specs.declared.event.Mode.TheVariants.{Pre}
 use Rattle.sc_model.specs.declared.event.What.{What}
-use Rattle.sc_model.specs.declared.event.What.TheVariants.{Committed, Filled, Reserved}
+use Rattle.sc_model.specs.declared.event.What.TheVariants.{Committed, Filled, Reserved, Wrote}
 use Rattle.sc_model.specs.declared.event.Written.{Written}
 use Rattle.sc_model.specs.declared.event.Written.TheVariants.{Done, Refused}
 use Rattle.sc_model.specs.declared.level.Cause.{Cause}
@@ -30,10 +31,10 @@ use Rattle.sc_model.specs.declared.level.LevelKind.{LevelKind}
 use Rattle.sc_model.specs.declared.level.LevelKind.TheVariants.{Disk}
 use Rattle.sc_model.specs.declared.level.Policy.{Policy}
 use Rattle.sc_model.specs.declared.phase.Bytes.{Bytes}
-use Rattle.sc_daemon_owned.specs.Moving.{MovesWorld}
+use Rattle.sc_daemon_owned.specs.Moving.{MovesWorld, SameRooms}
 use Rattle.sc_daemon_owned.specs.State.{State, disk_at, reserved_in}
 use Rattle.sc_store.proofs.Alone.{other_set}
-use Rattle.sc_store.specs.Asking.{ReservesDisk}
+use Rattle.sc_store.specs.Asking.{PutsPre, ReservesDisk}
 use Rattle.sc_store.specs.Held.{Held, Room, disk_in, level_in, no_room, room_in}
 
 -- One level and what is open there moved, and no other.
@@ -47,7 +48,7 @@ pub record AtLevel (o : State) (after : Held) (l : ℕ) : Type 0 where
 -- how a state moves to what is told, held and open
 abbrev pub MovesOpen : State → Need → What → Bool → World → List Room → Type 0
 MovesOpen o n x told w rooms =
-    (told ≡ o.told) × MovesWorld (setup (config_of o.config)) n (reserved_in o) o.told x o.world w × (OpensNone x → rooms ≡ o.rooms) × ReservesBy x (reserved_in o) (λ l. (room_in rooms l).reserved)
+    (told ≡ o.told) × MovesWorld (setup (config_of o.config)) n (reserved_in o) o.told x o.world w × (OpensNone x → SameRooms o.rooms rooms) × ReservesBy x (reserved_in o) (λ l. (room_in rooms l).reserved)
 
 never : false ≡ true → ⊥
 never e = absurd (cc)
@@ -62,10 +63,32 @@ every l f g at apart m = (elim (m == l) as (λ t. (m == l) ≡ t → g m ≡ f m
 ]) refl
 
 -- the other levels
-pub elsewhere : (o now : State) (after : Held) (l : ℕ) → o ≡ now → AtLevel o after l → (m : ℕ) → m ≢ l → ((room_in after.rooms m).reserved ≡ (room_in now.rooms m).reserved) × ((room_in after.rooms m).entries ≡ (room_in now.rooms m).entries)
+pub elsewhere : (o now : State) (after : Held) (l : ℕ) → o ≡ now → AtLevel o after l → (m : ℕ) → m ≢ l → ((room_in after.rooms m).reserved ≡ (room_in now.rooms m).reserved) × ((number : ℕ) → entry_at (room_in after.rooms m).entries number ≡ entry_at (room_in now.rooms m).entries number)
 elsewhere o now after l is at m apart =
     let same = rooms_apart o after l m at apart ∙ ap (λ (s : State). room_in s.rooms m) is in
-    (ap (λ r. r.reserved) same, ap (λ r. r.entries) same)
+    (ap (λ r. r.reserved) same, λ number. ap (λ r. entry_at r.entries number) same)
+
+-- what is open stays at each level where it stays at the one that moved
+same_rooms : (o : State) (after : Held) (l : ℕ) → AtLevel o after l → SameEntries (disk_at o l) (disk_in after l) → SameRooms o.rooms after.rooms
+same_rooms o after l at same m = (elim (m == l) as (λ t. (m == l) ≡ t → ((room_in after.rooms m).reserved ≡ (room_in o.rooms m).reserved) × ((number : ℕ) → entry_at (room_in after.rooms m).entries number ≡ entry_at (room_in o.rooms m).entries number)) [
+  | true ↦ λ e. subst (λ (k : ℕ). ((room_in after.rooms k).reserved ≡ (room_in o.rooms k).reserved) × ((number : ℕ) → entry_at (room_in after.rooms k).entries number ≡ entry_at (room_in o.rooms k).entries number)) (sym (eqb-true m l e)) (same.reserved, same.entries)
+  | false ↦ λ e. let apart = rooms_apart o after l m at (λ is. never (sym e ∙ eq-eqb m l is)) in (ap (λ r. r.reserved) apart, λ number. ap (λ r. entry_at r.entries number) apart)
+]) refl
+
+-- A preprocessor entry was put, or not.
+wrote_pre_of_state : (o : State) (after : Held) (l : ℕ) (key bytes : List ℕ) (run : Bool) (how : Written) (n : Need) → AtLevel o after l → PutsPre o.config.policy key bytes how (disk_at o l) (disk_in after l) → SameEntries (disk_at o l) (disk_in after l)
+    → MovesOpen o n (Wrote l key bytes Pre run how) after.told (record o.world { levels = after.levels }) after.rooms
+wrote_pre_of_state o after l key bytes run how n at put same = (
+  at.told,
+  record { moment = refl; levels = λ told. (level_in after.levels l, (at.later, put told), at.levels); shop = (refl, refl, refl); dist = (refl, (refl, refl)) },
+  λ none. same_rooms o after l at same,
+  λ m. (same_rooms o after l at same m).0,
+)
+
+pub wrote_pre : (o now : State) (after : Held) (l : ℕ) (key bytes : List ℕ) (run : Bool) (how : Written) (n : Need) → o ≡ now → AtLevel o after l → PutsPre o.config.policy key bytes how (disk_at o l) (disk_in after l) → SameEntries (disk_at o l) (disk_in after l)
+    → MovesOpen now n (Wrote l key bytes Pre run how) after.told (record o.world { levels = after.levels }) after.rooms
+wrote_pre o now after l key bytes run how n is at put same =
+    subst (λ (s : State). MovesOpen s n (Wrote l key bytes Pre run how) after.told (record o.world { levels = after.levels }) after.rooms) is (wrote_pre_of_state o after l key bytes run how n at put same)
 
 -- An entry was opened, or not.
 opened_reserves : (o : State) (after : Held) (l : ℕ) (key : List ℕ) (size : ℕ) (how : Reservation) → AtLevel o after l → OpensBy (entry_path key) size how (disk_at o l) (disk_in after l)

@@ -1,5 +1,5 @@
 -- How a state moves by what its parts did.
-use Rattle.std.proofs.Common.{◌≡◌, ◌≢◌, ℕ, ◌≤◌, Bool, IsTrue, List, [], Option, Some, None, refl, ap, sym, subst, ◌∙◌, option_map}
+use Rattle.std.proofs.Common.{◌≡◌, ℕ, ◌≤◌, Bool, IsTrue, List, [], Option, Some, None, refl, ap, sym, subst, ◌∙◌, option_map}
 use Rattle.sc_compile.specs.Answers.{Runs, told_answer}
 use Rattle.sc_compile.specs.Placings.{Places, told_refusal}
 use Rattle.sc_entry.specs.Causes.{IfTold}
@@ -24,17 +24,20 @@ use Rattle.sc_model.specs.declared.event.Written.{Written}
 use Rattle.sc_model.specs.declared.level.Handed.{Handed}
 use Rattle.sc_model.specs.declared.level.LevelKind.{LevelKind}
 use Rattle.sc_model.specs.declared.level.LevelKind.TheVariants.{Disk, Remote}
-use Rattle.sc_daemon_owned.specs.Moving.{MovesWorld, placing_of, size_in}
+use Rattle.sc_daemon_owned.specs.Moving.{MovesWorld, SameRooms, placing_of, size_in}
 use Rattle.sc_daemon_owned.specs.State.{State, reserved_in}
 use Rattle.sc_store.specs.Asking.{AsksAt, PutsAt, has_mode}
 use Rattle.sc_stats.specs.declared.counters.LevelStats.{LevelStats}
 use Rattle.sc_store.specs.Held.{Held, Room, level_in, room_in}
 
-any_mode : (kind : LevelKind) (mode : Mode) → mode ≢ Path → IsTrue (has_mode kind mode)
+not_disk : Remote ≡ Disk → ⊥
+not_disk e = absurd (cc)
+
+any_mode : (kind : LevelKind) (mode : Mode) → (mode ≡ Path → kind ≡ Disk) → IsTrue (has_mode kind mode)
 any_mode Disk mode h = refl
 any_mode Remote Whole h = refl
 any_mode Remote Raw h = refl
-any_mode Remote Path h = absurd (h refl)
+any_mode Remote Path h = absurd (not_disk (h refl))
 any_mode Remote Pre h = refl
 any_mode Remote Size h = refl
 
@@ -46,7 +49,7 @@ MovesTo o n x told w = (told ≡ o.told) × MovesWorld (setup (config_of o.confi
 abbrev pub held_in : State → Held
 held_in o = record { titles = []; facts = o.config.levels; policy = o.config.policy; told = o.told; levels = o.world.levels; rooms = o.rooms; marks = [] }
 
-asked_of : (o : State) (after : Held) (l : ℕ) (key : List ℕ) (mode : Mode) (a : Answer) (hs : List Handed) (n : Need) → mode ≢ Path → after.told ≡ o.told → AsksAt l key mode a (held_in o) after
+asked_of : (o : State) (after : Held) (l : ℕ) (key : List ℕ) (mode : Mode) (a : Answer) (hs : List Handed) (n : Need) → (mode ≡ Path → kind_at o.config.levels l ≡ Disk) → after.told ≡ o.told → AsksAt l key mode a (held_in o) after
     → MovesTo o n (Asked l key mode a hs) after.told (record o.world { levels = after.levels })
 asked_of o after l key mode a hs n path same asks = (
   same,
@@ -54,13 +57,13 @@ asked_of o after l key mode a hs n path same asks = (
 )
 
 -- a level was asked
-pub asked : (o now : State) (after : Held) (l : ℕ) (key : List ℕ) (mode : Mode) (a : Answer) (hs : List Handed) (n : Need) → o ≡ now → mode ≢ Path → after.told ≡ o.told → AsksAt l key mode a (held_in o) after
+pub asked : (o now : State) (after : Held) (l : ℕ) (key : List ℕ) (mode : Mode) (a : Answer) (hs : List Handed) (n : Need) → o ≡ now → (mode ≡ Path → kind_at now.config.levels l ≡ Disk) → after.told ≡ o.told → AsksAt l key mode a (held_in o) after
     → MovesTo now n (Asked l key mode a hs) after.told (record o.world { levels = after.levels })
 asked o now after l key mode a hs n is path same asks =
-    subst (λ (s : State). MovesTo s n (Asked l key mode a hs) after.told (record o.world { levels = after.levels })) is (asked_of o after l key mode a hs n path same asks)
+    subst (λ (s : State). MovesTo s n (Asked l key mode a hs) after.told (record o.world { levels = after.levels })) is (asked_of o after l key mode a hs n (subst (λ (s : State). mode ≡ Path → kind_at s.config.levels l ≡ Disk) (sym is) path) same asks)
 
-size_no_path : Size ≢ Path
-size_no_path e = absurd (cc)
+size_no_path : (kind : LevelKind) → Size ≡ Path → kind ≡ Disk
+size_no_path kind e = absurd (cc)
 
 -- a level that was asked for its size may tell whatever was counted
 opens_any : (kind : LevelKind) (z : Option ℕ) (c d : Option LevelStats) (v w : Level) → Opens_by kind Size (SizeIs z c) v w → Opens_by kind Size (SizeIs z d) v w
@@ -85,7 +88,7 @@ sized_of o after l a d n same asks = (
   same,
   record {
     moment = refl;
-    levels = λ told. let h = asks told (any_mode (kind_at o.config.levels l) Size size_no_path) in (h.0, sizes_of o h.0 l a d h.1, h.2);
+    levels = λ told. let h = asks told (any_mode (kind_at o.config.levels l) Size (size_no_path (kind_at o.config.levels l))) in (h.0, sizes_of o h.0 l a d h.1, h.2);
     shop = (refl, refl, refl);
     dist = (refl, (refl, refl));
   },
@@ -175,7 +178,7 @@ same_reserves (WriteEnded a b) r none = λ l. refl
 same_reserves (Sent a) r none = λ l. refl
 same_reserves (TooLong a) r none = λ l. refl
 
-pub still : (o now : State) (x : What) (rooms : List Room) → o ≡ now → OpensNone x → rooms ≡ o.rooms → (OpensNone x → rooms ≡ now.rooms) × ReservesBy x (reserved_in now) (λ l. (room_in rooms l).reserved)
+pub still : (o now : State) (x : What) (rooms : List Room) → o ≡ now → OpensNone x → rooms ≡ o.rooms → (OpensNone x → SameRooms now.rooms rooms) × ReservesBy x (reserved_in now) (λ l. (room_in rooms l).reserved)
 still o now x rooms is none same =
     let there : rooms ≡ now.rooms = same ∙ ap (λ (s : State). s.rooms) is in
-    (λ _. there, subst (λ (rs : List Room). ReservesBy x (reserved_in now) (λ l. (room_in rs l).reserved)) (sym there) (same_reserves x (reserved_in now) none))
+    (λ _. subst (λ (rs : List Room). SameRooms now.rooms rs) (sym there) (λ l. (refl, λ number. refl)), subst (λ (rs : List Room). ReservesBy x (reserved_in now) (λ l. (room_in rs l).reserved)) (sym there) (same_reserves x (reserved_in now) none))

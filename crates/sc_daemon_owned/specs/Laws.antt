@@ -5,7 +5,7 @@ use Rattle.sc_model.specs.There.{AreLevels}
 use Rattle.sc_daemon_hold.specs.Holding.{OpensNone, ReservesBy, SameRoom}
 use Rattle.sc_daemon_owned.specs.Quiet.{IsQuiet}
 use Rattle.sc_model.proofs.There.{levels_there}
-use Rattle.sc_model.specs.Plan.{is_required, plan}
+use Rattle.sc_model.specs.Plan.{is_required, plan, pre_plan, takes_writes}
 use Rattle.sc_model.specs.Script.{Setup, is_single}
 use Rattle.sc_model.specs.World.{Need, World}
 use Rattle.sc_model.specs.declared.event.Told.TheVariants.{Compile as TellsCompile, Dist as TellsDist, Handshake as TellsHandshake, Nothing as TellsNothing, Stats as TellsStats, Valid as TellsValid}
@@ -19,7 +19,6 @@ use Rattle.sc_daemon_job.specs.Setups.{setup}
 use Rattle.sc_daemon_owned.specs.Facts.{config_of}
 use Rattle.sc_daemon_owned.specs.Moving.{MovesWorld, OwnedMoves}
 use Rattle.sc_daemon_owned.specs.State.{State, disk_at, is_count, is_good, is_one, is_within, reserved_in}
-use Rattle.sc_store.specs.Held.{room_in}
 
 pub never : false ≡ true → ⊥
 never e = subst T (sym e) tt
@@ -62,6 +61,14 @@ one_level o is = one_count o.config.policy (length o.config.levels) (good_of o) 
 planned_there : (policy : Policy) (fs : List LevelFacts) → is_count policy (length fs) ≡ true → AreLevels (length fs) (plan policy fs)
 planned_there Single fs e = (let one = only_one (length fs) e in omega (arith, one), tt)
 planned_there (Levels ps) fs e = levels_there is_required 0 (length fs) ps fs (omega arith)
+
+pre_planned_there : (policy : Policy) (fs : List LevelFacts) → is_count policy (length fs) ≡ true → AreLevels (length fs) (pre_plan policy fs)
+pre_planned_there Single fs e = (let one = only_one (length fs) e in omega (arith, one), tt)
+pre_planned_there (Levels ps) fs e = levels_there takes_writes 0 (length fs) ps fs (omega arith)
+
+-- the levels that a preprocessor entry goes to are there
+pub pre_planned_levels : (o : State) → AreLevels (length o.config.levels) (pre_plan o.config.policy o.config.levels)
+pre_planned_levels o = pre_planned_there o.config.policy o.config.levels (good_of o)
 
 -- the levels that a write goes to are there
 pub planned_levels : (o : State) → AreLevels (length o.config.levels) (plan o.config.policy o.config.levels)
@@ -137,11 +144,11 @@ still_rooms_of (Committed l k b how) r is = absurd is
 still_rooms_of (Wrote l k b mode mark how) r is = absurd is
 
 pub quiet_moves : (o : State) (n : Need) (x : What) → IsQuiet x → OwnedMoves o n x o
-quiet_moves o n x is = (refl, still (setup (config_of o.config)) n (reserved_in o) o.told x o.world is, λ none. refl, still_rooms_of x (reserved_in o) is, refl)
+quiet_moves o n x is = (refl, still (setup (config_of o.config)) n (reserved_in o) o.told x o.world is, λ none l. (refl, λ number. refl), still_rooms_of x (reserved_in o) is, refl)
 
 -- an event that opens, fills and closes no entry leaves what is open
 pub still_rooms : (a : State) (n : Need) (x : What) (b : State) → OwnedMoves a n x b → OpensNone x → (l : ℕ) → SameRoom (disk_at a l) (disk_at b l)
-still_rooms a n x b moves none l = let same = moves.2 none in (ap (λ rs. (room_in rs l).reserved) same, ap (λ rs. (room_in rs l).entries) same)
+still_rooms a n x b moves none l = moves.2 none l
 
 -- whether the levels tell does not change
 pub tells_same : (a : State) (n : Need) (x : What) (b : State) → OwnedMoves a n x b → (l : ℕ) → (disk_at b l).told ≡ (disk_at a l).told

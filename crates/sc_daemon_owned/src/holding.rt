@@ -1,5 +1,5 @@
 //! What one action of a request asks of the parts of a daemon of one's own.
-ghost use Rattle.std.specs.Prelude.{◌≡◌, ◌≢◌, ◌<◌, ◌&&◌, [], false, not, length, IfOk, None, Option, Some};
+ghost use Rattle.std.specs.Prelude.{◌≡◌, ◌<◌, ◌&&◌, [], false, not, length, IfOk, None, Option, Some};
 ghost use Rattle.sc_store_disk.specs.DiskStores.{entry_path};
 ghost use Rattle.sc_store_disk.specs.Entries.{ClosesEntry, FillsBy};
 ghost use Rattle.sc_store_disk.specs.Marks.{filled_by};
@@ -11,7 +11,7 @@ ghost use Rattle.sc_daemon_job.specs.Setups.{setup};
 ghost use Rattle.sc_model.specs.Collected.{GoodAnswer};
 ghost use Rattle.sc_model.specs.Describing.{all_read_only, mode_of};
 ghost use Rattle.sc_model.specs.Dues.{kind_at};
-ghost use Rattle.sc_model.specs.Plan.{backfills, handed_by, is_none, plan, put_answer};
+ghost use Rattle.sc_model.specs.Plan.{backfills, handed_by, is_none, plan, pre_plan, put_answer};
 ghost use Rattle.sc_model.specs.Script.{is_single};
 ghost use Rattle.sc_model.specs.World.{Need, keys_of};
 ghost use Rattle.sc_model.specs.declared.event.What.{What};
@@ -20,7 +20,7 @@ ghost use Rattle.sc_model.specs.declared.event.Answer.TheVariants.{Size as SizeI
 ghost use Rattle.sc_model.specs.declared.event.Task.{Task};
 ghost use Rattle.sc_model.specs.declared.event.Told.TheVariants.{Dist as TellsDist};
 ghost use Rattle.sc_model.specs.declared.event.Verdict.TheVariants.{Http as HttpError};
-ghost use Rattle.sc_model.specs.declared.event.Mode.TheVariants.{Path, Size as SizeMode, Whole};
+ghost use Rattle.sc_model.specs.declared.event.Mode.TheVariants.{Path, Pre, Size as SizeMode, Whole};
 ghost use Rattle.sc_stats.specs.declared.counters.LevelStats.{LevelStats};
 ghost use Rattle.sc_model.specs.declared.level.LevelKind.TheVariants.{Disk, Remote};
 ghost use Rattle.sc_model.specs.declared.message.Request.TheVariants.{Compile as CompileOf, DistStatus};
@@ -71,6 +71,14 @@ impl<P: Parts> Owned<P> {
         ensures { IfOk result (λ levels. levels ≡ plan (config_of self.now.config).policy (config_of self.now.config).levels) }
     {
         let levels = self.levels.plan(alloc)?;
+        Ok(levels)
+    }
+
+    /// The levels that take a preprocessor entry.
+    pub fn pre_plan(&self, alloc: Global) -> Result<Queue<u64>, NoMemory>
+        ensures { IfOk result (λ levels. levels ≡ pre_plan (config_of self.now.config).policy (config_of self.now.config).levels) }
+    {
+        let levels = self.levels.pre_plan(alloc)?;
         Ok(levels)
     }
 
@@ -216,7 +224,7 @@ impl<P: Parts> Owned<P> {
         }
     }
 
-    /// Asks a level. Paths are asked for by a call of their own.
+    /// Asks a level; a disk level alone for a path.
     pub fn ask(
         &mut self,
         alloc: Global,
@@ -225,7 +233,7 @@ impl<P: Parts> Owned<P> {
         mode: Mode,
     ) -> Result<Lookup, NoMemory>
         requires level { level < length (config_of self.old.config).levels }
-        requires mode { mode ≢ Path }
+        requires path { mode ≡ Path → kind_at (config_of self.old.config).levels level ≡ Disk }
         ensures moves { IfOk result (λ lookup. (n : Need) → OwnedMoves self.old n (AskedEvent level key.now mode lookup.answer lookup.handed) self.new) }
         ensures handed { IfOk result (λ lookup. lookup.handed ≡ backfills (config_of self.old.config).policy (config_of self.old.config).levels level key.now mode lookup.answer) }
         ensures same { IfOk result (λ lookup. config_of self.new.config ≡ config_of self.old.config) }
@@ -300,6 +308,20 @@ impl<P: Parts> Owned<P> {
         let written = self
             .levels
             .put_step(alloc, level as usize, &bytes.key, &bytes.bytes, bytes.run)?;
+        Ok(written)
+    }
+
+    /// Puts a preprocessor entry at a level. A remote level keeps none.
+    pub fn write_pre(&mut self, level: u64, bytes: &Bytes) -> Result<Written, NoMemory>
+        requires level { level < length (config_of self.old.config).levels }
+        ensures moves { IfOk result (λ written. (n : Need) → OwnedMoves self.old n (Wrote level bytes.now.key bytes.now.bytes Pre bytes.now.run written) self.new) }
+        ensures same { IfOk result (λ written. config_of self.new.config ≡ config_of self.old.config) }
+    {
+        let _count = self.levels.len();
+        let entry = bytes.bytes.as_slice();
+        let written = self
+            .levels
+            .put_pre_step(level as usize, &bytes.key, entry, self.moment)?;
         Ok(written)
     }
 

@@ -6,6 +6,7 @@ mod missing;
 mod nowhere;
 mod owned;
 mod parts;
+mod paths;
 
 pub use owned::Owned;
 pub use parts::Parts;

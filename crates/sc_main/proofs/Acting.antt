@@ -21,8 +21,8 @@ use Rattle.sc_model.specs.declared.event.Owner.TheVariants.{Nobody, Request as O
 use Rattle.sc_model.specs.declared.event.What.{What}
 use Rattle.sc_model.specs.declared.event.What.TheVariants.{Idle}
 use Rattle.sc_model.specs.declared.message.Request.{Request}
-use Rattle.sc_wire.specs.Requests.{read_served}
-use Rattle.sc_wire.specs.Streams.{served_reader}
+use Rattle.sc_wire.specs.Requests.{read_request}
+use Rattle.sc_wire.specs.Streams.{request_reader}
 
 -- nothing was due, or an action was done
 serves_cases : (c : ℕ) (o : Owner) (x : What) (d d2 : Kept) (old new : Line) → ServesWhat c o x d d2 old new → ((x ≡ Idle) × (d2 ≡ d) × (new ≡ old)) ⊎ ((j : ℕ) × ServesAt c j x d d2 old new)
@@ -140,10 +140,10 @@ stands_on limit bytes old new s lim got rest (inr (waiting, at, some, held)) non
 
 pub stands_more : (limit : ℕ) (bytes piece : List ℕ) (old new : Line) → Stands limit bytes old → TakesMore piece old new → Stands limit (bytes ++ piece) new
 stands_more limit bytes piece old new s t =
-    let r = served_reader limit in
-    let on = reads_on limit read_served in
+    let r = request_reader limit in
+    let on = reads_on limit read_request in
     let same = t.same in
-    let here : served_reader old.limit ≡ r = ap served_reader s.limited in
+    let here : request_reader old.limit ≡ r = ap request_reader s.limited in
     let joined : old.rest ++ piece ≡ r.rest bytes ++ piece = ap (λ (b : List ℕ). b ++ piece) s.rest in
     record {
       limited = ap (λ (l : Line). l.limit) same ∙ s.limited;

@@ -17,8 +17,8 @@ use Rattle.sc_model.proofs.Streams.{reads_on}
 use Rattle.sc_model.specs.Script.{End}
 use Rattle.sc_model.specs.Trace.{if_too_long}
 use Rattle.sc_server_activity.specs.declared.shutdown_or_inactive.ShutdownOrInactive.{ShutdownOrInactive}
-use Rattle.sc_wire.specs.Requests.{read_served}
-use Rattle.sc_wire.specs.Streams.{served_reader}
+use Rattle.sc_wire.specs.Requests.{read_request}
+use Rattle.sc_wire.specs.Streams.{request_reader}
 
 kept_end : (P : Type 0) (end : LinkEnd) → IfKeptSoFar (refused_in end) P → IfKept end P
 kept_end P (ends.Over e) p = p
@@ -44,8 +44,8 @@ cause_end ends.WriteFault before now x = x
 over_end : (end : LinkEnd) (limit : ℕ) (bytes : List ℕ) (l : Line) (w : ShutdownOrInactive) (ahead : Option (List ℕ)) → IfKept end (Stands limit bytes l) → LeftSo end l w
     → (l.closed ≡ true → IfTold ahead (λ left. left ≡ [])) → IsOver end limit bytes l ahead
 over_end (ends.Over end) limit bytes l w ahead x left ended =
-    let here : served_reader l.limit ≡ served_reader limit = ap served_reader x.limited in (
-      left.1 ∙ ap (λ (e : End). if_too_long l.long e) ((λ i. (here i).ends (x.rest i) l.closed) ∙ sym ((reads_on limit read_served).ends bytes l.closed)),
+    let here : request_reader l.limit ≡ request_reader limit = ap request_reader x.limited in (
+      left.1 ∙ ap (λ (e : End). if_too_long l.long e) ((λ i. (here i).ends (x.rest i) l.closed) ∙ sym ((reads_on limit read_request).ends bytes l.closed)),
       left.0,
       ended,
     )

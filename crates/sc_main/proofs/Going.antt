@@ -32,7 +32,7 @@ use Rattle.sc_server_activity.specs.Waits.{cause_of, has_passed, has_request, ha
 use Rattle.sc_server_activity.specs.declared.messages.Messages.{Messages}
 use Rattle.sc_server_activity.specs.declared.server_message.ServerMessage.{ServerMessage}
 use Rattle.sc_server_activity.specs.declared.shutdown_or_inactive.ShutdownOrInactive.{ShutdownOrInactive}
-use Rattle.sc_wire.specs.Requests.{read_served}
+use Rattle.sc_wire.specs.Requests.{read_request}
 
 -- ---- facts that hold but where memory ran out
 
@@ -90,7 +90,7 @@ some_of ends.WriteFault due a b x = x.0
 
 stands_first : (l : Line) (limit : ℕ) → l ≡ new_line limit → Stands limit [] l
 stands_first l limit is =
-    let on = reads_on limit read_served in
+    let on = reads_on limit read_request in
     subst (λ (n : Line). Stands limit [] n) (sym is) (record { limited = refl; got = refl; rest = sym on.nothing; over = []; count = refl; requests = sym on.none; emptied = refl })
 
 pub starts : (s : Session) (h : Heard) (c : Option (List ℕ)) (k : Wire) → s.line ≡ new_line s.daemon.state.config.limit → SoFar None (scene s h c k) (scene s h c k)

@@ -18,7 +18,7 @@ use Rattle.sc_main.specs.Serving.{HasTokens, IsAnswered, Stands, Wire, WritesSom
 use Rattle.sc_main.specs.declared.link_end.LinkEnd.{LinkEnd}
 use Rattle.sc_main.specs.declared.link_end.LinkEnd.TheVariants as ends
 use Rattle.sc_model.specs.declared.message.Request.{Request}
-use Rattle.sc_wire.specs.Streams.{served_reader}
+use Rattle.sc_wire.specs.Streams.{request_reader}
 
 -- an idle connection's first request holds no token
 pub idle_none : (free : ℕ) (l : Line) → (l.waiting ≡ [] → held_token l.phase ≡ 0) → IsIdleLine free l → held_token l.phase ≡ 0
@@ -79,7 +79,7 @@ takes_on first s s2 h c k ahead piece f read polled uncaused going same takes =
       config = ap (λ (x : Session). x.daemon.state.config) same ∙ f.config;
       emptied = ap (λ (l : Line). l.out) line ∙ f.emptied;
       ended = λ closed. absurd (going (inl (inl (sym (ap (λ (l : Line). l.closed) line) ∙ closed))));
-      unheld = λ none. ap (λ (l : Line). held_token l.phase) line ∙ f.unheld (front_none s.line.waiting ((served_reader s.line.limit).requests (s.line.rest ++ piece)) (sym takes.requests ∙ none));
+      unheld = λ none. ap (λ (l : Line). held_token l.phase) line ∙ f.unheld (front_none s.line.waiting ((request_reader s.line.limit).requests (s.line.rest ++ piece)) (sym takes.requests ∙ none));
       tokens = λ has. let x = f.tokens has in
           subst (λ (d : Kept). KeepsTokens d s2.line) (sym (ap (λ (y : Session). y.daemon) same)) (x.0, ap (λ (l : Line). s.daemon.free + held_token l.phase) line ∙ x.1);
     }

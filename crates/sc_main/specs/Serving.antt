@@ -14,7 +14,7 @@ use Rattle.sc_main.specs.declared.link_end.LinkEnd.{LinkEnd}
 use Rattle.sc_main.specs.declared.link_end.LinkEnd.TheVariants as ends
 use Rattle.sc_model.specs.Trace.{if_too_long}
 use Rattle.sc_model.specs.declared.message.Request.{Request}
-use Rattle.sc_wire.specs.Streams.{served_reader}
+use Rattle.sc_wire.specs.Streams.{request_reader}
 use Rattle.sc_wire_conn.specs.Ends.{end_of}
 
 -- what is known of a link: the bytes ahead, those that were written, and how often it refused
@@ -38,16 +38,16 @@ IsAnswered l = (l.waiting ≡ []) ⊎ (standing_of l.phase ≡ Ended)
 pub record Stands (limit : ℕ) (bytes : List ℕ) (l : Line) : Type 0 where
   pub limited : l.limit ≡ limit
   pub got : l.got ≡ length bytes
-  pub rest : l.rest ≡ (served_reader limit).rest bytes
+  pub rest : l.rest ≡ (request_reader limit).rest bytes
   pub over : List Request
   pub count : length over ≡ l.at
-  pub requests : over ++ l.waiting ≡ (served_reader limit).requests bytes
+  pub requests : over ++ l.waiting ≡ (request_reader limit).requests bytes
   pub emptied : l.out ≡ []
 
 -- The end is that of these bytes, or of a reply that was too long. It isn't open, and where no more bytes come, these were all.
 abbrev pub IsOver : LinkEnd → ℕ → List ℕ → Line → Option (List ℕ) → Type 0
 IsOver (ends.Over end) limit bytes l ahead =
-    (end_of end ≡ if_too_long l.long ((served_reader limit).ends bytes l.closed)) × IsDone l × (l.closed ≡ true → IfTold ahead (λ left. left ≡ []))
+    (end_of end ≡ if_too_long l.long ((request_reader limit).ends bytes l.closed)) × IsDone l × (l.closed ≡ true → IfTold ahead (λ left. left ≡ []))
 IsOver _ limit bytes l ahead = Unit {0}
 
 -- it was left for the server's sake alone: a poll was ready

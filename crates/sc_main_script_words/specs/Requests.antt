@@ -1,7 +1,7 @@
 -- The requests that a line may ask.
 use Rattle.std.specs.Prelude.{ℕ, List, [], ◌∷◌, ◌++◌, Option, Some, None, if◌then◌else◌, codes, bytes_eq}
 use Rattle.sc_model.specs.declared.message.Request.{Request}
-use Rattle.sc_model.specs.declared.message.Request.TheVariants.{Compile, DistStatus, GetStats, Shutdown, StorageGetRaw, StorageHandshake, StoragePutRaw, ZeroStats}
+use Rattle.sc_model.specs.declared.message.Request.TheVariants.{Compile, DistStatus, GetStats, Shutdown, StorageGetPath, StorageGetPreprocessorEntry, StorageGetRaw, StorageHandshake, StoragePutPreprocessorEntry, StoragePutRaw, ZeroStats}
 use Rattle.sc_model.specs.declared.message.Variable.{Variable}
 use Rattle.sc_words.specs.Words.{Reader}
 use Rattle.sc_words.specs.Words.{◌>>=◌ as ◌then◌}
@@ -32,7 +32,13 @@ compile_request = do
   args ← tokens_onto []
   gives (Compile (record { exe = exe; cwd = cwd; args = args; env_vars = env_vars }))
 
--- get-raw KEY, where any text is a key
+-- get-path KEY, where any text is a key
+unfoldable pub get_path_request : Reader Request
+get_path_request = do
+  key ← field text_of_token
+  gives (StorageGetPath key)
+
+-- get-raw KEY
 unfoldable pub get_raw_request : Reader Request
 get_raw_request = do
   key ← field text_of_token
@@ -45,12 +51,28 @@ put_raw_request = do
   bytes ← field bytes_of_token
   gives (StoragePutRaw key bytes)
 
+-- get-pre KEY
+unfoldable pub get_pre_request : Reader Request
+get_pre_request = do
+  key ← field text_of_token
+  gives (StorageGetPreprocessorEntry key)
+
+-- put-pre KEY DATA, where any bytes are asked to be put
+unfoldable pub put_pre_request : Reader Request
+put_pre_request = do
+  key ← field text_of_token
+  bytes ← field bytes_of_token
+  gives (StoragePutPreprocessorEntry key bytes)
+
 -- a request's first word says its kind
 unfoldable pub request_kind : List ℕ → Option RequestKind
 request_kind w =
     if bytes_eq w (codes "compile") then Some kind.Compile
+    else if bytes_eq w (codes "get-path") then Some kind.GetPath
     else if bytes_eq w (codes "get-raw") then Some kind.GetRaw
     else if bytes_eq w (codes "put-raw") then Some kind.PutRaw
+    else if bytes_eq w (codes "get-pre") then Some kind.GetPre
+    else if bytes_eq w (codes "put-pre") then Some kind.PutPre
     else if bytes_eq w (codes "zero-stats") then Some kind.ZeroStats
     else if bytes_eq w (codes "get-stats") then Some kind.GetStats
     else if bytes_eq w (codes "handshake") then Some kind.Handshake
@@ -61,8 +83,11 @@ request_kind w =
 
 unfoldable pub request_body : RequestKind → Reader Request
 request_body kind.Compile = compile_request
+request_body kind.GetPath = get_path_request
 request_body kind.GetRaw = get_raw_request
 request_body kind.PutRaw = put_raw_request
+request_body kind.GetPre = get_pre_request
+request_body kind.PutPre = put_pre_request
 -- zero-stats, get-stats, handshake, dist-status and shutdown have no further word
 request_body kind.ZeroStats = gives ZeroStats
 request_body kind.GetStats = gives GetStats

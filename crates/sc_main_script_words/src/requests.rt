@@ -1,7 +1,7 @@
 //! The requests that a line may ask.
 ghost use Rattle.std.specs.Prelude.{◌≡◌, []};
 ghost use Rattle.sc_words.specs.Words.{Means, Reads};
-ghost use Rattle.sc_main_script_words.specs.Requests.{tokens_onto, variables_onto, compile_request, get_raw_request, put_raw_request, request_kind, request_body, request_words};
+ghost use Rattle.sc_main_script_words.specs.Requests.{tokens_onto, variables_onto, compile_request, get_path_request, get_pre_request, get_raw_request, put_pre_request, put_raw_request, request_kind, request_body, request_words};
 
 use crate::fields::{text_token, token, variable};
 use crate::records::record_request;
@@ -14,8 +14,11 @@ use std::alloc::Global;
 #[derive(Clone, Copy)]
 pub enum RequestKind {
     Compile,
+    GetPath,
     GetRaw,
     PutRaw,
+    GetPre,
+    PutPre,
     ZeroStats,
     GetStats,
     Handshake,
@@ -63,6 +66,14 @@ fn compile_request(alloc: Global, words: &mut LineWords<'_>) -> Result<Request, 
     }))
 }
 
+#[tactic(auto, unfolding(crate::specs::Requests::get_path_request))]
+fn get_path_request(alloc: Global, words: &mut LineWords<'_>) -> Result<Request, WordsError>
+    ensures { Reads (get_path_request words.old) result words.new }
+{
+    let key = text_token(alloc, words.word()?)?;
+    Ok(Request::StorageGetPath(key))
+}
+
 #[tactic(auto, unfolding(crate::specs::Requests::get_raw_request))]
 fn get_raw_request(alloc: Global, words: &mut LineWords<'_>) -> Result<Request, WordsError>
     ensures { Reads (get_raw_request words.old) result words.new }
@@ -80,6 +91,23 @@ fn put_raw_request(alloc: Global, words: &mut LineWords<'_>) -> Result<Request, 
     Ok(Request::StoragePutRaw(key, bytes))
 }
 
+#[tactic(auto, unfolding(crate::specs::Requests::get_pre_request))]
+fn get_pre_request(alloc: Global, words: &mut LineWords<'_>) -> Result<Request, WordsError>
+    ensures { Reads (get_pre_request words.old) result words.new }
+{
+    let key = text_token(alloc, words.word()?)?;
+    Ok(Request::StorageGetPreprocessorEntry(key))
+}
+
+#[tactic(auto, unfolding(crate::specs::Requests::put_pre_request))]
+fn put_pre_request(alloc: Global, words: &mut LineWords<'_>) -> Result<Request, WordsError>
+    ensures { Reads (put_pre_request words.old) result words.new }
+{
+    let key = text_token(alloc, words.word()?)?;
+    let bytes = token(alloc, words.word()?)?;
+    Ok(Request::StoragePutPreprocessorEntry(key, bytes))
+}
+
 #[tactic(auto, unfolding(crate::specs::Requests::request_kind))]
 fn request_kind(word: &[u8]) -> Result<RequestKind, WordsError>
     ensures { Means (request_kind word.now) result }
@@ -87,11 +115,20 @@ fn request_kind(word: &[u8]) -> Result<RequestKind, WordsError>
     if word == b"compile".as_slice() {
         return Ok(RequestKind::Compile);
     }
+    if word == b"get-path".as_slice() {
+        return Ok(RequestKind::GetPath);
+    }
     if word == b"get-raw".as_slice() {
         return Ok(RequestKind::GetRaw);
     }
     if word == b"put-raw".as_slice() {
         return Ok(RequestKind::PutRaw);
+    }
+    if word == b"get-pre".as_slice() {
+        return Ok(RequestKind::GetPre);
+    }
+    if word == b"put-pre".as_slice() {
+        return Ok(RequestKind::PutPre);
     }
     if word == b"zero-stats".as_slice() {
         return Ok(RequestKind::ZeroStats);
@@ -124,8 +161,11 @@ fn request_body(
 {
     match kind {
         RequestKind::Compile => compile_request(alloc, words),
+        RequestKind::GetPath => get_path_request(alloc, words),
         RequestKind::GetRaw => get_raw_request(alloc, words),
         RequestKind::PutRaw => put_raw_request(alloc, words),
+        RequestKind::GetPre => get_pre_request(alloc, words),
+        RequestKind::PutPre => put_pre_request(alloc, words),
         RequestKind::ZeroStats => Ok(Request::ZeroStats),
         RequestKind::GetStats => Ok(Request::GetStats),
         RequestKind::Handshake => Ok(Request::StorageHandshake),

@@ -103,19 +103,6 @@ fn ample_put_reply(rt: HostRuntime) -> Result<(), Fail> {
     prints(&rt, rt.alloc(), &reply, b"path found /p\\x20q\n")
 }
 
-/// Replies to requests that no daemon serves yet.
-#[test]
-fn replies_without_bytes(rt: HostRuntime) -> Result<(), Fail> {
-    let replies = [
-        Response::StorageGetPath(GetPathResult::Miss),
-        Response::StorageGetPath(GetPathResult::Unsupported),
-        Response::StorageGetPreprocessorEntry(Ok(None)),
-        Response::StoragePutPreprocessorEntry(Ok(())),
-    ];
-    let wanted = b"path miss\npath unsupported\npre none\npre-put ok\n";
-    prints(&rt, rt.alloc(), &replies, wanted)
-}
-
 #[test]
 fn ample_put_counters(rt: HostRuntime) -> Result<(), Fail> {
     let mut stats = ServerStats::new(rt.alloc());

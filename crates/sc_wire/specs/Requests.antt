@@ -1,5 +1,5 @@
 -- Requests: the number of the variant, then its fields.
-use Rattle.std.specs.Prelude.{◌≡◌, ℕ, ◌⊎◌, List, Option, Some, None, refl, [], ◌∷◌}
+use Rattle.std.specs.Prelude.{◌≡◌, ℕ, ◌⊎◌, List, Option, refl}
 use Rattle.std.proofs.Common.{inl, inr, lit<}
 use Rattle.sc_wire.specs.Codec.{Codec, nothing, ◌&◌, same_as, read_all}
 use Rattle.sc_wire.specs.Lists.{byte_text, text}
@@ -94,38 +94,3 @@ spell_request message = request.spell message
 -- the request that all of the bytes spell
 unfoldable pub read_request : List ℕ → Option Request
 read_request bytes = read_all request bytes
-
--- the requests that a daemon serves so far: compiles, those for its counters and its store's handshake, bytes as a
--- store holds them, and the one to shut down
-abbrev pub served_of : Option Request → Option Request
-served_of (Some ZeroStats) = Some ZeroStats
-served_of (Some GetStats) = Some GetStats
-served_of (Some (CompileRequest compiled)) = Some (CompileRequest compiled)
-served_of (Some StorageHandshake) = Some StorageHandshake
-served_of (Some (StorageGetRaw key)) = Some (StorageGetRaw key)
-served_of (Some (StoragePutRaw key bytes)) = Some (StoragePutRaw key bytes)
-served_of (Some (RecordStats delta)) = Some (RecordStats delta)
-served_of (Some DistStatus) = Some DistStatus
-served_of (Some Shutdown) = Some Shutdown
-served_of _ = None
-
-abbrev pub IsServed : Request → Type 0
-IsServed ZeroStats = Unit {0}
-IsServed GetStats = Unit {0}
-IsServed (CompileRequest compiled) = Unit {0}
-IsServed StorageHandshake = Unit {0}
-IsServed (StorageGetRaw key) = Unit {0}
-IsServed (StoragePutRaw key bytes) = Unit {0}
-IsServed (RecordStats delta) = Unit {0}
-IsServed DistStatus = Unit {0}
-IsServed Shutdown = Unit {0}
-IsServed _ = ⊥
-
--- requests that are all served
-abbrev pub AreServed : List Request → Type 0
-AreServed [] = Unit {0}
-AreServed (r ∷ rs) = IsServed r × AreServed rs
-
--- the request that all of the bytes spell, where it is served
-unfoldable pub read_served : List ℕ → Option Request
-read_served bytes = served_of (read_request bytes)

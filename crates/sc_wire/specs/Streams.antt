@@ -1,10 +1,10 @@
 -- The requests of a stream that comes in pieces, as the daemon's definitions read them.
-use Rattle.std.specs.Prelude.{◌≡◌, ℕ, ◌≤◌, Bool, List, [], ◌∷◌, ◌++◌, length, drop, Option, Some, None, Result, Ok, Err}
+use Rattle.std.specs.Prelude.{◌≡◌, ℕ, Bool, List, [], ◌∷◌, ◌++◌, Option, Some, None, Result, Ok, Err}
 use Rattle.sc_model.specs.Script.{Reader}
 use Rattle.sc_model.specs.Stream.{Bad, Frame, Front, Part, front, stream_reader}
 use Rattle.sc_model.specs.declared.message.Request.{Request}
 use Rattle.sc_wire.specs.Frames.{Framing}
-use Rattle.sc_wire.specs.Requests.{read_request, read_served}
+use Rattle.sc_wire.specs.Requests.{read_request}
 use Rattle.sc_wire.specs.declared.error.DecodeError.{DecodeError}
 use Rattle.sc_wire.specs.declared.error.DecodeError.TheVariants.{NoMemory, BadFrame}
 
@@ -19,24 +19,9 @@ GivesRequest (Ok None) at_front old new = (at_front ≡ Part) × (new ≡ old)
 GivesRequest (Err NoMemory) at_front old new = new ≡ old
 GivesRequest (Err BadFrame) at_front old new = (at_front ≡ Bad) × (new ≡ old)
 
--- what stands at the front of a daemon's input, of the requests that are served
-abbrev pub served_front : ℕ → List ℕ → Front
-served_front limit bytes = front limit read_served bytes
-
--- The request that was shown is that at the front, with the length of its frame.
-abbrev pub ShowsServed : Result (Option (Request × ℕ)) DecodeError → List ℕ → Front → Type 0
-ShowsServed (Ok (Some p)) bytes at_front = (at_front ≡ Frame p.0 (drop p.1 bytes)) × (p.1 ≤ length bytes)
-ShowsServed (Ok None) bytes at_front = at_front ≡ Part
-ShowsServed (Err NoMemory) bytes at_front = Unit {0}
-ShowsServed (Err BadFrame) bytes at_front = at_front ≡ Bad
-
 -- the requests of bytes, the bytes behind them and the end, as the daemon reads them
 abbrev pub request_reader : ℕ → Reader
 request_reader limit = stream_reader limit read_request
-
--- the same, of the requests that are served
-abbrev pub served_reader : ℕ → Reader
-served_reader limit = stream_reader limit read_served
 
 -- Of the bytes that were fed, some requests were taken and some bytes are still held: together they are what the
 -- fed bytes spell.

@@ -1,9 +1,8 @@
 //! Frames out of bytes that come in any pieces.
-ghost use Rattle.std.specs.Prelude.{◌≡◌, ◌↔◌, ℕ, ◌++◌, ◌≤◌, List, [], Option, Some, length, drop, IsTrue, IfOk, IfSome, OnOk, OnErr};
+ghost use Rattle.std.specs.Prelude.{◌≡◌, ◌↔◌, ℕ, ◌++◌, ◌≤◌, List, [], Option, length, drop, IsTrue, OnOk, OnErr};
 ghost use Rattle.sc_model.specs.declared.message.Request.{Request};
 ghost use Rattle.sc_wire.specs.Frames.{cut, ahead, Shows, ShowsMessage, GivesPayload, GivesMessage};
-ghost use Rattle.sc_wire.specs.Requests.{IsServed, served_of};
-ghost use Rattle.sc_wire.specs.Streams.{request_front, served_front, GivesRequest, ShowsServed, AnyCutting};
+ghost use Rattle.sc_wire.specs.Streams.{request_front, GivesRequest, AnyCutting};
 
 use crate::bincode::BincodeCodec;
 use crate::error::DecodeError;
@@ -65,47 +64,6 @@ fn front_message<M: Wire + Drop>(
             let message = BincodeCodec::decode::<M>(alloc, payload)?;
             Ok(Some((message, 4 + payload.len())))
         }
-    }
-}
-
-/// The request, where it is served: so far a compile, one for counters, the handshake or the distributed client's status, one for
-/// bytes as a store holds them, or one to shut down.
-fn only_served(request: Request) -> Option<Request>
-    ensures request { result ≡ served_of (Some request) }
-    ensures served { IfSome result IsServed }
-{
-    match request {
-        Request::ZeroStats => Some(request),
-        Request::GetStats => Some(request),
-        Request::Compile(_) => Some(request),
-        Request::StorageHandshake => Some(request),
-        Request::StorageGetRaw(_) => Some(request),
-        Request::StoragePutRaw(_, _) => Some(request),
-        Request::RecordStats(_) => Some(request),
-        Request::DistStatus => Some(request),
-        Request::Shutdown => Some(request),
-        Request::StorageGetPath(_) => None,
-        Request::StorageGetPreprocessorEntry(_) => None,
-        Request::StoragePutPreprocessorEntry(_, _) => None,
-    }
-}
-
-/// The served request at the front, with the length of its frame.
-#[tactic(auto, using(crate::proofs::Requested::none_served, crate::proofs::Requested::bad_served, crate::proofs::Requested::message_served))]
-fn front_served(
-    alloc: Global,
-    limit: u32,
-    bytes: &[u8],
-) -> Result<Option<(Request, usize)>, DecodeError>
-    ensures shows { ShowsServed result bytes.now (served_front limit bytes.now) }
-    ensures served { IfOk result (λ shown. IfSome shown (λ p. IsServed p.0)) }
-{
-    match front_message::<Request>(alloc, limit, bytes)? {
-        None => Ok(None),
-        Some((request, len)) => match only_served(request) {
-            Some(served) => Ok(Some((served, len))),
-            None => Err(DecodeError::BadFrame),
-        },
     }
 }
 
@@ -181,25 +139,12 @@ impl Framer {
         }
     }
 
-    /// The request of the next frame.
+    /// The request of the next frame; none where no whole frame is held. A length over the limit and a payload
+    /// that spells no request are `BadFrame`, and stay so.
     pub fn next_request(&mut self, alloc: Global) -> Result<Option<Request>, DecodeError>
         ensures { GivesRequest result (request_front self.old.limit self.old.rest) self.old self.new }
     {
         self.next_message::<Request>(alloc)
-    }
-
-    /// The request of the next frame, where it is served so far. Any other is `BadFrame`, and stays so.
-    pub fn next_served(&mut self, alloc: Global) -> Result<Option<Request>, DecodeError>
-        ensures gives { GivesRequest result (served_front self.old.limit self.old.rest) self.old self.new }
-        ensures served { IfOk result (λ request. IfSome request IsServed) }
-    {
-        match front_served(alloc, self.limit, &self.held[self.start..])? {
-            Some((served, len)) => {
-                self.start += len;
-                Ok(Some(served))
-            }
-            None => Ok(None),
-        }
     }
 }
 

@@ -9,7 +9,7 @@ pub enum End {
     Ended,
     /// It ended within a frame.
     EndInFrame,
-    /// A frame's length is over the limit, or its payload spells no served request.
+    /// A frame's length is over the limit, or its payload spells no request.
     BadFrame,
     /// A reply's payload has so many bytes, more than the limit.
     ReplyTooLong(u64),

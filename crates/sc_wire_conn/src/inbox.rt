@@ -3,8 +3,7 @@ ghost use Rattle.std.specs.Prelude.{◌≡◌, ◌+◌, ◌≤◌, ◌<◌, ◌^
 ghost use Rattle.sc_wire_conn.specs.Ends.{end_of};
 ghost use Rattle.sc_wire_conn.specs.Incoming.{StandsAt};
 ghost use Rattle.sc_model.specs.Script.{BadFrame};
-ghost use Rattle.sc_wire.specs.Requests.{AreServed};
-ghost use Rattle.sc_wire.specs.Streams.{served_front, served_reader};
+ghost use Rattle.sc_wire.specs.Streams.{request_front, request_reader};
 
 use crate::end::End;
 use sc_entry::{NoMemory, Queue};
@@ -27,13 +26,13 @@ pub struct Inbox {
 impl Model for Inbox {
     ghost use Rattle.std.specs.Prelude.{◌≡◌};
     ghost use Rattle.sc_wire_conn.specs.Incoming.{Incoming, StandsAt};
-    ghost use Rattle.sc_wire.specs.Streams.{served_front};
+    ghost use Rattle.sc_wire.specs.Streams.{request_front};
 
     ghost Value = { Incoming };
 
     ghost view = { λ i. record { limit = i.limit; rest = i.framer.rest; got = i.got; closed = i.closed } };
 
-    ghost invariant = { λ i. (i.framer.limit ≡ i.limit) × StandsAt i.bad (served_front i.limit i.framer.rest) };
+    ghost invariant = { λ i. (i.framer.limit ≡ i.limit) × StandsAt i.bad (request_front i.limit i.framer.rest) };
 }
 
 /// Moves the requests at the front into the queue, and says whether a bad frame stands behind them.
@@ -42,15 +41,14 @@ fn take_whole(
     framer: &mut Framer,
     waiting: &mut Queue<Request>,
 ) -> Result<bool, NoMemory>
-    ensures requests { OnOk result (waiting.new ≡ waiting.old ++ (served_reader framer.old.limit).requests framer.old.rest) }
-    ensures rest { OnOk result (framer.new.rest ≡ (served_reader framer.old.limit).rest framer.old.rest) }
-    ensures front { IfOk result (λ bad. StandsAt bad (served_front framer.old.limit framer.new.rest)) }
+    ensures requests { OnOk result (waiting.new ≡ waiting.old ++ (request_reader framer.old.limit).requests framer.old.rest) }
+    ensures rest { OnOk result (framer.new.rest ≡ (request_reader framer.old.limit).rest framer.old.rest) }
+    ensures front { IfOk result (λ bad. StandsAt bad (request_front framer.old.limit framer.new.rest)) }
     ensures room { OnOk result (length waiting.new + length framer.new.rest ≤ length waiting.old + length framer.old.rest) }
-    ensures served { OnOk result (AreServed waiting.old → AreServed waiting.new) }
     ensures limit { OnOk result (framer.new.limit ≡ framer.old.limit) }
 {
     'frames: loop {
-        match framer.next_served(alloc) {
+        match framer.next_request(alloc) {
             Ok(Some(request)) => waiting.push_back(request)?,
             Ok(None) => return Ok(false),
             Err(DecodeError::BadFrame) => return Ok(true),
@@ -66,11 +64,10 @@ fn take_piece(
     piece: &[u8],
     waiting: &mut Queue<Request>,
 ) -> Result<bool, NoMemory>
-    ensures requests { OnOk result (waiting.new ≡ waiting.old ++ (served_reader framer.old.limit).requests (framer.old.rest ++ piece.now)) }
-    ensures rest { OnOk result (framer.new.rest ≡ (served_reader framer.old.limit).rest (framer.old.rest ++ piece.now)) }
-    ensures front { IfOk result (λ bad. StandsAt bad (served_front framer.old.limit framer.new.rest)) }
+    ensures requests { OnOk result (waiting.new ≡ waiting.old ++ (request_reader framer.old.limit).requests (framer.old.rest ++ piece.now)) }
+    ensures rest { OnOk result (framer.new.rest ≡ (request_reader framer.old.limit).rest (framer.old.rest ++ piece.now)) }
+    ensures front { IfOk result (λ bad. StandsAt bad (request_front framer.old.limit framer.new.rest)) }
     ensures room { OnOk result (length waiting.new + length framer.new.rest ≤ length waiting.old + length framer.old.rest + length piece.now) }
-    ensures served { OnOk result (AreServed waiting.old → AreServed waiting.new) }
     ensures limit { OnOk result (framer.new.limit ≡ framer.old.limit) }
 {
     framer.feed(alloc, piece)?;
@@ -102,11 +99,10 @@ impl Inbox {
         waiting: &mut Queue<Request>,
     ) -> Result<(), NoMemory>
         requires { self.old.got + length piece.now < 2 ^ 64 }
-        ensures requests { OnOk result (waiting.new ≡ waiting.old ++ (served_reader self.old.limit).requests (self.old.rest ++ piece.now)) }
-        ensures rest { OnOk result (self.new.rest ≡ (served_reader self.old.limit).rest (self.old.rest ++ piece.now)) }
+        ensures requests { OnOk result (waiting.new ≡ waiting.old ++ (request_reader self.old.limit).requests (self.old.rest ++ piece.now)) }
+        ensures rest { OnOk result (self.new.rest ≡ (request_reader self.old.limit).rest (self.old.rest ++ piece.now)) }
         ensures got { OnOk result (self.new.got ≡ self.old.got + length piece.now) }
         ensures room { OnOk result (length waiting.new + length self.new.rest ≤ length waiting.old + length self.old.rest + length piece.now) }
-        ensures served { OnOk result (AreServed waiting.old → AreServed waiting.new) }
         ensures err { OnErr result (self.new ≡ record self.old { rest = [] }) }
         ensures closed { self.new.closed ≡ self.old.closed }
         ensures limit { self.new.limit ≡ self.old.limit }
@@ -141,15 +137,15 @@ impl Inbox {
 
     /// Whether nothing more is read: no more bytes come, or a bad frame stands at the front.
     pub fn is_over(&self) -> bool
-        ensures yes { result ≡ true → (self.now.closed ≡ true) ⊎ ((served_reader self.now.limit).ends self.now.rest false ≡ BadFrame) }
-        ensures no { result ≡ false → ((self.now.closed ≡ true) ⊎ ((served_reader self.now.limit).ends self.now.rest false ≡ BadFrame)) → ⊥ }
+        ensures yes { result ≡ true → (self.now.closed ≡ true) ⊎ ((request_reader self.now.limit).ends self.now.rest false ≡ BadFrame) }
+        ensures no { result ≡ false → ((self.now.closed ≡ true) ⊎ ((request_reader self.now.limit).ends self.now.rest false ≡ BadFrame)) → ⊥ }
     {
         self.closed || self.bad
     }
 
     /// What the connection has come to.
     pub fn end(&self) -> End
-        ensures { end_of result ≡ (served_reader self.now.limit).ends self.now.rest self.now.closed }
+        ensures { end_of result ≡ (request_reader self.now.limit).ends self.now.rest self.now.closed }
     {
         if self.bad {
             return End::BadFrame;

@@ -1,5 +1,5 @@
 use Rattle.std.proofs.Common.{◌∙◌, Option, None, sym, subst}
-use Rattle.sc_daemon_action.proofs.Holding.{plain_serves, still_hands}
+use Rattle.sc_daemon_action.proofs.Holding.{plain_serves, still_hands, still_keeps, still_none}
 use Rattle.sc_daemon_action.specs.Hands.{hand_of}
 use Rattle.sc_daemon_action.specs.declared.acted.Action.{Action}
 use Rattle.sc_disk.specs.Store.{AddEntry}
@@ -13,3 +13,7 @@ returns-clause-hands g c =
     let what = c.in_ok-acted.acted.what in
     subst (λ (a : Action). HandsBy d a.what (hand_of c.args.entry c.args.phase) (hand_of a.entry a.phase)) (sym c.holding_none.ensures)
     (subst (λ (e : Option AddEntry). HandsBy d what (hand_of e c.args.phase) None) (sym plain.1) (still_hands d what c.in_ok-acted.ensures.acts.still))
+
+pub returns-clause-others : goal.returns-clause-others
+returns-clause-others g c = still_keeps (hand_of c.args.entry c.args.phase) (g.H.Hold.disk c.args.hold.now) (g.H.Hold.disk c.act_plain.new.hold)
+    (g.met.H.Hold.still c.args.hold.now _ _ c.act_plain.new.hold c.in_ok-acted.ensures.moves (still_none _ c.in_ok-acted.ensures.acts.still))
