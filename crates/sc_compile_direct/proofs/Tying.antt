@@ -4,7 +4,7 @@ use Rattle.std.proofs.lemmas.List.{reverse-append}
 use Rattle.sc_daemon_action.specs.Hands.{ActsWith, ServesWith, StandsWith}
 use Rattle.sc_daemon_action.specs.declared.acted.Action.{Action}
 use Rattle.sc_disk.specs.Store.{AddEntry}
-use Rattle.sc_store_disk.specs.DiskStores.{DiskStore}
+use Rattle.sc_daemon_hold.specs.Holding.{Rooms}
 use Rattle.sc_daemon_job.specs.Askers.{Asker}
 use Rattle.sc_daemon_job.specs.Setups.{Config, setup}
 use Rattle.sc_model.proofs.Keeping.{keeps_step}
@@ -112,24 +112,24 @@ map_one [] e = refl
 map_one (x ∷ events) e = ap (λ (own : List Own). own_of x ∷ own) (map_one events e)
 
 -- a job's phase can be gone on with where it can be stood at
-serves_of : (k : Config) (d : ℕ → DiskStore) (p : Phase) (entry : Option AddEntry) (r : Request) → IsJob p → StandsWith k d p entry r → ServesWith k d p entry r
+serves_of : (k : Config) (d : Option Rooms) (p : Phase) (entry : Option AddEntry) (r : Request) → IsJob p → StandsWith k d p entry r → ServesWith k d p entry r
 serves_of k d (AtEnded left) entry r j h = absurd j
 serves_of k d AtOver entry r j h = absurd j
 serves_of k d _ entry r j h = h
 
 -- ---- one action, and what is kept of it
 
-pub steps_by : {H : Type 0} (config : H → Config) (disk : H → ℕ → DiskStore) (moment : H → ℕ) (moves : H → Asker → What → H → Type 0) (r : Request) (a b : H) (old new : Running) (action : Action) (m : ℕ) (p : Phase) → p ≡ old.phase → m ≡ moment b
-    → ActsWith (config a) (disk b) r p (moment b) action → moves a (record { need = need_at (setup (config a)) r p; request = r; origin = Direct; last = old.last; outcome = old.outcome; reserved = old.reserved }) action.what b → config b ≡ config a → new.phase ≡ action.phase → new.entry ≡ action.entry
-    → new.events ≡ old.events ++ record { moment = m; what = action.what } ∷ [] → new.last ≡ m → new.outcome ≡ outcome_after old.outcome m action.what → new.reserved ≡ reserved_after old.reserved m action.what → StepsBy config disk moment moves r a b old new
-steps_by config disk moment moves r a b old new action m p at now acts mv same phase entry events last outcome reserved =
+pub steps_by : {H : Type 0} (config : H → Config) (rooms : H → Option Rooms) (moment : H → ℕ) (moves : H → Asker → What → H → Type 0) (r : Request) (a b : H) (old new : Running) (action : Action) (m : ℕ) (p : Phase) → p ≡ old.phase → m ≡ moment b
+    → ActsWith (config a) (rooms b) r p (moment b) action → moves a (record { need = need_at (setup (config a)) r p; request = r; origin = Direct; last = old.last; outcome = old.outcome; reserved = old.reserved }) action.what b → config b ≡ config a → new.phase ≡ action.phase → new.entry ≡ action.entry
+    → new.events ≡ old.events ++ record { moment = m; what = action.what } ∷ [] → new.last ≡ m → new.outcome ≡ outcome_after old.outcome m action.what → new.reserved ≡ reserved_after old.reserved m action.what → StepsBy config rooms moment moves r a b old new
+steps_by config rooms moment moves r a b old new action m p at now acts mv same phase entry events last outcome reserved =
     let s = setup (config a) in (
       action.what,
       record {
         events = events ∙ ap (λ (t : ℕ). old.events ++ record { moment = t; what = action.what } ∷ []) now;
         fits = subst (λ (q : Phase). Fits s r (due_at s r q) action.what) at acts.fits;
         then = phase ∙ acts.then ∙ ap (λ (q : Phase). after s r q (moment b) action.what) at;
-        stands = subst (λ (q : Phase). StandsWith (config a) (disk b) q new.entry r) (sym phase) (subst (λ (e : Option AddEntry). StandsWith (config a) (disk b) action.phase e r) (sym entry) acts.stands);
+        stands = subst (λ (q : Phase). StandsWith (config a) (rooms b) q new.entry r) (sym phase) (subst (λ (e : Option AddEntry). StandsWith (config a) (rooms b) action.phase e r) (sym entry) acts.stands);
         last = last ∙ now;
         outcome = outcome ∙ ap (λ (t : ℕ). outcome_after old.outcome t action.what) now;
         reserved = reserved ∙ ap (λ (t : ℕ). reserved_after old.reserved t action.what) now;
@@ -154,7 +154,7 @@ reserved_goes own n m (Reserved l k size WriteDone) same = refl
 reserved_goes own n m (Reserved l k size (WriteRefused chain)) same = same
 reserved_goes own n m _ same = same
 
-kept_on : (k : Config) (d : ℕ → DiskStore) (r : Request) (own : List Own) (m : ℕ) (old new : Running) (x : What) → AreKept own old → Steps k d r m old new x → AreKept (At m x ∷ own) new
+kept_on : (k : Config) (d : Option Rooms) (r : Request) (own : List Own) (m : ℕ) (old new : Running) (x : What) → AreKept own old → Steps k d r m old new x → AreKept (At m x ∷ own) new
 kept_on k d r own m old new x kept st = record {
   last = st.last;
   outcome = st.outcome ∙ outcome_goes own old.outcome m x kept.outcome;
@@ -163,10 +163,10 @@ kept_on k d r own m old new x kept st = record {
 
 -- ---- a job that is under way on a hold
 
-module _ {H : Type 0} (config : H → Config) (disk : H → ℕ → DiskStore) (moment : H → ℕ) (moves : H → Asker → What → H → Type 0) where
+module _ {H : Type 0} (config : H → Config) (rooms : H → Option Rooms) (moment : H → ℕ) (moves : H → Asker → What → H → Type 0) where
   pub record UnderWay (c : CompileRequest) (task : Task) (a b : H) (running : Running) : Type 0 where
     pub same : config b ≡ config a
-    pub stands : StandsWith (config a) (disk b) running.phase running.entry (Compile c)
+    pub stands : StandsWith (config a) (rooms b) running.phase running.entry (Compile c)
     pub tied : Tied (setup (config a)) c task (newest_first running.events) running.phase
     pub kept : AreKept (newest_first running.events ++ begun (Compile c) task) running
     pub moved : MovedBy moment moves (setup (config a)) (Compile c) (begun (Compile c) task) a (newest_first running.events) b
@@ -174,21 +174,21 @@ module _ {H : Type 0} (config : H → Config) (disk : H → ℕ → DiskStore) (
   pub begins : (c : CompileRequest) (task : Task) (a : H) (running : Running) → running.phase ≡ AtKey task true → running.entry ≡ None → running.events ≡ [] → running.last ≡ 0 → running.outcome ≡ 0 → running.reserved ≡ 0 → UnderWay c task a a running
   begins c task a running phase entry events last outcome reserved = record {
     same = refl;
-    stands = subst (λ (p : Phase). StandsWith (config a) (disk a) p running.entry (Compile c)) (sym phase) (tt, entry);
+    stands = subst (λ (p : Phase). StandsWith (config a) (rooms a) p running.entry (Compile c)) (sym phase) (tt, entry);
     tied = subst (λ (p : Phase). Tied (setup (config a)) c task (newest_first running.events) p) (sym phase) (subst (λ (es : List JobEvent). Tied (setup (config a)) c task (newest_first es) (AtKey task true)) (sym events) (tied_new (setup (config a)) c task));
     kept = subst (λ (es : List JobEvent). AreKept (newest_first es ++ begun (Compile c) task) running) (sym events) (record { last = last; outcome = outcome; reserved = reserved });
     moved = subst (λ (es : List JobEvent). MovedBy moment moves (setup (config a)) (Compile c) (begun (Compile c) task) a (newest_first es) a) (sym events) refl;
   }
 
-  pub serves : (c : CompileRequest) (task : Task) (a b : H) (running : Running) → UnderWay c task a b running → ServesWith (config b) (disk b) running.phase running.entry (Compile c)
+  pub serves : (c : CompileRequest) (task : Task) (a b : H) (running : Running) → UnderWay c task a b running → ServesWith (config b) (rooms b) running.phase running.entry (Compile c)
   serves c task a b running u =
-      subst (λ (k : Config). ServesWith k (disk b) running.phase running.entry (Compile c)) (sym u.same) (serves_of (config a) (disk b) running.phase running.entry (Compile c) u.tied.job u.stands)
+      subst (λ (k : Config). ServesWith k (rooms b) running.phase running.entry (Compile c)) (sym u.same) (serves_of (config a) (rooms b) running.phase running.entry (Compile c) u.tied.job u.stands)
 
   -- the events are one more
   grown : (old new : Running) (m : ℕ) (x : What) → new.events ≡ old.events ++ record { moment = m; what = x } ∷ [] → newest_first new.events ≡ At m x ∷ newest_first old.events
   grown old new m x is = ap newest_first is ∙ ap (λ (own : List Own). reverse own) (map_one old.events (record { moment = m; what = x })) ∙ reverse-append (map own_of old.events) (At m x ∷ [])
 
-  goes_on : (c : CompileRequest) (task : Task) (a b b2 : H) (old new : Running) (x : What) → UnderWay c task a b old → is_over old.phase ≡ false → Steps (config a) (disk b2) (Compile c) (moment b2) old new x
+  goes_on : (c : CompileRequest) (task : Task) (a b b2 : H) (old new : Running) (x : What) → UnderWay c task a b old → is_over old.phase ≡ false → Steps (config a) (rooms b2) (Compile c) (moment b2) old new x
       → moves b (asker_at (config a) (Compile c) old) x b2 → config b2 ≡ config a → UnderWay c task a b2 new
   goes_on c task a b b2 old new x u o st mv same =
       let s = setup (config a) in
@@ -199,22 +199,22 @@ module _ {H : Type 0} (config : H → Config) (disk : H → ℕ → DiskStore) (
         same = same;
         stands = st.stands;
         tied = subst (λ (own : List Own). Tied s c task own new.phase) (sym more) (subst (λ (p : Phase). Tied s c task (At (moment b2) x ∷ newest_first old.events) p) (sym st.then) tied);
-        kept = subst (λ (own : List Own). AreKept (own ++ begun r task) new) (sym more) (kept_on (config a) (disk b2) r (newest_first old.events ++ begun r task) (moment b2) old new x u.kept st);
+        kept = subst (λ (own : List Own). AreKept (own ++ begun r task) new) (sym more) (kept_on (config a) (rooms b2) r (newest_first old.events ++ begun r task) (moment b2) old new x u.kept st);
         moved = subst (λ (own : List Own). MovedBy moment moves s r (begun r task) a own b2) (sym more)
             (b, asker_at (config a) r old, u.moved, refl, (needs_at s r (newest_first old.events ++ begun r task) old.phase x u.tied.keeps st.fits, refl, refl, u.kept.last, u.kept.outcome, u.kept.reserved), mv);
       }
 
-  pub steps_on : (c : CompileRequest) (task : Task) (a b b2 : H) (old new : Running) → UnderWay c task a b old → is_over old.phase ≡ false → StepsBy config disk moment moves (Compile c) b b2 old new → UnderWay c task a b2 new
+  pub steps_on : (c : CompileRequest) (task : Task) (a b b2 : H) (old new : Running) → UnderWay c task a b old → is_over old.phase ≡ false → StepsBy config rooms moment moves (Compile c) b b2 old new → UnderWay c task a b2 new
   steps_on c task a b b2 old new u o st =
-      goes_on c task a b b2 old new st.0 u o (subst (λ (k : Config). Steps k (disk b2) (Compile c) (moment b2) old new st.0) u.same st.1)
+      goes_on c task a b b2 old new st.0 u o (subst (λ (k : Config). Steps k (rooms b2) (Compile c) (moment b2) old new st.0) u.same st.1)
       (subst (λ (k : Config). moves b (asker_at k (Compile c) old) st.0 b2) u.same st.2) (st.3 ∙ u.same)
 
-  less : (c : CompileRequest) (task : Task) (a b b2 : H) (old new : Running) (x : What) → UnderWay c task a b old → is_over old.phase ≡ false → Steps (config a) (disk b2) (Compile c) (moment b2) old new x → left_at (setup (config a)) new.phase < left_at (setup (config a)) old.phase
+  less : (c : CompileRequest) (task : Task) (a b b2 : H) (old new : Running) (x : What) → UnderWay c task a b old → is_over old.phase ≡ false → Steps (config a) (rooms b2) (Compile c) (moment b2) old new x → left_at (setup (config a)) new.phase < left_at (setup (config a)) old.phase
   less c task a b b2 old new x u o st =
       subst (λ (p : Phase). left_at (setup (config a)) p < left_at (setup (config a)) old.phase) (sym st.then) (job_goes (setup (config a)) c old.phase (moment b2) x u.tied.job o st.fits).1
 
-  pub steps_less : (c : CompileRequest) (task : Task) (a b b2 : H) (old new : Running) → UnderWay c task a b old → is_over old.phase ≡ false → StepsBy config disk moment moves (Compile c) b b2 old new → left_at (setup (config a)) new.phase < left_at (setup (config a)) old.phase
-  steps_less c task a b b2 old new u o st = less c task a b b2 old new st.0 u o (subst (λ (k : Config). Steps k (disk b2) (Compile c) (moment b2) old new st.0) u.same st.1)
+  pub steps_less : (c : CompileRequest) (task : Task) (a b b2 : H) (old new : Running) → UnderWay c task a b old → is_over old.phase ≡ false → StepsBy config rooms moment moves (Compile c) b b2 old new → left_at (setup (config a)) new.phase < left_at (setup (config a)) old.phase
+  steps_less c task a b b2 old new u o st = less c task a b b2 old new st.0 u o (subst (λ (k : Config). Steps k (rooms b2) (Compile c) (moment b2) old new st.0) u.same st.1)
 
 -- ---- a job that is over
 

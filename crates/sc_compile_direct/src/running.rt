@@ -88,8 +88,8 @@ impl Running {
         request: &Request,
         out: &mut Vec<u8>,
     ) -> Result<(), NoMemory>
-        requires { ServesWith (H.config hold.old) (H.disk hold.old) self.old.phase self.old.entry request.now }
-        ensures { OnOk result (StepsBy H.config H.disk H.moment H.moves request.now hold.old hold.new self.old self.new) }
+        requires { ServesWith (H.config hold.old) (H.rooms hold.old) self.old.phase self.old.entry request.now }
+        ensures { OnOk result (StepsBy H.config H.rooms H.moment H.moves request.now hold.old hold.new self.old self.new) }
     {
         let since = Since {
             origin: Origin::Direct,

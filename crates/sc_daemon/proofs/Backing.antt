@@ -20,7 +20,7 @@ abbrev pub backed : Kept → State → List Write → Origin_of_put → (since m
 backed d o ws from since moment x = record d { state = o; background = ws; levels = counted_level o.config.policy (level_row from 0 since moment x) x d.levels }
 
 backed_of : (i : ℕ) (w : Write) (number moment since : ℕ) (x : What) (from : Origin_of_put) (d new : Kept) (o : State) (ws : List Write) → moment ≡ d.state.world.moment → number ≡ w.pending.number → write_at i d.background ≡ Some w
-    → AdvancesAt (config_of d.state.config) d.state.world.moment (disk_at d.state) (disk_at o) i x d.background ws → ((n : Need) → MarksAs n w.pending → OwnedMoves d.state n x o) → o.config ≡ d.state.config
+    → AdvancesAt (config_of d.state.config) d.state.world.moment (Some (disk_at d.state)) (Some (disk_at o)) i x d.background ws → ((n : Need) → MarksAs n w.pending → OwnedMoves d.state n x o) → o.config ≡ d.state.config
     → from ≡ by_backfill w.pending.backfill w.pending.at → since ≡ w.pending.since → new ≡ backed d o ws from since moment x → BacksAt i w (record { moment = moment; owner = OfWrite number; what = x }) d new
 backed_of i w number moment since x from d new o ws now is_number at goes moves same is_from is_since is =
     let k = config_of d.state.config in
@@ -31,8 +31,8 @@ backed_of i w number moment since x from d new o ws now is_number at goes moves 
       moment = now;
       owner = ap OfWrite is_number;
       then = goes.then;
-      advances = subst (λ (e : Kept). Advances k d.state.world.moment (disk_at d.state) (disk_at e.state) x w goes.then) (sym is)
-          (subst (λ (v : Write). Advances k d.state.world.moment (disk_at d.state) (disk_at o) x v goes.then) its goes.advances);
+      advances = subst (λ (e : Kept). Advances k d.state.world.moment (Some (disk_at d.state)) (Some (disk_at e.state)) x w goes.then) (sym is)
+          (subst (λ (v : Write). Advances k d.state.world.moment (Some (disk_at d.state)) (Some (disk_at o)) x v goes.then) its goes.advances);
       moves = subst (λ (e : Kept). OwnedMoves d.state (need_back (setup k) w.pending) x e.state) (sym is) (moves (need_back (setup k) w.pending) refl);
       config = ap (λ (e : Kept). e.state.config) is ∙ same;
       same = is
@@ -44,7 +44,7 @@ backed_of i w number moment since x from d new o ws now is_number at goes moves 
     }
 
 pub backs_event : (i : ℕ) (w : Write) (number moment since : ℕ) (x : What) (from : Origin_of_put) (was d new : Kept) (o : State) (ws : List Write) → was ≡ d → moment ≡ d.state.world.moment → number ≡ w.pending.number → write_at i was.background ≡ Some w
-    → AdvancesAt (config_of was.state.config) was.state.world.moment (disk_at was.state) (disk_at o) i x was.background ws → ((n : Need) → MarksAs n w.pending → OwnedMoves was.state n x o) → o.config ≡ was.state.config
+    → AdvancesAt (config_of was.state.config) was.state.world.moment (Some (disk_at was.state)) (Some (disk_at o)) i x was.background ws → ((n : Need) → MarksAs n w.pending → OwnedMoves was.state n x o) → o.config ≡ was.state.config
     → from ≡ by_backfill w.pending.backfill w.pending.at → since ≡ w.pending.since → new ≡ backed was o ws from since moment x → BacksEvent i (record { moment = moment; owner = OfWrite number; what = x }) d new
 backs_event i w number moment since x from was d new o ws is now is_number at goes moves same is_from is_since counted =
     inr (

@@ -1,5 +1,5 @@
 -- A served event that was counted.
-use Rattle.std.proofs.Common.{◌≡◌, ℕ, true, false, Result, Ok, Err, refl, sym, ◌∙◌, subst}
+use Rattle.std.proofs.Common.{◌≡◌, ℕ, true, false, Result, Ok, Err, refl, sym, ◌∙◌, subst, Some}
 use Rattle.std.specs.Prelude.{IfOk, IsOk, OnOk}
 use Rattle.sc_daemon.specs.Daemons.{Kept, ServesEvent}
 use Rattle.sc_daemon.specs.Lines.{Line, asker_at, conn_of}
@@ -60,7 +60,7 @@ counted_count s r since m (WriteEnded put hs) before none = refl
 counted_count s r since m (Sent g) before none = sym none
 counted_count s r since m (TooLong z) before none = sym none
 
-pub serves_event : (c j : ℕ) (x : What) (d d2 : Kept) (old new : Line) → j ≡ old.at → sum d.stats no_stats ≡ d.stats → Serves_one (config_of d.state.config) (disk_at d.state) (disk_at d2.state) d2.state.world.moment d.free x old new
+pub serves_event : (c j : ℕ) (x : What) (d d2 : Kept) (old new : Line) → j ≡ old.at → sum d.stats no_stats ≡ d.stats → Serves_one (config_of d.state.config) (Some (disk_at d.state)) (Some (disk_at d2.state)) d2.state.world.moment d.free x old new
     → KeptMoves d (asker_at (config_of d.state.config) old) x d2 → ServesEvent c (record { moment = d2.state.world.moment; owner = OfRequest c j; what = x }) d d2 old new
 serves_event c j x d d2 old new number none one moves =
     let k = config_of d.state.config in
@@ -71,7 +71,7 @@ serves_event c j x d d2 old new number none one moves =
         refl,
         record {
           number = number;
-          one = subst (λ (m : ℕ). Serves_one k (disk_at d.state) (disk_at d2.state) m d.free x old new) still one;
+          one = subst (λ (m : ℕ). Serves_one k (Some (disk_at d.state)) (Some (disk_at d2.state)) m d.free x old new) still one;
           says = moves.says;
           moves = moves.moves;
           config = moves.moves.4;

@@ -1,5 +1,5 @@
 -- A whole drive is a run of the machine.
-use Rattle.std.proofs.Common.{◌≡◌, ℕ, zero, suc, ◌+◌, ◌<◌, true, List, [], ◌∷◌, None, ◌++◌, length, map, drop, reverse, get_or, refl, sym, ap, ◌∙◌, subst, append_assoc, add-one, Result, Ok, Err}
+use Rattle.std.proofs.Common.{◌≡◌, ℕ, zero, suc, ◌+◌, ◌<◌, true, List, [], ◌∷◌, Some, None, ◌++◌, length, map, drop, reverse, get_or, refl, sym, ap, ◌∙◌, subst, append_assoc, add-one, Result, Ok, Err}
 use Rattle.std.specs.Prelude.{IfOk}
 use Rattle.std.proofs.Math.Seq.{drop-cons}
 use Rattle.std.proofs.lemmas.List.{append-nil, length-map, reverse-append}
@@ -10,7 +10,7 @@ use Rattle.sc_daemon.specs.Drives.{AreAt, IsScriptOf, Progress, StepsOn, Tied, T
 use Rattle.sc_daemon.specs.Lines.{Line, conn_of, line_hand, new_line}
 use Rattle.sc_daemon.specs.Ties.{Owners, TiesHand}
 use Rattle.sc_daemon.specs.declared.driven.Driven.{Driven}
-use Rattle.sc_store_disk.specs.DiskStores.{DiskStore}
+use Rattle.sc_daemon_hold.specs.Holding.{Rooms}
 use Rattle.sc_daemon_job.specs.Setups.{Config, setup}
 use Rattle.sc_model.proofs.Streams.{reads_on}
 use Rattle.sc_model.specs.Headline.{Headline, Result_of_run}
@@ -38,7 +38,7 @@ count_of : (limit n : ℕ) → length (lines_of limit n) ≡ n
 count_of limit zero = refl
 count_of limit (suc n) = ap suc (count_of limit n)
 
-at_first : (k : Config) (d : ℕ → DiskStore) (n : ℕ) → AreAt k d (lines_of k.limit n)
+at_first : (k : Config) (d : Rooms) (n : ℕ) → AreAt k d (lines_of k.limit n)
 at_first k d zero c = (refl, (refl, refl))
 at_first k d (suc n) zero = (refl, (refl, refl))
 at_first k d (suc n) (suc c) = at_first k d n c
@@ -74,7 +74,7 @@ idle_anew d idle = record { free = idle.free; levels = idle.levels; background =
 pub tied_first : (d : Kept) (n : ℕ) → IsIdleDaemon d → Tied d (lines_of d.state.config.limit n) []
 tied_first d n idle = record {
   at = at_first (config_of d.state.config) (disk_at d.state) n;
-  pending = subst (ArePending (config_of d.state.config) (disk_at d.state)) (sym idle.background) tt;
+  pending = subst (ArePending (config_of d.state.config) (Some (disk_at d.state))) (sym idle.background) tt;
   numbers = subst (AreNumbered 0 d.handed) (sym idle.background) tt;
   owns = no_owner;
   reserved = λ l. sym (idle.reserved l);
@@ -131,7 +131,7 @@ end_line : (s : Script) (limit : ℕ) (l : Line) → s.reader ≡ request_reader
 end_line s limit l reads same =
     ap (λ r. if_too_long l.long (r.ends l.rest l.closed)) reads ∙ ap (λ (n : ℕ). if_too_long l.long ((request_reader n).ends l.rest l.closed)) (sym same)
 
-end_lines : (s : Script) (k : Config) (d : ℕ → DiskStore) (lines : List Line) → s.reader ≡ request_reader k.limit → AreAt k d lines → map (end_at s) (map conn_of lines) ≡ map line_end lines
+end_lines : (s : Script) (k : Config) (d : Rooms) (lines : List Line) → s.reader ≡ request_reader k.limit → AreAt k d lines → map (end_at s) (map conn_of lines) ≡ map line_end lines
 end_lines s k d [] reads at = refl
 end_lines s k d (l ∷ lines) reads at =
     ap (λ (e : End). e ∷ map (end_at s) (map conn_of lines)) (end_line s k.limit l reads ((at 0).0)) ∙ ap (λ (es : List End). line_end l ∷ es) (end_lines s k d lines reads (λ c. at (suc c)))

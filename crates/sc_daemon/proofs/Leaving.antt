@@ -8,8 +8,7 @@ use Rattle.sc_daemon.specs.Standings.{Rests, RestsAt}
 use Rattle.sc_daemon.specs.Ties.{IsThere, Owners, TiesHand}
 use Rattle.sc_daemon.proofs.Staying.{held_there}
 use Rattle.sc_disk.specs.Store.{AddEntry}
-use Rattle.sc_store_disk.specs.DiskStores.{DiskStore}
-use Rattle.sc_daemon_hold.specs.Holding.{hand_at}
+use Rattle.sc_daemon_hold.specs.Holding.{Rooms, hand_at}
 use Rattle.sc_daemon_job.specs.Setups.{Config}
 use Rattle.sc_model.specs.Follows.{bytes_in}
 use Rattle.sc_model.specs.Conns.{Conn, advanced, current, settle, told_by}
@@ -38,10 +37,10 @@ lines_set P z (x ∷ xs) zero new lt here others (suc i) = others (suc i) (λ e.
 lines_set P z (x ∷ xs) (suc c) new lt here others zero = others zero (λ e. absurd (omega (arith, e)))
 lines_set P z (x ∷ xs) (suc c) new lt here others (suc i) = lines_set (λ j. P (suc j)) z xs c new (omega (arith, lt)) here (λ j apart. others (suc j) (λ e. apart (omega (arith, e)))) i
 
-none_there : (d : ℕ → DiskStore) (p : Phase) (entry : Option AddEntry) → entry ≡ None → IsThere d (hand_of entry p)
+none_there : (d : Rooms) (p : Phase) (entry : Option AddEntry) → entry ≡ None → IsThere d (hand_of entry p)
 none_there d p entry is = subst (λ (e : Option AddEntry). IsThere d (hand_of e p)) (sym is) tt
 
-at_there : (k : Config) (d : ℕ → DiskStore) (p : Phase) (entry : Option AddEntry) (r : Request) → RestsAt k d p entry r → IsThere d (hand_of entry p)
+at_there : (k : Config) (d : Rooms) (p : Phase) (entry : Option AddEntry) (r : Request) → RestsAt k (Some d) p entry r → IsThere d (hand_of entry p)
 at_there k d AtBegin entry r rests = none_there d AtBegin entry rests.1
 at_there k d (AtSend a) entry r rests = none_there d (AtSend a) entry rests.1
 at_there k d (AtStarted a) entry r rests = none_there d (AtStarted a) entry rests.1
@@ -68,16 +67,16 @@ at_there k d (AtEnded a) entry r rests = none_there d (AtEnded a) entry rests
 at_there k d AtOver entry r rests = none_there d AtOver entry rests.1
 
 -- an entry that is held is open
-pub rests_there : (k : Config) (d : ℕ → DiskStore) (p : Phase) (entry : Option AddEntry) (w : List Request) → Rests k d p entry w → IsThere d (hand_of entry p)
+pub rests_there : (k : Config) (d : Rooms) (p : Phase) (entry : Option AddEntry) (w : List Request) → Rests k (Some d) p entry w → IsThere d (hand_of entry p)
 rests_there k d p entry [] rests = none_there d p entry rests.1
 rests_there k d p entry (r ∷ w) rests = at_there k d p entry r rests
 
-stage_there : (k : Config) (d : ℕ → DiskStore) (stage : Stage) (entry : Option AddEntry) (l : ℕ) (b : Bytes) → IsAtStage k d stage entry l b → IsThere d (hand_at entry l (length b.bytes))
+stage_there : (k : Config) (d : Rooms) (stage : Stage) (entry : Option AddEntry) (l : ℕ) (b : Bytes) → IsAtStage k (Some d) stage entry l b → IsThere d (hand_at entry l (length b.bytes))
 stage_there k d Fresh entry l b at = subst (λ (e : Option AddEntry). IsThere d (hand_at e l (length b.bytes))) (sym at) tt
 stage_there k d IsReserved entry l b at = held_there d l entry b [] None at.1
 stage_there k d IsFilled entry l b at = held_there d l entry b b.bytes (Some b.run) at.1
 
-pub pending_there : (k : Config) (d : ℕ → DiskStore) (w : Write) → IsPending k d w → IsThere d (hand_in w)
+pub pending_there : (k : Config) (d : Rooms) (w : Write) → IsPending k (Some d) w → IsThere d (hand_in w)
 pending_there k d w at = stage_there k d w.pending.stage w.entry w.pending.handed.level (bytes_in w.pending.handed) at.1
 
 -- a request keeps its number until it is over
@@ -120,23 +119,23 @@ hand_number P s c z x new is none here = by_cases (number_stays s c z x new is)
     by_cases (inl same) = subst (λ (n : ℕ). P n new) (sym same) here
     by_cases (inr begin) = none new.at (ap (λ (p : Phase). hand_of new.entry p) begin ∙ begin_hand new.entry)
 
-pub none_ties : (owns : Owners) (opens : List Open) (d : ℕ → DiskStore) (c n : ℕ) (l : Line) → line_hand l ≡ None → TiesHand owns opens d (OfRequest c n) (line_hand l)
+pub none_ties : (owns : Owners) (opens : List Open) (d : Rooms) (c n : ℕ) (l : Line) → line_hand l ≡ None → TiesHand owns opens d (OfRequest c n) (line_hand l)
 none_ties owns opens d c n l none = subst (TiesHand owns opens d (OfRequest c n)) (sym none) tt
 
 -- Writes that are handed on.
-pub append_pending : (k : Config) (d : ℕ → DiskStore) (ws vs : List Write) → ArePending k d ws → ArePending k d vs → ArePending k d (ws ++ vs)
+pub append_pending : (k : Config) (d : Option Rooms) (ws vs : List Write) → ArePending k d ws → ArePending k d vs → ArePending k d (ws ++ vs)
 append_pending k d [] vs are more = more
 append_pending k d (w ∷ ws) vs are more = (are.0, append_pending k d ws vs are.1 more)
 
-pub append_ties : (owns : Owners) (opens : List Open) (d : ℕ → DiskStore) (ws vs : List Write) → TiesWrites owns opens d ws → TiesWrites owns opens d vs → TiesWrites owns opens d (ws ++ vs)
+pub append_ties : (owns : Owners) (opens : List Open) (d : Rooms) (ws vs : List Write) → TiesWrites owns opens d ws → TiesWrites owns opens d vs → TiesWrites owns opens d (ws ++ vs)
 append_ties owns opens d [] vs are more = more
 append_ties owns opens d (w ∷ ws) vs are more = (are.0, append_ties owns opens d ws vs are.1 more)
 
-numbered_are : (k : Config) (d : ℕ → DiskStore) (j m : ℕ) (b : Bool) (hs : List Handed) → AreHanded (length k.levels) hs → ArePending k d (fresh_writes (pend (numbered j m b hs)))
+numbered_are : (k : Config) (d : Option Rooms) (j m : ℕ) (b : Bool) (hs : List Handed) → AreHanded (length k.levels) hs → ArePending k d (fresh_writes (pend (numbered j m b hs)))
 numbered_are k d j m b [] there = tt
 numbered_are k d j m b (h ∷ hs) there = ((there.0, refl), numbered_are k d (suc j) m b hs there.1)
 
-pub hands_are : (k : Config) (d : ℕ → DiskStore) (j m : ℕ) (x : What) → AreHanded (length k.levels) (handed_in x) → ArePending k d (fresh_writes (pend (hands j m x)))
+pub hands_are : (k : Config) (d : Option Rooms) (j m : ℕ) (x : What) → AreHanded (length k.levels) (handed_in x) → ArePending k d (fresh_writes (pend (hands j m x)))
 hands_are k d j m (Asked l key mode a hs) there = numbered_are k d j m true hs there
 hands_are k d j m (WriteEnded put hs) there = numbered_are k d j m false hs there
 hands_are k d j m Idle there = tt
@@ -157,7 +156,7 @@ hands_are k d j m (Wrote a b f g h i) there = tt
 hands_are k d j m (Sent a) there = tt
 hands_are k d j m (TooLong a) there = tt
 
-pub fresh_tie : (owns : Owners) (opens : List Open) (d : ℕ → DiskStore) (j m : ℕ) (x : What) → TiesWrites owns opens d (fresh_writes (pend (hands j m x)))
+pub fresh_tie : (owns : Owners) (opens : List Open) (d : Rooms) (j m : ℕ) (x : What) → TiesWrites owns opens d (fresh_writes (pend (hands j m x)))
 fresh_tie owns opens d j m x = each (pend (hands j m x))
   where
     each : (ps : List Pending) → TiesWrites owns opens d (fresh_writes ps)
@@ -214,13 +213,13 @@ with_numbers from below zero done w now (v ∷ ws) at same are = let is : v ≡ 
 with_numbers from below (suc i) done w now (v ∷ ws) at same are = (are.0, are.1, with_numbers (suc v.pending.number) below i done w now ws at same are.2)
 
 -- the ties of one of them
-pub write_ties : (owns : Owners) (opens : List Open) (d : ℕ → DiskStore) (i : ℕ) (ws : List Write) (w : Write) → write_at i ws ≡ Some w → TiesWrites owns opens d ws → TiesHand owns opens d (OfWrite w.pending.number) (hand_in w)
+pub write_ties : (owns : Owners) (opens : List Open) (d : Rooms) (i : ℕ) (ws : List Write) (w : Write) → write_at i ws ≡ Some w → TiesWrites owns opens d ws → TiesHand owns opens d (OfWrite w.pending.number) (hand_in w)
 write_ties owns opens d i [] w at are = absurd (cc)
 write_ties owns opens d zero (v ∷ ws) w at are = let same : v ≡ w = cc in subst (λ (y : Write). TiesHand owns opens d (OfWrite y.pending.number) (hand_in y)) same are.0
 write_ties owns opens d (suc i) (v ∷ ws) w at are = write_ties owns opens d i ws w at are.1
 
 -- a write at a place can be gone on with
-pub pending_at_place : (k : Config) (d : ℕ → DiskStore) (i : ℕ) (ws : List Write) (w : Write) → write_at i ws ≡ Some w → ArePending k d ws → IsPending k d w
+pub pending_at_place : (k : Config) (d : Option Rooms) (i : ℕ) (ws : List Write) (w : Write) → write_at i ws ≡ Some w → ArePending k d ws → IsPending k d w
 pending_at_place k d i [] w at are = absurd (cc)
 pending_at_place k d zero (v ∷ ws) w at are = let same : v ≡ w = cc in subst (IsPending k d) same are.0
 pending_at_place k d (suc i) (v ∷ ws) w at are = pending_at_place k d i ws w at are.1

@@ -1,5 +1,5 @@
 -- A session goes on.
-use Rattle.std.proofs.Common.{◌≡◌, ℕ, zero, suc, inl, inr, true, List, [], ◌∷◌, ◌++◌, Result, Ok, Err, arith, refl, sym, ap, ◌∙◌, subst}
+use Rattle.std.proofs.Common.{◌≡◌, ℕ, zero, suc, inl, inr, true, List, [], ◌∷◌, ◌++◌, Result, Ok, Err, arith, refl, sym, ap, ◌∙◌, subst, Some}
 use Rattle.std.specs.Prelude.{OnOk}
 use Rattle.sc_daemon.specs.Daemons.{BacksEvent, IsIdleDaemon, Kept, ServesEvent, anew, passed}
 use Rattle.sc_daemon.specs.Drives.{IsAt, Tied, TiesLine}
@@ -51,9 +51,9 @@ feeds_on d old new bytes s (inr (going, takes)) =
     let k = config_of d.state.config in
     let a = disk_at d.state in
     let here : IsAt k a old = s.tied.at zero in
-    let rests : Rests k a old.phase old.entry new.waiting = more_rests k a old.phase old.entry old.waiting ((request_reader old.limit).requests (old.rest ++ bytes)) new.waiting here.1 takes.requests in
+    let rests : Rests k (Some a) old.phase old.entry new.waiting = more_rests k (Some a) old.phase old.entry old.waiting ((request_reader old.limit).requests (old.rest ++ bytes)) new.waiting here.1 takes.requests in
     other_line d old new s
-    (ap (λ (l : Line). l.limit) takes.same ∙ here.0, subst (λ (l : Line). Rests k a l.phase l.entry new.waiting) (sym takes.same) rests)
+    (ap (λ (l : Line). l.limit) takes.same ∙ here.0, subst (λ (l : Line). Rests k (Some a) l.phase l.entry new.waiting) (sym takes.same) rests)
     (subst (λ (l : Line). TiesLine s.tied.owns s.opens a zero l) (sym takes.same) (s.tied.lines zero))
 
 pub shuts_on : (d : Kept) (l new : Line) → IsServing d l → new ≡ record l { closed = true } → IsServing d new
@@ -65,7 +65,7 @@ sends_on d l new s is = subst (λ (n : Line). IsServing d n) (sym is) (other_lin
 pub renews : (d : Kept) (l new : Line) → IsServing d l → new ≡ new_line d.state.config.limit → IsServing d new
 renews d l new s is = subst (λ (n : Line). IsServing d n) (sym is) (other_line d l (new_line d.state.config.limit) s (refl, (refl, refl)) tt)
 
-pub serves_on : (d d2 : Kept) (old new : Line) (e : Event) → IsServing d old → ServesEvent zero e d d2 old new → Rests (config_of d.state.config) (disk_at d2.state) new.phase new.entry new.waiting → IsServing d2 new
+pub serves_on : (d d2 : Kept) (old new : Line) (e : Event) → IsServing d old → ServesEvent zero e d d2 old new → Rests (config_of d.state.config) (Some (disk_at d2.state)) new.phase new.entry new.waiting → IsServing d2 new
 serves_on d d2 old new e serving serves rests = record {
   opens = reserved_by e.owner e.what serving.opens;
   tied = serves_tied zero e.owner e.what d d2 (old ∷ []) serving.opens old new (omega arith) serving.tied serves.serves rests;

@@ -8,7 +8,7 @@ use Rattle.sc_daemon.specs.Ties.{IsThere, Owners, TiesHand, with_owner}
 use Rattle.sc_daemon.proofs.Tying.{others_open, others_tie}
 use Rattle.sc_disk.specs.Store.{AddEntry}
 use Rattle.sc_store_disk.specs.DiskStores.{DiskStore, entry_at, entry_path}
-use Rattle.sc_daemon_hold.specs.Holding.{Hand, HandsBy, Holds, IsHeld, KeepsHands, hand_at}
+use Rattle.sc_daemon_hold.specs.Holding.{Hand, HandsBy, IsHeld, IsOpenFor, KeepsHands, Rooms, hand_at}
 use Rattle.sc_daemon_job.specs.Setups.{Config}
 use Rattle.sc_model.specs.Follows.{bytes_in}
 use Rattle.sc_model.specs.Trace.{Open, reserved_by, same_owner}
@@ -22,13 +22,13 @@ use Rattle.sc_model.specs.declared.phase.Phase.TheVariants.{AtAsk, AtBegin, AtCo
 use Rattle.sc_model.specs.declared.phase.Stage.{Stage}
 use Rattle.sc_model.specs.declared.phase.Stage.TheVariants.{Filled as IsFilled, Fresh, Reserved as IsReserved}
 
-holds_stays : (s t : DiskStore) (e : AddEntry) (b : Bytes) (f : List ℕ) (fills : Option Bool) (h : Holds s e b f fills) → t.told ≡ s.told → entry_at t.entries e.number ≡ Some (record { path = entry_path b.key; size = length b.bytes; bytes = h.bytes; fills = fills }) → Holds t e b f fills
-holds_stays s t e b f fills h told there = record { good = h.good; key = h.key; divided = h.divided; bytes = h.bytes; entry = there; told = λ is. h.told (sym told ∙ is) }
+holds_stays : (s t : DiskStore) (e : AddEntry) (b : Bytes) (f : List ℕ) (fills : Option Bool) (h : IsOpenFor s e b f fills) → t.told ≡ s.told → entry_at t.entries e.number ≡ Some (record { path = entry_path b.key; size = length b.bytes; bytes = h.bytes; fills = fills }) → IsOpenFor t e b f fills
+holds_stays s t e b f fills h told there = record { bytes = h.bytes; entry = there; told = λ is. h.told (sym told ∙ is) }
 
 -- a held entry is there
-pub held_there : (d : ℕ → DiskStore) (l : ℕ) (entry : Option AddEntry) (b : Bytes) (f : List ℕ) (fills : Option Bool) → IsHeld (d l) entry b f fills → IsThere d (hand_at entry l (length b.bytes))
+pub held_there : (d : Rooms) (l : ℕ) (entry : Option AddEntry) (b : Bytes) (f : List ℕ) (fills : Option Bool) → IsHeld (Some d) l entry b f fills → IsThere d (hand_at entry l (length b.bytes))
 held_there d l None b f fills held = absurd held
-held_there d l (Some e) b f fills held = (record { path = entry_path b.key; size = length b.bytes; bytes = held.bytes; fills = fills }, held.entry)
+held_there d l (Some e) b f fills held = (record { path = entry_path b.key; size = length b.bytes; bytes = held.1.bytes; fills = fills }, held.1.entry)
 
 -- of two writes one has a lesser number than the other
 different : (m n : ℕ) → m < n → (n == m) ≡ false
@@ -51,17 +51,19 @@ later_number from below (suc i) (v ∷ ws) w are at =
     let first : from ≤ v.pending.number = are.0 in
     omega (arith, there, first)
 
-module _ (owns : Owners) (opens : List Open) (d d2 : ℕ → DiskStore) (o : Owner) (x : What) (h h2 : Option Hand) (by : HandsBy d x h h2) (keeps : KeepsHands h d d2) (ties : TiesHand owns opens d o h) (told : (l : ℕ) → (d2 l).told ≡ (d l).told) where
+module _ (owns : Owners) (opens : List Open) (d d2 : Rooms) (o : Owner) (x : What) (h h2 : Option Hand) (by : HandsBy d x h h2) (keeps : KeepsHands h d d2) (ties : TiesHand owns opens d o h) (told : (l : ℕ) → (d2 l).told ≡ (d l).told) where
   pub tie : (p : Owner) (q : Option Hand) → same_owner o p ≡ false → TiesHand owns opens d p q → TiesHand (with_owner owns o h2) (reserved_by o x opens) d2 p q
   tie p q apart theirs = others_tie owns opens d d2 o p x h h2 q apart by keeps ties theirs
 
-  held_stays : (p : Owner) (l : ℕ) (entry : Option AddEntry) (b : Bytes) (f : List ℕ) (fills : Option Bool) → same_owner o p ≡ false → TiesHand owns opens d p (hand_at entry l (length b.bytes)) → IsHeld (d l) entry b f fills → IsHeld (d2 l) entry b f fills
+  held_stays : (p : Owner) (l : ℕ) (entry : Option AddEntry) (b : Bytes) (f : List ℕ) (fills : Option Bool) → same_owner o p ≡ false → TiesHand owns opens d p (hand_at entry l (length b.bytes)) → IsHeld (Some d) l entry b f fills → IsHeld (Some d2) l entry b f fills
   held_stays p l None b f fills apart theirs held = held
-  held_stays p l (Some e) b f fills apart theirs held =
-      holds_stays (d l) (d2 l) e b f fills held (told l)
-      (others_open owns opens d d2 o p h (record { level = l; number = e.number; size = length b.bytes }) (record { path = entry_path b.key; size = length b.bytes; bytes = held.bytes; fills = fills }) apart keeps ties theirs held.entry)
+  held_stays p l (Some e) b f fills apart theirs held = (
+    held.0,
+    holds_stays (d l) (d2 l) e b f fills held.1 (told l)
+        (others_open owns opens d d2 o p h (record { level = l; number = e.number; size = length b.bytes }) (record { path = entry_path b.key; size = length b.bytes; bytes = held.1.bytes; fills = fills }) apart keeps ties theirs held.1.entry),
+  )
 
-  rests_at : (k : Config) (p : Owner) (phase : Phase) (entry : Option AddEntry) (r : Request) → same_owner o p ≡ false → TiesHand owns opens d p (hand_of entry phase) → RestsAt k d phase entry r → RestsAt k d2 phase entry r
+  rests_at : (k : Config) (p : Owner) (phase : Phase) (entry : Option AddEntry) (r : Request) → same_owner o p ≡ false → TiesHand owns opens d p (hand_of entry phase) → RestsAt k (Some d) phase entry r → RestsAt k (Some d2) phase entry r
   rests_at k p AtBegin entry r apart theirs rests = rests
   rests_at k p (AtSend a) entry r apart theirs rests = rests
   rests_at k p (AtStarted a) entry r apart theirs rests = rests
@@ -88,20 +90,20 @@ module _ (owns : Owners) (opens : List Open) (d d2 : ℕ → DiskStore) (o : Own
   rests_at k p AtOver entry r apart theirs rests = rests
 
   -- where another connection's first request stands it can be gone on with still
-  pub rests_stays : (k : Config) (p : Owner) (phase : Phase) (entry : Option AddEntry) (w : List Request) → same_owner o p ≡ false → TiesHand owns opens d p (hand_of entry phase) → Rests k d phase entry w → Rests k d2 phase entry w
+  pub rests_stays : (k : Config) (p : Owner) (phase : Phase) (entry : Option AddEntry) (w : List Request) → same_owner o p ≡ false → TiesHand owns opens d p (hand_of entry phase) → Rests k (Some d) phase entry w → Rests k (Some d2) phase entry w
   rests_stays k p phase entry [] apart theirs rests = rests
   rests_stays k p phase entry (r ∷ w) apart theirs rests = rests_at k p phase entry r apart theirs rests
 
-  stage_stays : (k : Config) (p : Owner) (stage : Stage) (entry : Option AddEntry) (l : ℕ) (b : Bytes) → same_owner o p ≡ false → TiesHand owns opens d p (hand_at entry l (length b.bytes)) → IsAtStage k d stage entry l b → IsAtStage k d2 stage entry l b
+  stage_stays : (k : Config) (p : Owner) (stage : Stage) (entry : Option AddEntry) (l : ℕ) (b : Bytes) → same_owner o p ≡ false → TiesHand owns opens d p (hand_at entry l (length b.bytes)) → IsAtStage k (Some d) stage entry l b → IsAtStage k (Some d2) stage entry l b
   stage_stays k p Fresh entry l b apart theirs at = at
   stage_stays k p IsReserved entry l b apart theirs at = (at.0, held_stays p l entry b [] None apart theirs at.1)
   stage_stays k p IsFilled entry l b apart theirs at = (at.0, held_stays p l entry b b.bytes (Some b.run) apart theirs at.1)
 
   -- and so can another handed write
-  pending_stays : (k : Config) (w : Write) → same_owner o (OfWrite w.pending.number) ≡ false → TiesHand owns opens d (OfWrite w.pending.number) (hand_in w) → IsPending k d w → IsPending k d2 w
+  pending_stays : (k : Config) (w : Write) → same_owner o (OfWrite w.pending.number) ≡ false → TiesHand owns opens d (OfWrite w.pending.number) (hand_in w) → IsPending k (Some d) w → IsPending k (Some d2) w
   pending_stays k w apart theirs at = (at.0, stage_stays k (OfWrite w.pending.number) w.pending.stage w.entry w.pending.handed.level (bytes_in w.pending.handed) apart theirs at.1)
 
-  pub all_pending : (k : Config) (ws : List Write) → ((n : ℕ) → same_owner o (OfWrite n) ≡ false) → TiesWrites owns opens d ws → ArePending k d ws → ArePending k d2 ws
+  pub all_pending : (k : Config) (ws : List Write) → ((n : ℕ) → same_owner o (OfWrite n) ≡ false) → TiesWrites owns opens d ws → ArePending k (Some d) ws → ArePending k (Some d2) ws
   all_pending k [] apart theirs are = tt
   all_pending k (w ∷ ws) apart theirs are = (pending_stays k w (apart w.pending.number) theirs.0 are.0, all_pending k ws apart theirs.1 are.1)
 
@@ -114,7 +116,7 @@ module _ (owns : Owners) (opens : List Open) (d d2 : ℕ → DiskStore) (o : Own
     apart_by : (m : ℕ) → (n == m) ≡ false → same_owner o (OfWrite m) ≡ false
     apart_by m e = ap (λ (p : Owner). same_owner p (OfWrite m)) mine ∙ e
 
-    behind_pending : (k : Config) (from below : ℕ) (ws : List Write) → n < from → AreNumbered from below ws → TiesWrites owns opens d ws → ArePending k d ws → ArePending k d2 ws
+    behind_pending : (k : Config) (from below : ℕ) (ws : List Write) → n < from → AreNumbered from below ws → TiesWrites owns opens d ws → ArePending k (Some d) ws → ArePending k (Some d2) ws
     behind_pending k from below [] lt numbers theirs are = tt
     behind_pending k from below (w ∷ ws) lt numbers theirs are =
         let first : from ≤ w.pending.number = numbers.0 in
@@ -126,7 +128,7 @@ module _ (owns : Owners) (opens : List Open) (d d2 : ℕ → DiskStore) (o : Own
         let first : from ≤ w.pending.number = numbers.0 in
         (tie (OfWrite w.pending.number) (hand_in w) (apart_by w.pending.number (differs w.pending.number n (omega (arith, lt, first)))) theirs.0, behind_writes (suc w.pending.number) below ws (omega (arith, lt, first)) numbers.2 theirs.1)
 
-    put_pending : (k : Config) (done : Bool) (now : Write) (ws : List Write) → (done ≡ false → IsPending k d2 now) → ArePending k d2 ws → ArePending k d2 (put_write done now ws)
+    put_pending : (k : Config) (done : Bool) (now : Write) (ws : List Write) → (done ≡ false → IsPending k (Some d2) now) → ArePending k (Some d2) ws → ArePending k (Some d2) (put_write done now ws)
     put_pending k true now ws stands are = are
     put_pending k false now ws stands are = (stands refl, are)
 
@@ -135,8 +137,8 @@ module _ (owns : Owners) (opens : List Open) (d d2 : ℕ → DiskStore) (o : Own
     put_writes true now ws own are = are
     put_writes false now ws own are = (own refl, are)
 
-    pub back_pending : (k : Config) (from below i : ℕ) (done : Bool) (w now : Write) (ws : List Write) → write_at i ws ≡ Some w → w.pending.number ≡ n → (done ≡ false → IsPending k d2 now) → AreNumbered from below ws → TiesWrites owns opens d ws → ArePending k d ws
-        → ArePending k d2 (with_write i done now ws)
+    pub back_pending : (k : Config) (from below i : ℕ) (done : Bool) (w now : Write) (ws : List Write) → write_at i ws ≡ Some w → w.pending.number ≡ n → (done ≡ false → IsPending k (Some d2) now) → AreNumbered from below ws → TiesWrites owns opens d ws → ArePending k (Some d) ws
+        → ArePending k (Some d2) (with_write i done now ws)
     back_pending k from below i done w now [] at is stands numbers theirs are = tt
     back_pending k from below zero done w now (v ∷ ws) at is stands numbers theirs are =
         let same : v ≡ w = cc in

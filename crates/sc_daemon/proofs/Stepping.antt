@@ -100,7 +100,7 @@ of_config d2 f P same p = subst (λ (g : DaemonFacts). P (config_of g)) (sym sam
 
 -- What a served event leaves.
 served_tied : (c j : ℕ) (x : What) (d d2 : Kept) (lines : List Line) (opens : List Open) (l new : Line) → c < length lines → Tied d lines opens → ServesAt c j x d d2 (get_or lines c l) new
-    → Rests (config_of d.state.config) (disk_at d2.state) new.phase new.entry new.waiting → Tied d2 (set lines c new) (reserved_by (OfRequest c (get_or lines c l).at) x opens)
+    → Rests (config_of d.state.config) (Some (disk_at d2.state)) new.phase new.entry new.waiting → Tied d2 (set lines c new) (reserved_by (OfRequest c (get_or lines c l).at) x opens)
 served_tied c j x d d2 lines opens l new lt t at rests =
     let old = get_or lines c l in
     let k = config_of d.state.config in
@@ -121,16 +121,16 @@ served_tied c j x d d2 lines opens l new lt t at rests =
     (hand_number (λ n y. TiesHand owns2 opens2 b (OfRequest c n) (line_hand y)) (setup k) (conn_of old) d.state.world.moment x new at.one.then (λ n none. none_ties owns2 opens2 b c n new none)
     (owner_ties t.owns opens a b o x (line_hand old) x2 at.one.hands ties (rests_there k b new.phase new.entry new.waiting rests)))
     (λ i apart. tie t.owns opens a b o x (line_hand old) x2 at.one.hands at.one.others ties told (OfRequest i (get_or lines i z).at) (line_hand (get_or lines i z)) (apart_conns c i old.at (get_or lines i z).at apart) (t.lines i)) in
-    let pending : ArePending k b (d.background ++ more) = append_pending k b d.background more
+    let pending : ArePending k (Some b) (d.background ++ more) = append_pending k (Some b) d.background more
     (all_pending t.owns opens a b o x (line_hand old) x2 at.one.hands at.one.others ties told k d.background (λ n. refl) t.writes t.pending)
-    (hands_are k b d.handed d.state.world.moment x at.one.there) in
+    (hands_are k (Some b) d.handed d.state.world.moment x at.one.there) in
     let writes : TiesWrites owns2 opens2 b (d.background ++ more) = append_ties owns2 opens2 b d.background more
     (all_writes t.owns opens a b o x (line_hand old) x2 at.one.hands at.one.others ties told d.background (λ n. refl) t.writes)
     (fresh_tie owns2 opens2 b d.handed d.state.world.moment x) in
     let numbers : AreNumbered 0 (d.handed + length (hands d.handed d.state.world.moment x)) (d.background ++ more) = more_numbers d.handed d.state.world.moment x d.background t.numbers in
     record {
       at = of_config d2 d.state.config (λ (q : Config). AreAt q b (set lines c new)) at.config all;
-      pending = of_config d2 d.state.config (λ (q : Config). ArePending q b d2.background) at.config (subst (ArePending k b) (sym at.background) pending);
+      pending = of_config d2 d.state.config (λ (q : Config). ArePending q (Some b) d2.background) at.config (subst (ArePending k (Some b)) (sym at.background) pending);
       numbers = subst (λ (n : ℕ). AreNumbered 0 n d2.background) (sym at.handed) (subst (AreNumbered 0 (d.handed + length (hands d.handed d.state.world.moment x))) (sym at.background) numbers);
       owns = owns2;
       reserved = reserves_step t.owns opens a o x (line_hand old) x2 (reserved_in d.state) (reserved_in d2.state) at.one.hands ties t.reserved at.moves.3;
@@ -144,7 +144,7 @@ idle_tied c d d2 lines opens l new t kept stays =
     (subst (λ (ls : List Line). Tied d ls opens) (sym (ap (λ (n : Line). set lines c n) stays ∙ set-get_or lines c l)) t)
 
 pub serves_tied : (c : ℕ) (o : Owner) (x : What) (d d2 : Kept) (lines : List Line) (opens : List Open) (l new : Line) → c < length lines → Tied d lines opens → ServesWhat c o x d d2 (get_or lines c l) new
-    → Rests (config_of d.state.config) (disk_at d2.state) new.phase new.entry new.waiting → Tied d2 (set lines c new) (reserved_by o x opens)
+    → Rests (config_of d.state.config) (Some (disk_at d2.state)) new.phase new.entry new.waiting → Tied d2 (set lines c new) (reserved_by o x opens)
 serves_tied c (OfRequest e j) x d d2 lines opens l new lt t (same, at) rests =
     subst (λ (o : Owner). Tied d2 (set lines c new) (reserved_by o x opens)) (λ i. OfRequest (sym same i) (sym at.number i)) (served_tied c j x d d2 lines opens l new lt t at rests)
 serves_tied c Nobody Idle d d2 lines opens l new lt t (idle, kept, stays) rests = idle_tied c d d2 lines opens l new t kept stays
@@ -152,7 +152,7 @@ serves_tied c Nobody _ d d2 lines opens l new lt t serves rests = absurd serves
 serves_tied c (OfWrite n) x d d2 lines opens l new lt t serves rests = absurd serves
 
 pub steps_serve : (s : Script) (d d2 : Kept) (lines : List Line) (opens : List Open) (c : ℕ) (l new : Line) (e : Event) → s.setup ≡ setup (config_of d.state.config) → Tied d lines opens → d.state.told ≡ true → c < length lines
-    → ServesEvent c e d d2 (get_or lines c l) new → Rests (config_of d.state.config) (disk_at d2.state) new.phase new.entry new.waiting → AreLevelsWithin d2.state → Steps s (Serve c) e d d2 lines (set lines c new) opens
+    → ServesEvent c e d d2 (get_or lines c l) new → Rests (config_of d.state.config) (Some (disk_at d2.state)) new.phase new.entry new.waiting → AreLevelsWithin d2.state → Steps s (Serve c) e d d2 lines (set lines c new) opens
 steps_serve s d d2 lines opens c l new e is_setup t told lt serves rests most =
     let old = get_or lines c l in
     let same = config_stays c e.owner e.what d d2 old new serves.serves in
@@ -183,13 +183,13 @@ stands_reads P c n input (Taken d bytes) old new reads p = subst (λ (l : Line).
 stands_reads P c n input (Closed d) old new reads p = subst (λ (l : Line). P l.at l.phase l.entry) (sym reads.1.3) p
 stands_reads P c n input _ old new reads p = absurd reads
 
-rests_reads : (d : Kept) (c n : ℕ) (input : List ℕ) (x : What) (old new : Line) → ReadsWhat c input n x old new → Rests (config_of d.state.config) (disk_at d.state) old.phase old.entry old.waiting → Rests (config_of d.state.config) (disk_at d.state) new.phase new.entry new.waiting
-rests_reads d c n input Idle old new reads rests = subst (λ (l : Line). Rests (config_of d.state.config) (disk_at d.state) l.phase l.entry l.waiting) (sym reads.1) rests
+rests_reads : (d : Kept) (c n : ℕ) (input : List ℕ) (x : What) (old new : Line) → ReadsWhat c input n x old new → Rests (config_of d.state.config) (Some (disk_at d.state)) old.phase old.entry old.waiting → Rests (config_of d.state.config) (Some (disk_at d.state)) new.phase new.entry new.waiting
+rests_reads d c n input Idle old new reads rests = subst (λ (l : Line). Rests (config_of d.state.config) (Some (disk_at d.state)) l.phase l.entry l.waiting) (sym reads.1) rests
 rests_reads d c n input (Taken e bytes) old new reads rests =
     let takes = reads.1.3 in
-    stands_reads (λ i p entry. Rests (config_of d.state.config) (disk_at d.state) p entry new.waiting) c n input (Taken e bytes) old new reads
-    (more_rests (config_of d.state.config) (disk_at d.state) old.phase old.entry old.waiting ((request_reader old.limit).requests (old.rest ++ bytes)) new.waiting rests takes.requests)
-rests_reads d c n input (Closed e) old new reads rests = subst (λ (l : Line). Rests (config_of d.state.config) (disk_at d.state) l.phase l.entry l.waiting) (sym (reads.1.3)) rests
+    stands_reads (λ i p entry. Rests (config_of d.state.config) (Some (disk_at d.state)) p entry new.waiting) c n input (Taken e bytes) old new reads
+    (more_rests (config_of d.state.config) (Some (disk_at d.state)) old.phase old.entry old.waiting ((request_reader old.limit).requests (old.rest ++ bytes)) new.waiting rests takes.requests)
+rests_reads d c n input (Closed e) old new reads rests = subst (λ (l : Line). Rests (config_of d.state.config) (Some (disk_at d.state)) l.phase l.entry l.waiting) (sym (reads.1.3)) rests
 rests_reads d c n input _ old new reads rests = absurd reads
 
 ticked_reads : (c n m : ℕ) (input : List ℕ) (x : What) (old new : Line) → ReadsWhat c input n x old new → ticked m x ≡ m
@@ -299,7 +299,7 @@ backed_tied d d2 lines opens i w e t at backs =
     subst (λ (m : ℕ). TiesHand owns2 opens2 b (OfWrite m) h2) (sym number) (owner_ties t.owns opens a b o x h h2 by ties (pending_there k b backs.then (backs.advances.stands goes))) in
     record {
       at = of_config d2 d.state.config (λ (q : Config). AreAt q b lines) backs.config all;
-      pending = of_config d2 d.state.config (λ (q : Config). ArePending q b d2.background) backs.config (subst (ArePending k b) (sym left)
+      pending = of_config d2 d.state.config (λ (q : Config). ArePending q (Some b) d2.background) backs.config (subst (ArePending k (Some b)) (sym left)
           (back_pending t.owns opens a b o x h h2 by keeps ties told n refl k 0 d.handed i (ends_write x) w backs.then d.background at refl backs.advances.stands t.numbers t.writes t.pending));
       numbers = subst (λ (m : ℕ). AreNumbered 0 m d2.background) (sym (ap (λ (q : Kept). q.handed) backs.same)) (subst (AreNumbered 0 d.handed) (sym left) (with_numbers 0 d.handed i (ends_write x) w backs.then d.background at number t.numbers));
       owns = owns2;

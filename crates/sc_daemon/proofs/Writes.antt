@@ -4,8 +4,8 @@ use Rattle.sc_daemon_action.proofs.Holding.{still_keeps}
 use Rattle.sc_daemon_action.specs.Hands.{IsOwn}
 use Rattle.sc_daemon.specs.Backlogs.{Advances, Goes, IsAtStage, IsPending, Write, hand_in, stepped}
 use Rattle.sc_disk.specs.Store.{AddEntry}
-use Rattle.sc_store_disk.specs.DiskStores.{DiskStore}
-use Rattle.sc_daemon_hold.specs.Holding.{Hand, HandsBy, HeldBy, KeepsHands, SameRoom, hand_at}
+use Rattle.sc_entry.specs.Causes.{IfTold, Told}
+use Rattle.sc_daemon_hold.specs.Holding.{Hand, HandsIn, HeldBy, Holds, IsHeld, KeepsIn, Rooms, SameRoom, hand_at}
 use Rattle.sc_daemon_job.specs.Setups.{Config, setup}
 use Rattle.sc_model.specs.Dues.{ToCommit, ToFill, ToReserve, ToWrite, kind_at}
 use Rattle.sc_model.specs.Follows.{Fits, bytes_in}
@@ -27,12 +27,17 @@ use Rattle.sc_model.specs.declared.phase.Stage.TheVariants.{Filled as IsFilled, 
 not_false : true ≡ false → ⊥
 not_false e = absurd (cc)
 
-opened_stage : (k : Config) (d : ℕ → DiskStore) (st : Stage) (l : ℕ) (b : Bytes) (e : Option AddEntry) (w : Written) → kind_at k.levels l ≡ Disk → HeldBy w (d l) e b [] None → ends_write (Reserved l b.key (length b.bytes) w) ≡ false
+-- what holds at each level holds where they are told
+if_any : {P : Rooms → Type 0} (d : Option Rooms) → ((a : Rooms) → P a) → IfTold d P
+if_any None all = tt
+if_any (Some a) all = all a
+
+opened_stage : (k : Config) (d : Option Rooms) (st : Stage) (l : ℕ) (b : Bytes) (e : Option AddEntry) (w : Written) → kind_at k.levels l ≡ Disk → HeldBy w d l e b [] None → ends_write (Reserved l b.key (length b.bytes) w) ≡ false
     → IsAtStage k d (stage_after st (Reserved l b.key (length b.bytes) w)) e l b
 opened_stage k d st l b e Done disk held goes = (disk, held)
 opened_stage k d st l b e (Refused c) disk held goes = absurd (cc)
 
-filled_stage : (k : Config) (d : ℕ → DiskStore) (st : Stage) (l : ℕ) (b : Bytes) (e : Option AddEntry) (w : Written) → kind_at k.levels l ≡ Disk → HeldBy w (d l) e b b.bytes (Some b.run) → ends_write (Filled l b.key b.bytes b.run w) ≡ false
+filled_stage : (k : Config) (d : Option Rooms) (st : Stage) (l : ℕ) (b : Bytes) (e : Option AddEntry) (w : Written) → kind_at k.levels l ≡ Disk → HeldBy w d l e b b.bytes (Some b.run) → ends_write (Filled l b.key b.bytes b.run w) ≡ false
     → IsAtStage k d (stage_after st (Filled l b.key b.bytes b.run w)) e l b
 filled_stage k d st l b e Done disk held goes = (disk, held)
 filled_stage k d st l b e (Refused c) disk held goes = absurd (cc)
@@ -46,9 +51,9 @@ fits_at k was x st kind at is fits =
     (subst (λ (c : LevelKind). Fits (setup k) no_request (due_stage st c l b) x) (sym is) fits)
 
 -- an event with the entry that is held before it, and the one that is held after it
-goes_with : (k : Config) (d d2 : ℕ → DiskStore) (was old new : Write) (x : What) (e : Option AddEntry) (h : Option Hand) → was ≡ old → new.pending ≡ was.pending → new.entry ≡ e → hand_in was ≡ h
+goes_with : (k : Config) (d d2 : Option Rooms) (was old new : Write) (x : What) (e : Option AddEntry) (h : Option Hand) → was ≡ old → new.pending ≡ was.pending → new.entry ≡ e → hand_in was ≡ h
     → Fits (setup k) no_request (due_pending k.levels was.pending) x → IsOwn x → (ends_write x ≡ false → IsAtStage k d2 (stage_after was.pending.stage x) e was.pending.handed.level (bytes_in was.pending.handed))
-    → HandsBy d x h (hand_at e was.pending.handed.level (length was.pending.handed.bytes)) → KeepsHands h d d2 → Goes k d d2 x old new
+    → HandsIn d x h (hand_at e was.pending.handed.level (length was.pending.handed.bytes)) → KeepsIn h d d2 → Goes k d d2 x old new
 goes_with k d d2 was old new x e h is same entry held fits own stands hands others = subst (λ (w : Write). Goes k d d2 x w new) is record {
   fits = fits;
   pending = same;
@@ -56,12 +61,12 @@ goes_with k d d2 was old new x e h is same entry held fits own stands hands othe
   stands = λ goes. subst (λ (o : Option AddEntry). IsAtStage k d2 (stage_after was.pending.stage x) o was.pending.handed.level (bytes_in was.pending.handed)) (sym entry) (stands goes);
   hands =
       let now : hand_in new ≡ hand_at e was.pending.handed.level (length was.pending.handed.bytes) = λ i. hand_at (entry i) (same i).handed.level (length (same i).handed.bytes) in
-      subst (λ (o : Option Hand). HandsBy d x o (hand_in new)) (sym held) (subst (λ (o : Option Hand). HandsBy d x h o) (sym now) hands);
-  others = subst (λ (o : Option Hand). KeepsHands o d d2) (sym held) others;
+      subst (λ (o : Option Hand). HandsIn d x o (hand_in new)) (sym held) (subst (λ (o : Option Hand). HandsIn d x h o) (sym now) hands);
+  others = subst (λ (o : Option Hand). KeepsIn o d d2) (sym held) others;
 }
 
 -- a fresh write holds no entry
-fresh_hand : (k : Config) (d : ℕ → DiskStore) (w : Write) → IsPending k d w → w.pending.stage ≡ Fresh → hand_in w ≡ None
+fresh_hand : (k : Config) (d : Option Rooms) (w : Write) → IsPending k d w → w.pending.stage ≡ Fresh → hand_in w ≡ None
 fresh_hand k d w pending fresh =
     let l = w.pending.handed.level in
     let none : w.entry ≡ None = subst (λ (s : Stage). IsAtStage k d s w.entry l (bytes_in w.pending.handed)) fresh pending.1 in
@@ -71,9 +76,9 @@ some_hand : (w : Write) (e : AddEntry) → w.entry ≡ Some e → hand_in w ≡ 
 some_hand w e is = ap (λ (o : Option AddEntry). hand_at o w.pending.handed.level (length w.pending.handed.bytes)) is
 
 -- an entry was opened, or not
-pub opens : (k : Config) (d d2 : ℕ → DiskStore) (was old new : Write) (x : What) (e : Option AddEntry) (w : Written) → was ≡ old → IsPending k d old → old.pending.stage ≡ Fresh → kind_at k.levels old.pending.handed.level ≡ Disk
-    → x ≡ Reserved was.pending.handed.level was.pending.handed.key (length was.pending.handed.bytes) w → HeldBy w (d2 was.pending.handed.level) e (bytes_in was.pending.handed) [] None
-    → HandsBy d x None (hand_at e was.pending.handed.level (length was.pending.handed.bytes)) → KeepsHands None d d2 → new.pending ≡ was.pending → new.entry ≡ e → Goes k d d2 x old new
+pub opens : (k : Config) (d d2 : Option Rooms) (was old new : Write) (x : What) (e : Option AddEntry) (w : Written) → was ≡ old → IsPending k d old → old.pending.stage ≡ Fresh → kind_at k.levels old.pending.handed.level ≡ Disk
+    → x ≡ Reserved was.pending.handed.level was.pending.handed.key (length was.pending.handed.bytes) w → HeldBy w d2 was.pending.handed.level e (bytes_in was.pending.handed) [] None
+    → HandsIn d x None (hand_at e was.pending.handed.level (length was.pending.handed.bytes)) → KeepsIn None d d2 → new.pending ≡ was.pending → new.entry ≡ e → Goes k d d2 x old new
 opens k d d2 was old new x e w is pending fresh disk event held hands others same entry =
     let l = was.pending.handed.level in
     let b = bytes_in was.pending.handed in
@@ -86,17 +91,36 @@ opens k d d2 was old new x e w is pending fresh disk event held hands others sam
     hands others
 
 -- the entry that it holds is open at its level, a disk one
-pub disk_of_stage : (k : Config) (d : ℕ → DiskStore) (w : Write) → IsPending k d w → w.pending.stage ≡ IsReserved → kind_at k.levels w.pending.handed.level ≡ Disk
+pub disk_of_stage : (k : Config) (d : Option Rooms) (w : Write) → IsPending k d w → w.pending.stage ≡ IsReserved → kind_at k.levels w.pending.handed.level ≡ Disk
 disk_of_stage k d w pending at = (subst (λ (s : Stage). IsAtStage k d s w.entry w.pending.handed.level (bytes_in w.pending.handed)) at pending.1).0
 
-pub disk_of_filled : (k : Config) (d : ℕ → DiskStore) (w : Write) → IsPending k d w → w.pending.stage ≡ IsFilled → kind_at k.levels w.pending.handed.level ≡ Disk
+pub disk_of_filled : (k : Config) (d : Option Rooms) (w : Write) → IsPending k d w → w.pending.stage ≡ IsFilled → kind_at k.levels w.pending.handed.level ≡ Disk
 disk_of_filled k d w pending at = (subst (λ (s : Stage). IsAtStage k d s w.entry w.pending.handed.level (bytes_in w.pending.handed)) at pending.1).0
 
+-- the entry that it holds, as it was opened
+pub reserved_holds : (k : Config) (d : Option Rooms) (was old : Write) (h : AddEntry) → was ≡ old → IsPending k d old → old.pending.stage ≡ IsReserved → was.entry ≡ Some h → Holds d was.pending.handed.level h (bytes_in was.pending.handed) [] None
+reserved_holds k d was old h is pending stage some =
+    let l = was.pending.handed.level in
+    let b = bytes_in was.pending.handed in
+    let at : was.pending.stage ≡ IsReserved = subst (λ (v : Write). v.pending.stage ≡ IsReserved) (sym is) stage in
+    let here = subst (IsPending k d) (sym is) pending in
+    subst (λ (e : Option AddEntry). IsHeld d l e b [] None) some (subst (λ (s : Stage). IsAtStage k d s was.entry l b) at here.1).1
+
+-- and as it was filled
+pub filled_holds : (k : Config) (d : Option Rooms) (was old : Write) (h : AddEntry) → was ≡ old → IsPending k d old → old.pending.stage ≡ IsFilled → was.entry ≡ Some h
+    → Holds d was.pending.handed.level h (bytes_in was.pending.handed) was.pending.handed.bytes (Some was.pending.handed.marked)
+filled_holds k d was old h is pending stage some =
+    let l = was.pending.handed.level in
+    let b = bytes_in was.pending.handed in
+    let at : was.pending.stage ≡ IsFilled = subst (λ (v : Write). v.pending.stage ≡ IsFilled) (sym is) stage in
+    let here = subst (IsPending k d) (sym is) pending in
+    subst (λ (e : Option AddEntry). IsHeld d l e b b.bytes (Some b.run)) some (subst (λ (s : Stage). IsAtStage k d s was.entry l b) at here.1).1
+
 -- an entry was filled, or not
-pub fills : (k : Config) (d d2 : ℕ → DiskStore) (was old new : Write) (x : What) (e : Option AddEntry) (h : AddEntry) (w : Written) → was ≡ old → IsPending k d old → old.pending.stage ≡ IsReserved → was.entry ≡ Some h
-    → x ≡ Filled was.pending.handed.level was.pending.handed.key was.pending.handed.bytes was.pending.handed.marked w → HeldBy w (d2 was.pending.handed.level) e (bytes_in was.pending.handed) was.pending.handed.bytes (Some was.pending.handed.marked)
-    → HandsBy d x (hand_at (Some h) was.pending.handed.level (length was.pending.handed.bytes)) (hand_at e was.pending.handed.level (length was.pending.handed.bytes))
-    → KeepsHands (hand_at (Some h) was.pending.handed.level (length was.pending.handed.bytes)) d d2 → new.pending ≡ was.pending → new.entry ≡ e → Goes k d d2 x old new
+pub fills : (k : Config) (d d2 : Option Rooms) (was old new : Write) (x : What) (e : Option AddEntry) (h : AddEntry) (w : Written) → was ≡ old → IsPending k d old → old.pending.stage ≡ IsReserved → was.entry ≡ Some h
+    → x ≡ Filled was.pending.handed.level was.pending.handed.key was.pending.handed.bytes was.pending.handed.marked w → HeldBy w d2 was.pending.handed.level e (bytes_in was.pending.handed) was.pending.handed.bytes (Some was.pending.handed.marked)
+    → HandsIn d x (hand_at (Some h) was.pending.handed.level (length was.pending.handed.bytes)) (hand_at e was.pending.handed.level (length was.pending.handed.bytes))
+    → KeepsIn (hand_at (Some h) was.pending.handed.level (length was.pending.handed.bytes)) d d2 → new.pending ≡ was.pending → new.entry ≡ e → Goes k d d2 x old new
 fills k d d2 was old new x e h w is pending reserved some event held hands others same entry =
     let l = was.pending.handed.level in
     let b = bytes_in was.pending.handed in
@@ -109,9 +133,9 @@ fills k d d2 was old new x e h w is pending reserved some event held hands other
     hands others
 
 -- an entry was committed, or not
-pub commits : (k : Config) (d d2 : ℕ → DiskStore) (was old new : Write) (x : What) (h : AddEntry) (w : Written) → was ≡ old → IsPending k d old → old.pending.stage ≡ IsFilled → was.entry ≡ Some h
-    → x ≡ Committed was.pending.handed.level was.pending.handed.key was.pending.handed.bytes w → HandsBy d x (hand_at (Some h) was.pending.handed.level (length was.pending.handed.bytes)) None
-    → KeepsHands (hand_at (Some h) was.pending.handed.level (length was.pending.handed.bytes)) d d2 → new.pending ≡ was.pending → new.entry ≡ None → Goes k d d2 x old new
+pub commits : (k : Config) (d d2 : Option Rooms) (was old new : Write) (x : What) (h : AddEntry) (w : Written) → was ≡ old → IsPending k d old → old.pending.stage ≡ IsFilled → was.entry ≡ Some h
+    → x ≡ Committed was.pending.handed.level was.pending.handed.key was.pending.handed.bytes w → HandsIn d x (hand_at (Some h) was.pending.handed.level (length was.pending.handed.bytes)) None
+    → KeepsIn (hand_at (Some h) was.pending.handed.level (length was.pending.handed.bytes)) d d2 → new.pending ≡ was.pending → new.entry ≡ None → Goes k d d2 x old new
 commits k d d2 was old new x h w is pending filled some event hands others same entry =
     let l = was.pending.handed.level in
     let b = bytes_in was.pending.handed in
@@ -124,8 +148,8 @@ commits k d d2 was old new x h w is pending filled some event hands others same 
     hands others
 
 -- it was written at a remote level
-pub puts : (k : Config) (d d2 : ℕ → DiskStore) (was old new : Write) (x : What) (w : Written) → was ≡ old → IsPending k d old → old.pending.stage ≡ Fresh → kind_at k.levels old.pending.handed.level ≡ Remote
-    → x ≡ Wrote was.pending.handed.level was.pending.handed.key was.pending.handed.bytes Whole was.pending.handed.marked w → ((l : ℕ) → SameRoom (d l) (d2 l)) → new ≡ old → Goes k d d2 x old new
+pub puts : (k : Config) (d d2 : Option Rooms) (was old new : Write) (x : What) (w : Written) → was ≡ old → IsPending k d old → old.pending.stage ≡ Fresh → kind_at k.levels old.pending.handed.level ≡ Remote
+    → x ≡ Wrote was.pending.handed.level was.pending.handed.key was.pending.handed.bytes Whole was.pending.handed.marked w → Told (λ a b. (l : ℕ) → SameRoom (a l) (b l)) d d2 → new ≡ old → Goes k d d2 x old new
 puts k d d2 was old new x w is pending fresh remote event rooms same =
     let l = was.pending.handed.level in
     let b = bytes_in was.pending.handed in
@@ -138,7 +162,7 @@ puts k d d2 was old new x w is pending fresh remote event rooms same =
     (fits_at k was x Fresh Remote at kind (subst (λ (y : What). Fits (setup k) no_request (ToWrite Whole l b) y) (sym event) (refl, refl, refl, refl, refl)))
     (subst IsOwn (sym event) tt)
     (subst (λ (y : What). ends_write y ≡ false → IsAtStage k d2 (stage_after was.pending.stage y) None l b) (sym event) (λ goes. absurd (not_false goes)))
-    (subst (λ (y : What). HandsBy d y None None) (sym event) (refl, refl))
+    (subst (λ (y : What). HandsIn d y None None) (sym event) (if_any d (λ a. (refl, refl))))
     (still_keeps None d d2 rooms)
 
 -- what is kept of it
@@ -150,7 +174,7 @@ stepped_by p m now x st since is at moment =
 pub stepped_view : (was mid : Write) (m now : ℕ) (x : What) (st : Stage) (since : ℕ) → was ≡ mid → now ≡ m → st ≡ stage_after was.pending.stage x → since ≡ reserved_after was.pending.since now x → ◌≡◌ {A = Pending} (record was.pending { stage = st; since = since }) (stepped m x mid.pending)
 stepped_view was mid m now x st since same is at moment = stepped_by was.pending m now x st since is at moment ∙ ap (λ (w : Write). stepped m x w.pending) same
 
-pub advanced_by : (k : Config) (m : ℕ) (d d2 : ℕ → DiskStore) (x : What) (old mid new : Write) → IsPending k d old → Goes k d d2 x old mid → new.pending ≡ stepped m x mid.pending → new.entry ≡ mid.entry → Advances k m d d2 x old new
+pub advanced_by : (k : Config) (m : ℕ) (d d2 : Option Rooms) (x : What) (old mid new : Write) → IsPending k d old → Goes k d d2 x old mid → new.pending ≡ stepped m x mid.pending → new.entry ≡ mid.entry → Advances k m d d2 x old new
 advanced_by k m d d2 x old mid new pending goes is entry =
     let then : new.pending ≡ stepped m x old.pending = is ∙ ap (stepped m x) goes.pending in
     record {
@@ -162,6 +186,6 @@ advanced_by k m d d2 x old mid new pending goes is entry =
           (pending.0, subst (λ (o : Option AddEntry). IsAtStage k d2 (stage_after old.pending.stage x) o old.pending.handed.level (bytes_in old.pending.handed)) (sym entry) (goes.stands left));
       hands =
           let now : hand_in new ≡ hand_in mid = λ i. hand_at (entry i) (is i).handed.level (length (is i).handed.bytes) in
-          subst (λ (h : Option Hand). HandsBy d x (hand_in old) h) (sym now) goes.hands;
+          subst (λ (h : Option Hand). HandsIn d x (hand_in old) h) (sym now) goes.hands;
       others = goes.others;
     }

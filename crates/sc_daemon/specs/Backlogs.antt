@@ -3,8 +3,7 @@ use Rattle.std.specs.Prelude.{◌≡◌, ℕ, zero, suc, ◌<◌, ◌≤◌, Boo
 use Rattle.std.specs.Coded.{Coded, code_by, coded×, coded_bool, coded_list, coded_option, coded_ℕ}
 use Rattle.sc_daemon_action.specs.Hands.{IsOwn}
 use Rattle.sc_disk.specs.Store.{AddEntry}
-use Rattle.sc_store_disk.specs.DiskStores.{DiskStore}
-use Rattle.sc_daemon_hold.specs.Holding.{Hand, HandsBy, IsHeld, KeepsHands, hand_at}
+use Rattle.sc_daemon_hold.specs.Holding.{Hand, HandsIn, IsHeld, KeepsIn, Rooms, hand_at}
 use Rattle.sc_daemon_job.specs.Setups.{Config, setup}
 use Rattle.sc_model.specs.Dues.{kind_at}
 use Rattle.sc_model.specs.Follows.{Fits, bytes_in}
@@ -74,17 +73,17 @@ with_write (suc n) done w (x ∷ xs) = x ∷ with_write n done w xs
 abbrev pub stepped : ℕ → What → Pending → Pending
 stepped m x p = record p { stage = stage_after p.stage x; since = reserved_after p.since m x }
 
--- how far a write is, and the entry that it holds then; d are the levels as disk stores
-abbrev pub IsAtStage : Config → (ℕ → DiskStore) → Stage → Option AddEntry → ℕ → Bytes → Type 0
+-- how far a write is, and the entry that it holds then; d are the levels as disk stores, where nobody else moves them
+abbrev pub IsAtStage : Config → Option Rooms → Stage → Option AddEntry → ℕ → Bytes → Type 0
 IsAtStage k d Fresh entry l b = entry ≡ None
-IsAtStage k d IsReserved entry l b = (kind_at k.levels l ≡ Disk) × IsHeld (d l) entry b [] None
-IsAtStage k d IsFilled entry l b = (kind_at k.levels l ≡ Disk) × IsHeld (d l) entry b b.bytes (Some b.run)
+IsAtStage k d IsReserved entry l b = (kind_at k.levels l ≡ Disk) × IsHeld d l entry b [] None
+IsAtStage k d IsFilled entry l b = (kind_at k.levels l ≡ Disk) × IsHeld d l entry b b.bytes (Some b.run)
 
 -- a write that can be gone on with: its level is there
-abbrev pub IsPending : Config → (ℕ → DiskStore) → Write → Type 0
+abbrev pub IsPending : Config → Option Rooms → Write → Type 0
 IsPending k d w = (w.pending.handed.level < length k.levels) × IsAtStage k d w.pending.stage w.entry w.pending.handed.level (bytes_in w.pending.handed)
 
-abbrev pub ArePending : Config → (ℕ → DiskStore) → List Write → Type 0
+abbrev pub ArePending : Config → Option Rooms → List Write → Type 0
 ArePending k d [] = Unit {0}
 ArePending k d (w ∷ ws) = IsPending k d w × ArePending k d ws
 
@@ -98,25 +97,25 @@ AreNumbered from below [] = Unit {0}
 AreNumbered from below (w ∷ ws) = (from ≤ w.pending.number) × (w.pending.number < below) × AreNumbered (suc w.pending.number) below ws
 
 -- One event of a handed write, of whose stage and moment nothing is kept yet.
-pub record Goes (k : Config) (d d2 : ℕ → DiskStore) (x : What) (old new : Write) : Type 0 where
+pub record Goes (k : Config) (d d2 : Option Rooms) (x : What) (old new : Write) : Type 0 where
   pub fits : Fits (setup k) no_request (due_pending k.levels old.pending) x
   pub pending : new.pending ≡ old.pending
   pub own : IsOwn x
   pub stands : ends_write x ≡ false → IsAtStage k d2 (stage_after old.pending.stage x) new.entry old.pending.handed.level (bytes_in old.pending.handed)
-  pub hands : HandsBy d x (hand_in old) (hand_in new)
-  pub others : KeepsHands (hand_in old) d d2
+  pub hands : HandsIn d x (hand_in old) (hand_in new)
+  pub others : KeepsIn (hand_in old) d d2
 
 -- One event of a handed write: the one that is due.
-pub record Advances (k : Config) (moment : ℕ) (d d2 : ℕ → DiskStore) (x : What) (old new : Write) : Type 0 where
+pub record Advances (k : Config) (moment : ℕ) (d d2 : Option Rooms) (x : What) (old new : Write) : Type 0 where
   pub fits : Fits (setup k) no_request (due_pending k.levels old.pending) x
   pub pending : new.pending ≡ stepped moment x old.pending
   pub own : IsOwn x
   pub stands : ends_write x ≡ false → IsPending k d2 new
-  pub hands : HandsBy d x (hand_in old) (hand_in new)
-  pub others : KeepsHands (hand_in old) d d2
+  pub hands : HandsIn d x (hand_in old) (hand_in new)
+  pub others : KeepsIn (hand_in old) d d2
 
 -- one event of the write at a place among all
-pub record AdvancesAt (k : Config) (moment : ℕ) (d d2 : ℕ → DiskStore) (i : ℕ) (x : What) (old new : List Write) : Type 0 where
+pub record AdvancesAt (k : Config) (moment : ℕ) (d d2 : Option Rooms) (i : ℕ) (x : What) (old new : List Write) : Type 0 where
   pub write : Write
   pub at : write_at i old ≡ Some write
   pub then : Write

@@ -81,7 +81,7 @@ pub record ReadsEvent (d : Kept) (c : ℕ) (input : List ℕ) (n : ℕ) (e : Eve
 -- an event of the request that is served
 pub record ServesAt (c j : ℕ) (x : What) (d d2 : Kept) (old new : Line) : Type 0 where
   pub number : j ≡ old.at
-  pub one : Serves_one (config_of d.state.config) (disk_at d.state) (disk_at d2.state) d.state.world.moment d.free x old new
+  pub one : Serves_one (config_of d.state.config) (Some (disk_at d.state)) (Some (disk_at d2.state)) d.state.world.moment d.free x old new
   pub says : SaysCounted d.state.config.policy d.stats d.levels x
   pub moves : OwnedMoves d.state (need_at (setup (config_of d.state.config)) (current (conn_of old)) old.phase) x d2.state
   pub config : d2.state.config ≡ d.state.config
@@ -105,7 +105,7 @@ pub record BacksAt (i : ℕ) (w : Write) (e : Event) (old new : Kept) : Type 0 w
   pub moment : e.moment ≡ old.state.world.moment
   pub owner : e.owner ≡ OfWrite w.pending.number
   pub then : Write
-  pub advances : Advances (config_of old.state.config) old.state.world.moment (disk_at old.state) (disk_at new.state) e.what w then
+  pub advances : Advances (config_of old.state.config) old.state.world.moment (Some (disk_at old.state)) (Some (disk_at new.state)) e.what w then
   pub moves : OwnedMoves old.state (need_back (setup (config_of old.state.config)) w.pending) e.what new.state
   pub config : new.state.config ≡ old.state.config
   pub same : new ≡ record old {

@@ -1,5 +1,5 @@
 -- Steps of a drive.
-use Rattle.std.specs.Prelude.{◌≡◌, ℕ, zero, suc, ◌+◌, true, List, [], ◌∷◌, ◌++◌, length, map, reverse, slice_index_or}
+use Rattle.std.specs.Prelude.{◌≡◌, ℕ, zero, suc, ◌+◌, true, List, [], ◌∷◌, ◌++◌, length, map, reverse, slice_index_or, Some}
 use Rattle.sc_wire_conn.specs.Ends.{end_of}
 use Rattle.sc_daemon.specs.Backlogs.{AreNumbered, ArePending, Write, hand_in}
 use Rattle.sc_daemon.specs.Daemons.{Kept, machine_of, script_of}
@@ -7,7 +7,7 @@ use Rattle.sc_daemon.specs.Lines.{Line, line_hand, new_line}
 use Rattle.sc_daemon.specs.Standings.{Rests}
 use Rattle.sc_daemon.specs.Ties.{Owners, TiesHand}
 use Rattle.sc_daemon.specs.declared.driven.Driven.{Driven}
-use Rattle.sc_store_disk.specs.DiskStores.{DiskStore}
+use Rattle.sc_daemon_hold.specs.Holding.{Rooms}
 use Rattle.sc_daemon_job.specs.Setups.{Config, setup}
 use Rattle.sc_model.specs.Headline.{Result_of_run}
 use Rattle.sc_model.specs.Machine.{Does, Runs, shown_levels}
@@ -27,26 +27,26 @@ lines_of limit (suc n) = new_line limit ∷ lines_of limit n
 
 -- each connection reads by the daemon's limit, and its first request can be gone on with or was stopped; d are the levels as
 -- disk stores
-abbrev pub IsAt : Config → (ℕ → DiskStore) → Line → Type 0
-IsAt k d l = (l.limit ≡ k.limit) × Rests k d l.phase l.entry l.waiting
+abbrev pub IsAt : Config → Rooms → Line → Type 0
+IsAt k d l = (l.limit ≡ k.limit) × Rests k (Some d) l.phase l.entry l.waiting
 
-abbrev pub AreAt : Config → (ℕ → DiskStore) → List Line → Type 0
+abbrev pub AreAt : Config → Rooms → List Line → Type 0
 AreAt k d lines = (c : ℕ) → IsAt k d (slice_index_or lines c (new_line k.limit))
 
 -- the entries of handed writes are theirs
-abbrev pub TiesWrites : Owners → List Open → (ℕ → DiskStore) → List Write → Type 0
+abbrev pub TiesWrites : Owners → List Open → Rooms → List Write → Type 0
 TiesWrites owns opens d [] = Unit {0}
 TiesWrites owns opens d (w ∷ ws) = TiesHand owns opens d (OfWrite w.pending.number) (hand_in w) × TiesWrites owns opens d ws
 
 -- and that of a connection's first request is that request's
-abbrev pub TiesLine : Owners → List Open → (ℕ → DiskStore) → ℕ → Line → Type 0
+abbrev pub TiesLine : Owners → List Open → Rooms → ℕ → Line → Type 0
 TiesLine owns opens d c l = TiesHand owns opens d (OfRequest c l.at) (line_hand l)
 
 -- What a drive keeps between two steps: where all stand, whose each open entry is, and that as much is reserved at each level
 -- as these reservations say.
 pub record Tied (d : Kept) (conns : List Line) (opens : List Open) : Type 0 where
   pub at : AreAt (config_of d.state.config) (disk_at d.state) conns
-  pub pending : ArePending (config_of d.state.config) (disk_at d.state) d.background
+  pub pending : ArePending (config_of d.state.config) (Some (disk_at d.state)) d.background
   pub numbers : AreNumbered 0 d.handed d.background
   pub owns : Owners
   pub reserved : (l : ℕ) → reserved_at l opens ≡ reserved_in d.state l

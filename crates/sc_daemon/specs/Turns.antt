@@ -8,8 +8,7 @@ use Rattle.sc_daemon.specs.Standings.{standing_of}
 use Rattle.sc_daemon.specs.declared.reading.Reading.{Reading}
 use Rattle.sc_daemon.specs.declared.reading.Reading.TheVariants.{Closed, Nothing, Taken}
 use Rattle.sc_daemon.specs.declared.standing.Standing.TheVariants.{Ended, Takes}
-use Rattle.sc_store_disk.specs.DiskStores.{DiskStore}
-use Rattle.sc_daemon_hold.specs.Holding.{HandsBy, KeepsHands}
+use Rattle.sc_daemon_hold.specs.Holding.{HandsIn, KeepsIn, Rooms}
 use Rattle.sc_daemon_job.specs.Askers.{Asker}
 use Rattle.sc_daemon_job.specs.Setups.{Config, setup}
 use Rattle.sc_model.specs.Follows.{Fits}
@@ -37,13 +36,13 @@ Reads input n Closed old new = (IsDone old → ⊥) × (0 < n) × (length input 
 
 -- One action of the first request, before the connection goes on to the next phase; d and d2 are the levels as disk stores
 -- before and after it.
-pub record ActsFirst (k : Config) (d d2 : ℕ → DiskStore) (moment : ℕ) (acted : Action) (old new : Line) : Type 0 where
+pub record ActsFirst (k : Config) (d d2 : Option Rooms) (moment : ℕ) (acted : Action) (old new : Line) : Type 0 where
   pub request : Request
   pub rest : List Request
   pub first : old.waiting ≡ request ∷ rest
   pub acts : ActsWith k d2 request old.phase moment acted
-  pub hands : HandsBy d acted.what (line_hand old) (hand_of acted.entry acted.phase)
-  pub others : KeepsHands (line_hand old) d d2
+  pub hands : HandsIn d acted.what (line_hand old) (hand_of acted.entry acted.phase)
+  pub others : KeepsIn (line_hand old) d d2
   pub same : new ≡ record old { phase = AtOver; entry = None; out = new.out }
   pub out : Adds k (sent_by acted.what) old.out new.out
 
@@ -52,18 +51,18 @@ abbrev pub IsIdleLine : ℕ → Line → Type 0
 IsIdleLine free l = ((length l.waiting ≡ 0) ⊎ ((0 < length l.waiting) × (standing_of l.phase ≡ Ended))) ⊎ ((0 < length l.waiting) × (standing_of l.phase ≡ Takes) × (free ≡ 0))
 
 -- an event of the request that is served
-pub record Serves_one (k : Config) (d d2 : ℕ → DiskStore) (moment free : ℕ) (x : What) (old new : Line) : Type 0 where
+pub record Serves_one (k : Config) (d d2 : Option Rooms) (moment free : ℕ) (x : What) (old new : Line) : Type 0 where
   pub some : 0 < length old.waiting
   pub fits : Fits (setup k) (current (conn_of old)) (due_at (setup k) (current (conn_of old)) old.phase) x
   pub token : standing_of old.phase ≡ Takes → 0 < free
   pub then : conn_of new ≡ advanced (setup k) (conn_of old) moment x
   pub own : IsOwn x
-  pub hands : HandsBy d x (line_hand old) (line_hand new)
-  pub others : KeepsHands (line_hand old) d d2
+  pub hands : HandsIn d x (line_hand old) (line_hand new)
+  pub others : KeepsIn (line_hand old) d d2
   pub there : AreHanded (length k.levels) (handed_in x)
   pub limit : new.limit ≡ old.limit
 
-abbrev pub ServesLine : Config → (ℕ → DiskStore) → (ℕ → DiskStore) → ℕ → ℕ → Option What → Line → Line → Type 0
+abbrev pub ServesLine : Config → Option Rooms → Option Rooms → ℕ → ℕ → Option What → Line → Line → Type 0
 ServesLine k d d2 moment free None old new = IsIdleLine free old × (new ≡ old)
 ServesLine k d d2 moment free (Some x) old new = Serves_one k d d2 moment free x old new
 
@@ -72,7 +71,7 @@ abbrev pub MovesFirst : {H : Type 0} → (H → Asker → What → H → Type 0)
 MovesFirst moves n None old new = new ≡ old
 MovesFirst moves n (Some a) old new = moves old n a.what new
 
-abbrev pub ActsFirst_or_none : Config → (ℕ → DiskStore) → (ℕ → DiskStore) → ℕ → Option Action → Line → Line → Type 0
+abbrev pub ActsFirst_or_none : Config → Option Rooms → Option Rooms → ℕ → Option Action → Line → Line → Type 0
 ActsFirst_or_none k d d2 moment None old new = (old.waiting ≡ []) × (new ≡ old)
 ActsFirst_or_none k d d2 moment (Some a) old new = ActsFirst k d d2 moment a old new
 

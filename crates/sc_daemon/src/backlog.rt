@@ -76,8 +76,8 @@ impl Backlog {
         since: Since,
     ) -> Result<What, NoMemory>
         requires place { place < length self.old }
-        requires pending { ArePending (H.config hold.old) (H.disk hold.old) self.old }
-        ensures advances { IfOk result (λ what. AdvancesAt (H.config hold.old) (H.moment hold.new) (H.disk hold.old) (H.disk hold.new) place what self.old self.new) }
+        requires pending { ArePending (H.config hold.old) (H.rooms hold.old) self.old }
+        ensures advances { IfOk result (λ what. AdvancesAt (H.config hold.old) (H.moment hold.new) (H.rooms hold.old) (H.rooms hold.new) place what self.old self.new) }
         ensures moves { IfOk result (λ what. (n : Need) (r : Asks) → MarksAt place self.old n → H.moves hold.old (asker since n r) what hold.new) }
         ensures same { IfOk result (λ _. H.config hold.new ≡ H.config hold.old) }
     {

@@ -256,8 +256,8 @@ impl Conn {
         alloc: Global,
         hold: &mut H,
     ) -> Result<Option<Action>, NoMemory>
-        requires { ServesWith (H.config hold.old) (H.disk hold.old) self.old.phase self.old.entry (current (conn_of self.old)) }
-        ensures acts { IfOk result (λ acted. ActsFirst_or_none (H.config hold.old) (H.disk hold.old) (H.disk hold.new) (H.moment hold.new) acted self.old self.new) }
+        requires { ServesWith (H.config hold.old) (H.rooms hold.old) self.old.phase self.old.entry (current (conn_of self.old)) }
+        ensures acts { IfOk result (λ acted. ActsFirst_or_none (H.config hold.old) (H.rooms hold.old) (H.rooms hold.new) (H.moment hold.new) acted self.old self.new) }
         ensures moves { IfOk result (λ acted. MovesFirst H.moves (asker_at (H.config hold.old) self.old) acted hold.old hold.new) }
         ensures same { IfOk result (λ _. H.config hold.new ≡ H.config hold.old) }
     {
@@ -283,11 +283,11 @@ impl Conn {
         hold: &mut H,
         free: u64,
     ) -> Result<Option<What>, NoMemory>
-        requires { Rests (H.config hold.old) (H.disk hold.old) self.old.phase self.old.entry self.old.waiting }
-        ensures serves { IfOk result (λ what. ServesLine (H.config hold.old) (H.disk hold.old) (H.disk hold.new) (H.moment hold.new) free what self.old self.new) }
+        requires { Rests (H.config hold.old) (H.rooms hold.old) self.old.phase self.old.entry self.old.waiting }
+        ensures serves { IfOk result (λ what. ServesLine (H.config hold.old) (H.rooms hold.old) (H.rooms hold.new) (H.moment hold.new) free what self.old self.new) }
         ensures moves { IfOk result (λ what. MovesHold H.moves (asker_at (H.config hold.old) self.old) what hold.old hold.new) }
         ensures same { IfOk result (λ _. H.config hold.new ≡ H.config hold.old) }
-        ensures rests { IfOk result (λ _. Rests (H.config hold.old) (H.disk hold.new) self.new.phase self.new.entry self.new.waiting) }
+        ensures rests { IfOk result (λ _. Rests (H.config hold.old) (H.rooms hold.new) self.new.phase self.new.entry self.new.waiting) }
     {
         if self.is_idle(free) {
             return Ok(None);

@@ -1,5 +1,5 @@
 //! A daemon: its state, what it counted, and its tokens.
-ghost use Rattle.std.specs.Prelude.{◌≡◌, ◌↔◌, ◌<◌, IsTrue, IfOk};
+ghost use Rattle.std.specs.Prelude.{◌≡◌, ◌↔◌, ◌<◌, IsTrue, IfOk, Some};
 ghost use Rattle.sc_daemon.specs.Backlogs.{ArePending};
 ghost use Rattle.sc_daemon.specs.Daemons.{BacksEvent, IsIdleDaemon, ReadsEvent, ServesEvent, anew, new_daemon, passed};
 ghost use Rattle.sc_daemon.specs.Standings.{Rests};
@@ -196,9 +196,9 @@ impl<P: Parts> Daemon<P> {
         number: u64,
         conn: &mut Conn,
     ) -> Result<Event, NoMemory>
-        requires rests { Rests (config_of self.old.state.config) (disk_at self.old.state) conn.old.phase conn.old.entry conn.old.waiting }
+        requires rests { Rests (config_of self.old.state.config) (Some (disk_at self.old.state)) conn.old.phase conn.old.entry conn.old.waiting }
         ensures serves { IfOk result (λ event. ServesEvent number event self.old self.new conn.old conn.new) }
-        ensures rests { IfOk result (λ _. Rests (config_of self.old.state.config) (disk_at self.new.state) conn.new.phase conn.new.entry conn.new.waiting) }
+        ensures rests { IfOk result (λ _. Rests (config_of self.old.state.config) (Some (disk_at self.new.state)) conn.new.phase conn.new.entry conn.new.waiting) }
     {
         let at = conn.at();
         let free = self.free;
@@ -215,7 +215,7 @@ impl<P: Parts> Daemon<P> {
 
     /// Does the next event of the handed write at this place among those that are left, where there is one.
     pub(crate) fn back(&mut self, alloc: Global, place: u64) -> Result<Event, NoMemory>
-        requires pending { ArePending (config_of self.old.state.config) (disk_at self.old.state) self.old.background }
+        requires pending { ArePending (config_of self.old.state.config) (Some (disk_at self.old.state)) self.old.background }
         ensures backs { IfOk result (λ event. BacksEvent place event self.old self.new) }
     {
         let Some(write) = self.background.get(place as usize) else {

@@ -1,5 +1,5 @@
 //! A drive, one step at a time.
-ghost use Rattle.std.specs.Prelude.{◌≡◌, [], true, IfOk, List, length};
+ghost use Rattle.std.specs.Prelude.{◌≡◌, [], true, IfOk, List, length, Some};
 ghost use Rattle.sc_daemon.specs.Backlogs.{ArePending};
 ghost use Rattle.sc_daemon.specs.Drives.{AreAt, IsScriptOf, Steps, StepsOn, Tied, lines_of};
 ghost use Rattle.sc_daemon_job.specs.Setups.{setup};
@@ -83,7 +83,7 @@ impl Driver {
         number: u64,
     ) -> Result<Event, NoMemory>
         requires at { AreAt (config_of daemon.old.state.config) (disk_at daemon.old.state) self.old.conns.items }
-        requires pending { ArePending (config_of daemon.old.state.config) (disk_at daemon.old.state) daemon.old.background }
+        requires pending { ArePending (config_of daemon.old.state.config) (Some (disk_at daemon.old.state)) daemon.old.background }
         requires told { daemon.old.state.told ≡ true }
         ensures steps { IfOk result (λ event. (s : GivenScript) (opens : List Open) → s.setup ≡ setup (config_of daemon.old.state.config) → Tied daemon.old self.old.conns.items opens → Steps s (Step.Serve number) event daemon.old daemon.new self.old.conns.items self.new.conns.items opens) }
         ensures events { self.new.events ≡ self.old.events }
@@ -106,7 +106,7 @@ impl Driver {
     ) -> Result<Event, NoMemory>
         requires at { AreAt (config_of daemon.old.state.config) (disk_at daemon.old.state) self.old.conns.items }
         requires inputs { length self.old.conns.items ≡ length inputs.now }
-        requires pending { ArePending (config_of daemon.old.state.config) (disk_at daemon.old.state) daemon.old.background }
+        requires pending { ArePending (config_of daemon.old.state.config) (Some (disk_at daemon.old.state)) daemon.old.background }
         requires told { daemon.old.state.told ≡ true }
         ensures steps { IfOk result (λ event. (s : GivenScript) (opens : List Open) → IsScriptOf s (config_of daemon.old.state.config) inputs.now → Tied daemon.old self.old.conns.items opens → Steps s step.now event daemon.old daemon.new self.old.conns.items self.new.conns.items opens) }
         ensures events { self.new.events ≡ self.old.events }
@@ -137,7 +137,7 @@ impl Driver {
     ) -> Result<(), NoMemory>
         requires at { AreAt (config_of daemon.old.state.config) (disk_at daemon.old.state) self.old.conns.items }
         requires inputs { length self.old.conns.items ≡ length inputs.now }
-        requires pending { ArePending (config_of daemon.old.state.config) (disk_at daemon.old.state) daemon.old.background }
+        requires pending { ArePending (config_of daemon.old.state.config) (Some (disk_at daemon.old.state)) daemon.old.background }
         requires told { daemon.old.state.told ≡ true }
         ensures steps { IfOk result (λ _. StepsOn (config_of daemon.old.state.config) inputs.now step.now self.old.events.items self.new.events.items daemon.old daemon.new self.old.conns.items self.new.conns.items) }
     {

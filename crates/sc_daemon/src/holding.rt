@@ -56,7 +56,7 @@ fn filled_row(alloc: Global, origin: Origin, how: &Filling) -> LevelStats
 }
 
 impl<P: Parts> Hold for Daemon<P> {
-    ghost use Rattle.std.specs.Prelude.{refl};
+    ghost use Rattle.std.specs.Prelude.{Some, refl};
     ghost use Rattle.sc_daemon.specs.Moving.{KeptMoves};
     ghost use Rattle.sc_daemon_owned.specs.Facts.{config_of};
     ghost use Rattle.sc_daemon_owned.specs.Laws.{planned_levels, pre_planned_levels, reserves_rooms, still_rooms, tells_same};
@@ -68,7 +68,7 @@ impl<P: Parts> Hold for Daemon<P> {
 
     ghost moment = { λ d. d.state.world.moment };
 
-    ghost disk = { λ d level. disk_at d.state level };
+    ghost rooms = { λ d. Some (disk_at d.state) };
 
     ghost still = { λ a n what b moves none level. still_rooms a.state n.need what b.state moves.moves none level };
 

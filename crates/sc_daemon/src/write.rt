@@ -151,10 +151,10 @@ impl Write {
 
     /// Opens an entry at its disk level.
     fn open<H: Hold>(&mut self, alloc: Global, hold: &mut H, since: Since) -> Result<What, NoMemory>
-        requires pending { IsPending (H.config hold.old) (H.disk hold.old) self.old }
+        requires pending { IsPending (H.config hold.old) (H.rooms hold.old) self.old }
         requires fresh { self.old.pending.stage ≡ Fresh }
         requires disk { kind_at (H.config hold.old).levels self.old.pending.handed.level ≡ Disk }
-        ensures goes { IfOk result (λ what. Goes (H.config hold.old) (H.disk hold.old) (H.disk hold.new) what self.old self.new) }
+        ensures goes { IfOk result (λ what. Goes (H.config hold.old) (H.rooms hold.old) (H.rooms hold.new) what self.old self.new) }
         ensures moves { IfOk result (λ what. (n : Need) (r : Asks) → H.moves hold.old (asker since n r) what hold.new) }
         ensures same { IfOk result (λ _. H.config hold.new ≡ H.config hold.old) }
     {
@@ -165,10 +165,10 @@ impl Write {
 
     /// Writes at its remote level.
     fn put<H: Hold>(&mut self, alloc: Global, hold: &mut H, since: Since) -> Result<What, NoMemory>
-        requires pending { IsPending (H.config hold.old) (H.disk hold.old) self.old }
+        requires pending { IsPending (H.config hold.old) (H.rooms hold.old) self.old }
         requires fresh { self.old.pending.stage ≡ Fresh }
         requires remote { kind_at (H.config hold.old).levels self.old.pending.handed.level ≡ Remote }
-        ensures goes { IfOk result (λ what. Goes (H.config hold.old) (H.disk hold.old) (H.disk hold.new) what self.old self.new) }
+        ensures goes { IfOk result (λ what. Goes (H.config hold.old) (H.rooms hold.old) (H.rooms hold.new) what self.old self.new) }
         ensures moves { IfOk result (λ what. (n : Need) (r : Asks) → H.moves hold.old (asker since n r) what hold.new) }
         ensures same { IfOk result (λ _. H.config hold.new ≡ H.config hold.old) }
     {
@@ -180,9 +180,9 @@ impl Write {
 
     /// Fills the entry that it holds.
     fn fill<H: Hold>(&mut self, alloc: Global, hold: &mut H, since: Since) -> Result<What, NoMemory>
-        requires pending { IsPending (H.config hold.old) (H.disk hold.old) self.old }
+        requires pending { IsPending (H.config hold.old) (H.rooms hold.old) self.old }
         requires reserved { self.old.pending.stage ≡ IsReserved }
-        ensures goes { IfOk result (λ what. Goes (H.config hold.old) (H.disk hold.old) (H.disk hold.new) what self.old self.new) }
+        ensures goes { IfOk result (λ what. Goes (H.config hold.old) (H.rooms hold.old) (H.rooms hold.new) what self.old self.new) }
         ensures moves { IfOk result (λ what. (n : Need) (r : Asks) → H.moves hold.old (asker since n r) what hold.new) }
         ensures same { IfOk result (λ _. H.config hold.new ≡ H.config hold.old) }
     {
@@ -201,9 +201,9 @@ impl Write {
         hold: &mut H,
         since: Since,
     ) -> Result<What, NoMemory>
-        requires pending { IsPending (H.config hold.old) (H.disk hold.old) self.old }
+        requires pending { IsPending (H.config hold.old) (H.rooms hold.old) self.old }
         requires filled { self.old.pending.stage ≡ IsFilled }
-        ensures goes { IfOk result (λ what. Goes (H.config hold.old) (H.disk hold.old) (H.disk hold.new) what self.old self.new) }
+        ensures goes { IfOk result (λ what. Goes (H.config hold.old) (H.rooms hold.old) (H.rooms hold.new) what self.old self.new) }
         ensures moves { IfOk result (λ what. (n : Need) (r : Asks) → MarksAs n self.old.pending → H.moves hold.old (asker since n r) what hold.new) }
         ensures same { IfOk result (λ _. H.config hold.new ≡ H.config hold.old) }
     {
@@ -216,8 +216,8 @@ impl Write {
 
     /// Does its next event, with the entry that it holds.
     fn act<H: Hold>(&mut self, alloc: Global, hold: &mut H, since: Since) -> Result<What, NoMemory>
-        requires pending { IsPending (H.config hold.old) (H.disk hold.old) self.old }
-        ensures goes { IfOk result (λ what. Goes (H.config hold.old) (H.disk hold.old) (H.disk hold.new) what self.old self.new) }
+        requires pending { IsPending (H.config hold.old) (H.rooms hold.old) self.old }
+        ensures goes { IfOk result (λ what. Goes (H.config hold.old) (H.rooms hold.old) (H.rooms hold.new) what self.old self.new) }
         ensures moves { IfOk result (λ what. (n : Need) (r : Asks) → MarksAs n self.old.pending → H.moves hold.old (asker since n r) what hold.new) }
         ensures same { IfOk result (λ _. H.config hold.new ≡ H.config hold.old) }
     {
@@ -238,8 +238,8 @@ impl Write {
         hold: &mut H,
         since: Since,
     ) -> Result<What, NoMemory>
-        requires { IsPending (H.config hold.old) (H.disk hold.old) self.old }
-        ensures advances { IfOk result (λ what. Advances (H.config hold.old) (H.moment hold.new) (H.disk hold.old) (H.disk hold.new) what self.old self.new) }
+        requires { IsPending (H.config hold.old) (H.rooms hold.old) self.old }
+        ensures advances { IfOk result (λ what. Advances (H.config hold.old) (H.moment hold.new) (H.rooms hold.old) (H.rooms hold.new) what self.old self.new) }
         ensures moves { IfOk result (λ what. (n : Need) (r : Asks) → MarksAs n self.old.pending → H.moves hold.old (asker since n r) what hold.new) }
         ensures same { IfOk result (λ _. H.config hold.new ≡ H.config hold.old) }
     {

@@ -3,8 +3,7 @@ use Rattle.std.specs.Prelude.{◌≡◌, ℕ, ◌<◌, Bool, true, false, List, 
 use Rattle.sc_daemon_action.specs.Serves.{IsWriter, Serves, Stands}
 use Rattle.sc_daemon_action.specs.declared.acted.Action.{Action}
 use Rattle.sc_disk.specs.Store.{AddEntry}
-use Rattle.sc_store_disk.specs.DiskStores.{DiskStore}
-use Rattle.sc_daemon_hold.specs.Holding.{Hand, IsHeld, hand_at}
+use Rattle.sc_daemon_hold.specs.Holding.{Hand, IsHeld, Rooms, hand_at}
 use Rattle.sc_daemon_job.specs.Setups.{Config, setup}
 use Rattle.sc_model.specs.Dues.{kind_at}
 use Rattle.sc_model.specs.Follows.{Fits}
@@ -30,16 +29,16 @@ writes p = false
 abbrev pub IsWriting : Config → ℕ → List ℕ → Request → Option Ending → Type 0
 IsWriting k l ls r ending = (l < length k.levels) × (kind_at k.levels l ≡ Disk) × AreLevels (length k.levels) ls × IsWriter r ending
 
--- What can be gone on with, with the entry that is held for it: d are the levels as disk stores.
-abbrev pub ServesWith : Config → (ℕ → DiskStore) → Phase → Option AddEntry → Request → Type 0
-ServesWith k d (AtFill b l ls f ending) entry r = IsWriting k l ls r ending × IsHeld (d l) entry b [] None
-ServesWith k d (AtCommit b l ls f ending) entry r = IsWriting k l ls r ending × IsHeld (d l) entry b b.bytes (Some b.run)
+-- What can be gone on with, with the entry that is held for it: d are the levels as disk stores, where nobody else moves them.
+abbrev pub ServesWith : Config → Option Rooms → Phase → Option AddEntry → Request → Type 0
+ServesWith k d (AtFill b l ls f ending) entry r = IsWriting k l ls r ending × IsHeld d l entry b [] None
+ServesWith k d (AtCommit b l ls f ending) entry r = IsWriting k l ls r ending × IsHeld d l entry b b.bytes (Some b.run)
 ServesWith k d p entry r = Serves k p r × (entry ≡ None)
 
 -- What a connection may stand at: also where a reply was too long.
-abbrev pub StandsWith : Config → (ℕ → DiskStore) → Phase → Option AddEntry → Request → Type 0
-StandsWith k d (AtFill b l ls f ending) entry r = IsWriting k l ls r ending × IsHeld (d l) entry b [] None
-StandsWith k d (AtCommit b l ls f ending) entry r = IsWriting k l ls r ending × IsHeld (d l) entry b b.bytes (Some b.run)
+abbrev pub StandsWith : Config → Option Rooms → Phase → Option AddEntry → Request → Type 0
+StandsWith k d (AtFill b l ls f ending) entry r = IsWriting k l ls r ending × IsHeld d l entry b [] None
+StandsWith k d (AtCommit b l ls f ending) entry r = IsWriting k l ls r ending × IsHeld d l entry b b.bytes (Some b.run)
 StandsWith k d p entry r = Stands k p r × (entry ≡ None)
 
 -- the entry that is held at a phase
@@ -56,7 +55,7 @@ IsOwn _ = Unit {0}
 
 -- The event is the one that is due, the phase after it is the machine's, and it can be stood at with the entry that is held
 -- then; d are the levels after it.
-pub record ActsWith (k : Config) (d : ℕ → DiskStore) (r : Request) (p : Phase) (m : ℕ) (a : Action) : Type 0 where
+pub record ActsWith (k : Config) (d : Option Rooms) (r : Request) (p : Phase) (m : ℕ) (a : Action) : Type 0 where
   pub fits : Fits (setup k) r (due_at (setup k) r p) a.what
   pub then : a.phase ≡ after (setup k) r p m a.what
   pub stands : StandsWith k d a.phase a.entry r

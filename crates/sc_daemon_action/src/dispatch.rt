@@ -5,7 +5,7 @@ ghost use Rattle.sc_daemon_action.specs.Hands.{ActsWith, ServesWith, hand_of, wr
 ghost use Rattle.sc_daemon_action.specs.Sends.{Adds};
 ghost use Rattle.sc_daemon_action.specs.Serves.{Serves};
 ghost use Rattle.sc_daemon_hold.specs.Beginning.{TellsStatistics};
-ghost use Rattle.sc_daemon_hold.specs.Holding.{HandsBy, KeepsHands};
+ghost use Rattle.sc_daemon_hold.specs.Holding.{HandsIn, KeepsIn};
 ghost use Rattle.sc_daemon_job.specs.Askers.{asker};
 ghost use Rattle.sc_daemon_job.specs.Setups.{setup};
 ghost use Rattle.sc_daemon_job.specs.declared.since.Since.{Since as Moments};
@@ -347,10 +347,10 @@ pub fn act<H: Hold>(
     out: &mut Vec<u8>,
     since: Since,
 ) -> Result<Action, NoMemory>
-    requires { ServesWith (H.config hold.old) (H.disk hold.old) phase entry request.now }
-    ensures acts { IfOk result (λ a. ActsWith (H.config hold.old) (H.disk hold.new) request.now phase (H.moment hold.new) a) }
-    ensures hands { IfOk result (λ a. HandsBy (H.disk hold.old) a.what (hand_of entry phase) (hand_of a.entry a.phase)) }
-    ensures others { IfOk result (λ a. KeepsHands (hand_of entry phase) (H.disk hold.old) (H.disk hold.new)) }
+    requires { ServesWith (H.config hold.old) (H.rooms hold.old) phase entry request.now }
+    ensures acts { IfOk result (λ a. ActsWith (H.config hold.old) (H.rooms hold.new) request.now phase (H.moment hold.new) a) }
+    ensures hands { IfOk result (λ a. HandsIn (H.rooms hold.old) a.what (hand_of entry phase) (hand_of a.entry a.phase)) }
+    ensures others { IfOk result (λ a. KeepsIn (hand_of entry phase) (H.rooms hold.old) (H.rooms hold.new)) }
     ensures moves { IfOk result (λ a. H.moves hold.old (asker since (need_at (setup (H.config hold.old)) request.now phase) request.now) a.what hold.new) }
     ensures same { IfOk result (λ a. H.config hold.new ≡ H.config hold.old) }
     ensures sent { IfOk result (λ a. Adds (H.config hold.old) (sent_by a.what) out.old.items out.new.items) }

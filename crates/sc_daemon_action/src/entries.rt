@@ -1,6 +1,6 @@
 //! The three actions of a write at a disk level: an entry is opened, filled and committed.
 ghost use Rattle.std.specs.Prelude.{◌≡◌, ◌<◌, [], length, None, Some, IfOk};
-ghost use Rattle.sc_daemon_hold.specs.Holding.{HandsBy, HeldBy, Holds, KeepsHands, hand_at};
+ghost use Rattle.sc_daemon_hold.specs.Holding.{HandsIn, HeldBy, Holds, KeepsIn, hand_at};
 ghost use Rattle.sc_daemon_job.specs.Askers.{asker};
 ghost use Rattle.sc_model.specs.Dues.{kind_at};
 ghost use Rattle.sc_model.specs.World.{Need};
@@ -34,15 +34,16 @@ pub fn open_entry<H: Hold>(
     requires level { level < length (H.config hold.old).levels }
     requires disk { kind_at (H.config hold.old).levels level ≡ Disk }
     ensures what { IfOk result (λ a. a.what ≡ What.Reserved level bytes.now.key (length bytes.now.bytes) a.written) }
-    ensures held { IfOk result (λ a. HeldBy a.written (H.disk hold.new level) a.entry bytes.now [] None) }
-    ensures hands { IfOk result (λ a. HandsBy (H.disk hold.old) a.what None (hand_at a.entry level (length bytes.now.bytes))) }
-    ensures others { IfOk result (λ a. KeepsHands None (H.disk hold.old) (H.disk hold.new)) }
+    ensures held { IfOk result (λ a. HeldBy a.written (H.rooms hold.new) level a.entry bytes.now [] None) }
+    ensures hands { IfOk result (λ a. HandsIn (H.rooms hold.old) a.what None (hand_at a.entry level (length bytes.now.bytes))) }
+    ensures others { IfOk result (λ a. KeepsIn None (H.rooms hold.old) (H.rooms hold.new)) }
     ensures moves { IfOk result (λ a. (n : Need) (r : Asks) → H.moves hold.old (asker since n r) a.what hold.new) }
     ensures same { IfOk result (λ a. H.config hold.new ≡ H.config hold.old) }
 {
     let key = bytes.key.try_clone()?;
     let size = bytes.bytes.len() as u64;
-    match hold.reserve(alloc, level, bytes, since)? {
+    let how = hold.reserve(alloc, level, bytes, since)?;
+    match how {
         Reservation::Open(entry) => Ok(EntryAction {
             what: What::Reserved(level, key, size, Written::Done),
             written: Written::Done,
@@ -67,11 +68,11 @@ pub fn fill_entry<H: Hold>(
 ) -> Result<EntryAction, NoMemory>
     requires level { level < length (H.config hold.old).levels }
     requires disk { kind_at (H.config hold.old).levels level ≡ Disk }
-    requires holds { Holds (H.disk hold.old level) entry bytes.now [] None }
+    requires holds { Holds (H.rooms hold.old) level entry bytes.now [] None }
     ensures what { IfOk result (λ a. a.what ≡ What.Filled level bytes.now.key bytes.now.bytes bytes.now.run a.written) }
-    ensures held { IfOk result (λ a. HeldBy a.written (H.disk hold.new level) a.entry bytes.now bytes.now.bytes (Some bytes.now.run)) }
-    ensures hands { IfOk result (λ a. HandsBy (H.disk hold.old) a.what (hand_at (Some entry) level (length bytes.now.bytes)) (hand_at a.entry level (length bytes.now.bytes))) }
-    ensures others { IfOk result (λ a. KeepsHands (hand_at (Some entry) level (length bytes.now.bytes)) (H.disk hold.old) (H.disk hold.new)) }
+    ensures held { IfOk result (λ a. HeldBy a.written (H.rooms hold.new) level a.entry bytes.now bytes.now.bytes (Some bytes.now.run)) }
+    ensures hands { IfOk result (λ a. HandsIn (H.rooms hold.old) a.what (hand_at (Some entry) level (length bytes.now.bytes)) (hand_at a.entry level (length bytes.now.bytes))) }
+    ensures others { IfOk result (λ a. KeepsIn (hand_at (Some entry) level (length bytes.now.bytes)) (H.rooms hold.old) (H.rooms hold.new)) }
     ensures moves { IfOk result (λ a. (n : Need) (r : Asks) → H.moves hold.old (asker since n r) a.what hold.new) }
     ensures same { IfOk result (λ a. H.config hold.new ≡ H.config hold.old) }
 {
@@ -104,11 +105,11 @@ pub fn commit_entry<H: Hold>(
 ) -> Result<EntryAction, NoMemory>
     requires level { level < length (H.config hold.old).levels }
     requires disk { kind_at (H.config hold.old).levels level ≡ Disk }
-    requires holds { Holds (H.disk hold.old level) entry bytes.now bytes.now.bytes (Some bytes.now.run) }
+    requires holds { Holds (H.rooms hold.old) level entry bytes.now bytes.now.bytes (Some bytes.now.run) }
     ensures what { IfOk result (λ a. a.what ≡ What.Committed level bytes.now.key bytes.now.bytes a.written) }
     ensures entry { IfOk result (λ a. a.entry ≡ None) }
-    ensures hands { IfOk result (λ a. HandsBy (H.disk hold.old) a.what (hand_at (Some entry) level (length bytes.now.bytes)) None) }
-    ensures others { IfOk result (λ a. KeepsHands (hand_at (Some entry) level (length bytes.now.bytes)) (H.disk hold.old) (H.disk hold.new)) }
+    ensures hands { IfOk result (λ a. HandsIn (H.rooms hold.old) a.what (hand_at (Some entry) level (length bytes.now.bytes)) None) }
+    ensures others { IfOk result (λ a. KeepsIn (hand_at (Some entry) level (length bytes.now.bytes)) (H.rooms hold.old) (H.rooms hold.new)) }
     ensures moves { IfOk result (λ a. (n : Need) (r : Asks) → n.mark ≡ bytes.now.run → H.moves hold.old (asker since n r) a.what hold.new) }
     ensures same { IfOk result (λ a. H.config hold.new ≡ H.config hold.old) }
 {

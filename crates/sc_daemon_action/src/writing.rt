@@ -4,7 +4,7 @@ ghost use Rattle.std.specs.Prelude.{◌≡◌, ◌<◌, ◌∷◌, [], length, t
 ghost use Rattle.sc_daemon_action.specs.Acts.{Acts};
 ghost use Rattle.sc_daemon_action.specs.Hands.{ActsWith, ServesWith, hand_of, writes};
 ghost use Rattle.sc_daemon_action.specs.Serves.{IsWriter};
-ghost use Rattle.sc_daemon_hold.specs.Holding.{HandsBy, Holds, KeepsHands, hand_at};
+ghost use Rattle.sc_daemon_hold.specs.Holding.{HandsIn, Holds, KeepsIn, hand_at};
 ghost use Rattle.sc_daemon_job.specs.Askers.{asker};
 ghost use Rattle.sc_daemon_job.specs.Setups.{setup};
 ghost use Rattle.sc_model.specs.Dues.{kind_at};
@@ -77,9 +77,9 @@ fn reserve_level<H: Hold>(
     requires level { level < length (H.config hold.old).levels }
     requires disk { kind_at (H.config hold.old).levels level ≡ Disk }
     requires rest { AreLevels (length (H.config hold.old).levels) rest }
-    ensures acts { IfOk result (λ a. (r : Asks) → IsWriter r ending → ActsWith (H.config hold.old) (H.disk hold.new) r (Phase.AtWrite bytes (level ∷ rest) refusal ending) (H.moment hold.new) a) }
-    ensures hands { IfOk result (λ a. HandsBy (H.disk hold.old) a.what None (hand_of a.entry a.phase)) }
-    ensures others { IfOk result (λ a. KeepsHands None (H.disk hold.old) (H.disk hold.new)) }
+    ensures acts { IfOk result (λ a. (r : Asks) → IsWriter r ending → ActsWith (H.config hold.old) (H.rooms hold.new) r (Phase.AtWrite bytes (level ∷ rest) refusal ending) (H.moment hold.new) a) }
+    ensures hands { IfOk result (λ a. HandsIn (H.rooms hold.old) a.what None (hand_of a.entry a.phase)) }
+    ensures others { IfOk result (λ a. KeepsIn None (H.rooms hold.old) (H.rooms hold.new)) }
     ensures moves { IfOk result (λ a. (r : Asks) → H.moves hold.old (asker since (need_at (setup (H.config hold.old)) r (Phase.AtWrite bytes (level ∷ rest) refusal ending)) r) a.what hold.new) }
     ensures same { IfOk result (λ a. H.config hold.new ≡ H.config hold.old) }
     ensures unsent { IfOk result (λ a. sent_by a.what ≡ []) }
@@ -116,10 +116,10 @@ fn act_fill<H: Hold>(
     requires level { level < length (H.config hold.old).levels }
     requires disk { kind_at (H.config hold.old).levels level ≡ Disk }
     requires rest { AreLevels (length (H.config hold.old).levels) rest }
-    requires holds { Holds (H.disk hold.old level) entry bytes [] None }
-    ensures acts { IfOk result (λ a. (r : Asks) → IsWriter r ending → ActsWith (H.config hold.old) (H.disk hold.new) r (Phase.AtFill bytes level rest refusal ending) (H.moment hold.new) a) }
-    ensures hands { IfOk result (λ a. HandsBy (H.disk hold.old) a.what (hand_at (Some entry) level (length bytes.bytes)) (hand_of a.entry a.phase)) }
-    ensures others { IfOk result (λ a. KeepsHands (hand_at (Some entry) level (length bytes.bytes)) (H.disk hold.old) (H.disk hold.new)) }
+    requires holds { Holds (H.rooms hold.old) level entry bytes [] None }
+    ensures acts { IfOk result (λ a. (r : Asks) → IsWriter r ending → ActsWith (H.config hold.old) (H.rooms hold.new) r (Phase.AtFill bytes level rest refusal ending) (H.moment hold.new) a) }
+    ensures hands { IfOk result (λ a. HandsIn (H.rooms hold.old) a.what (hand_at (Some entry) level (length bytes.bytes)) (hand_of a.entry a.phase)) }
+    ensures others { IfOk result (λ a. KeepsIn (hand_at (Some entry) level (length bytes.bytes)) (H.rooms hold.old) (H.rooms hold.new)) }
     ensures moves { IfOk result (λ a. (r : Asks) → H.moves hold.old (asker since (need_at (setup (H.config hold.old)) r (Phase.AtFill bytes level rest refusal ending)) r) a.what hold.new) }
     ensures same { IfOk result (λ a. H.config hold.new ≡ H.config hold.old) }
     ensures unsent { IfOk result (λ a. sent_by a.what ≡ []) }
@@ -156,10 +156,10 @@ fn act_commit<H: Hold>(
     requires level { level < length (H.config hold.old).levels }
     requires disk { kind_at (H.config hold.old).levels level ≡ Disk }
     requires rest { AreLevels (length (H.config hold.old).levels) rest }
-    requires holds { Holds (H.disk hold.old level) entry bytes bytes.bytes (Some bytes.run) }
-    ensures acts { IfOk result (λ a. (r : Asks) → IsWriter r ending → ActsWith (H.config hold.old) (H.disk hold.new) r (Phase.AtCommit bytes level rest refusal ending) (H.moment hold.new) a) }
-    ensures hands { IfOk result (λ a. HandsBy (H.disk hold.old) a.what (hand_at (Some entry) level (length bytes.bytes)) (hand_of a.entry a.phase)) }
-    ensures others { IfOk result (λ a. KeepsHands (hand_at (Some entry) level (length bytes.bytes)) (H.disk hold.old) (H.disk hold.new)) }
+    requires holds { Holds (H.rooms hold.old) level entry bytes bytes.bytes (Some bytes.run) }
+    ensures acts { IfOk result (λ a. (r : Asks) → IsWriter r ending → ActsWith (H.config hold.old) (H.rooms hold.new) r (Phase.AtCommit bytes level rest refusal ending) (H.moment hold.new) a) }
+    ensures hands { IfOk result (λ a. HandsIn (H.rooms hold.old) a.what (hand_at (Some entry) level (length bytes.bytes)) (hand_of a.entry a.phase)) }
+    ensures others { IfOk result (λ a. KeepsIn (hand_at (Some entry) level (length bytes.bytes)) (H.rooms hold.old) (H.rooms hold.new)) }
     ensures moves { IfOk result (λ a. (r : Asks) → H.moves hold.old (asker since (need_at (setup (H.config hold.old)) r (Phase.AtCommit bytes level rest refusal ending)) r) a.what hold.new) }
     ensures same { IfOk result (λ a. H.config hold.new ≡ H.config hold.old) }
     ensures unsent { IfOk result (λ a. sent_by a.what ≡ []) }
@@ -216,9 +216,9 @@ fn act_next<H: Hold>(
 ) -> Result<Action, NoMemory>
     requires levels { AreLevels (length (H.config hold.old).levels) levels }
     requires ending { IsWriter request.now ending }
-    ensures acts { IfOk result (λ a. ActsWith (H.config hold.old) (H.disk hold.new) request.now (Phase.AtWrite bytes levels refusal ending) (H.moment hold.new) a) }
-    ensures hands { IfOk result (λ a. HandsBy (H.disk hold.old) a.what None (hand_of a.entry a.phase)) }
-    ensures others { IfOk result (λ a. KeepsHands None (H.disk hold.old) (H.disk hold.new)) }
+    ensures acts { IfOk result (λ a. ActsWith (H.config hold.old) (H.rooms hold.new) request.now (Phase.AtWrite bytes levels refusal ending) (H.moment hold.new) a) }
+    ensures hands { IfOk result (λ a. HandsIn (H.rooms hold.old) a.what None (hand_of a.entry a.phase)) }
+    ensures others { IfOk result (λ a. KeepsIn None (H.rooms hold.old) (H.rooms hold.new)) }
     ensures moves { IfOk result (λ a. H.moves hold.old (asker since (need_at (setup (H.config hold.old)) request.now (Phase.AtWrite bytes levels refusal ending)) request.now) a.what hold.new) }
     ensures same { IfOk result (λ a. H.config hold.new ≡ H.config hold.old) }
     ensures unsent { IfOk result (λ a. sent_by a.what ≡ []) }
@@ -249,11 +249,11 @@ pub fn act_writing<H: Hold>(
     entry: Option<LruDiskCacheAddEntry>,
     since: Since,
 ) -> Result<Action, NoMemory>
-    requires serves { ServesWith (H.config hold.old) (H.disk hold.old) phase entry request.now }
+    requires serves { ServesWith (H.config hold.old) (H.rooms hold.old) phase entry request.now }
     requires writes { writes phase ≡ true }
-    ensures acts { IfOk result (λ a. ActsWith (H.config hold.old) (H.disk hold.new) request.now phase (H.moment hold.new) a) }
-    ensures hands { IfOk result (λ a. HandsBy (H.disk hold.old) a.what (hand_of entry phase) (hand_of a.entry a.phase)) }
-    ensures others { IfOk result (λ a. KeepsHands (hand_of entry phase) (H.disk hold.old) (H.disk hold.new)) }
+    ensures acts { IfOk result (λ a. ActsWith (H.config hold.old) (H.rooms hold.new) request.now phase (H.moment hold.new) a) }
+    ensures hands { IfOk result (λ a. HandsIn (H.rooms hold.old) a.what (hand_of entry phase) (hand_of a.entry a.phase)) }
+    ensures others { IfOk result (λ a. KeepsIn (hand_of entry phase) (H.rooms hold.old) (H.rooms hold.new)) }
     ensures moves { IfOk result (λ a. H.moves hold.old (asker since (need_at (setup (H.config hold.old)) request.now phase) request.now) a.what hold.new) }
     ensures same { IfOk result (λ a. H.config hold.new ≡ H.config hold.old) }
     ensures unsent { IfOk result (λ a. sent_by a.what ≡ []) }

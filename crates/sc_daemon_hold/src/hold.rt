@@ -1,13 +1,13 @@
-ghost use Rattle.std.specs.Prelude.{◌≡◌, ◌≢◌, ◌<◌, ◌&&◌, ℕ, not, [], length, IfOk, None, OnOk, Some};
+ghost use Rattle.std.specs.Prelude.{◌≡◌, ◌≢◌, ◌<◌, ◌&&◌, ℕ, not, [], length, IfOk, None, OnOk, Option, Some};
 ghost use Rattle.sc_model.specs.There.{AreLevels};
-ghost use Rattle.sc_store_disk.specs.DiskStores.{DiskStore, entry_path};
+ghost use Rattle.sc_store_disk.specs.DiskStores.{entry_path};
 ghost use Rattle.sc_store_disk.specs.Entries.{ClosesEntry, FillsBy};
 ghost use Rattle.sc_store_disk.specs.Marks.{filled_by};
 ghost use Rattle.sc_store_disk.specs.Moving.{OpensBy, written_of as reserved_of};
 ghost use Rattle.sc_daemon_hold.specs.Distributing.{GoodDist};
-ghost use Rattle.sc_daemon_hold.specs.Holding.{Elsewhere, Holds, IsGood, OpensNone, ReservesBy, SameRoom, filled_of};
+ghost use Rattle.sc_daemon_hold.specs.Holding.{AtLevel, Holds, IsGood, IsSame, OpensNone, ReservesBy, Rooms, SameRoom, filled_of};
 ghost use Rattle.sc_daemon_hold.specs.Beginning.{IsPlainTold, IsTick, TellsStatistics};
-ghost use Rattle.sc_entry.specs.Causes.{IfTold};
+ghost use Rattle.sc_entry.specs.Causes.{IfTold, Told as Changes};
 ghost use Rattle.sc_daemon_job.specs.Askers.{Asker, asker, is_compile};
 ghost use Rattle.sc_daemon_job.specs.Setups.{Config, setup};
 ghost use Rattle.sc_model.specs.Collected.{GoodAnswer};
@@ -76,8 +76,8 @@ pub trait Hold {
     /// What its clock told as its last action ended.
     ghost moment: { Self → ℕ };
 
-    /// A level as a disk store: what is open there.
-    ghost disk: { Self → ℕ → DiskStore };
+    /// The levels as disk stores, what is open there, where nobody else moves them.
+    ghost rooms: { Self → Option Rooms };
 
     fn now(&self) -> u64
         ensures { result ≡ moment self.now };
@@ -289,12 +289,12 @@ pub trait Hold {
         requires level { level < length (config self.old).levels }
         requires disk { kind_at (config self.old).levels level ≡ Disk }
         ensures moves { IfOk result (λ how. (n : Need) (r : Asks) → moves self.old (asker since n r) (Reserved level bytes.now.key (length bytes.now.bytes) (reserved_of how)) self.new) }
-        ensures opens { IfOk result (λ how. OpensBy (entry_path bytes.now.key) (length bytes.now.bytes) how (disk self.old level) (disk self.new level)) }
+        ensures opens { IfOk result (λ how. Changes (AtLevel level (OpensBy (entry_path bytes.now.key) (length bytes.now.bytes) how)) (rooms self.old) (rooms self.new)) }
         ensures good { IfOk result (λ how. IsGood how bytes.now.key) }
-        ensures elsewhere { IfOk result (λ _. Elsewhere level (disk self.old) (disk self.new)) }
         ensures same { IfOk result (λ _. config self.new ≡ config self.old) };
 
-    /// Fills an open entry of a disk level with these bytes. A refusal closes it.
+    /// Fills an open entry of a disk level with these bytes. A refusal closes it. Where others move the level it may be open no
+    /// more.
     fn fill(
         &mut self,
         alloc: Global,
@@ -305,10 +305,10 @@ pub trait Hold {
     ) -> Result<Filling, NoMemory>
         requires level { level < length (config self.old).levels }
         requires disk { kind_at (config self.old).levels level ≡ Disk }
-        requires holds { Holds (disk self.old level) entry bytes.now [] None }
+        requires holds { Holds (rooms self.old) level entry bytes.now [] None }
         ensures moves { IfOk result (λ how. (n : Need) (r : Asks) → moves self.old (asker since n r) (Filled level bytes.now.key bytes.now.bytes bytes.now.run (filled_of how)) self.new) }
-        ensures fills { IfOk result (λ how. FillsBy entry bytes.now.bytes (filled_by bytes.now.run) how (disk self.old level) (disk self.new level)) }
-        ensures elsewhere { IfOk result (λ _. Elsewhere level (disk self.old) (disk self.new)) }
+        ensures entry { IfOk result (λ how. IsSame entry how) }
+        ensures fills { IfOk result (λ how. Changes (AtLevel level (FillsBy entry bytes.now.bytes (filled_by bytes.now.run) how)) (rooms self.old) (rooms self.new)) }
         ensures same { IfOk result (λ _. config self.new ≡ config self.old) };
 
     /// Puts an open entry of a disk level, which was filled with these bytes and nothing else, in its key's place. It is closed
@@ -323,20 +323,19 @@ pub trait Hold {
     ) -> Result<Written, NoMemory>
         requires level { level < length (config self.old).levels }
         requires disk { kind_at (config self.old).levels level ≡ Disk }
-        requires holds { Holds (disk self.old level) entry bytes.now bytes.now.bytes (Some bytes.now.run) }
+        requires holds { Holds (rooms self.old) level entry bytes.now bytes.now.bytes (Some bytes.now.run) }
         ensures moves { IfOk result (λ how. (n : Need) (r : Asks) → n.mark ≡ bytes.now.run → moves self.old (asker since n r) (Committed level bytes.now.key bytes.now.bytes how) self.new) }
-        ensures closes { IfOk result (λ _. ClosesEntry entry.number (disk self.old level) (disk self.new level)) }
-        ensures elsewhere { IfOk result (λ _. Elsewhere level (disk self.old) (disk self.new)) }
+        ensures closes { IfOk result (λ _. Changes (AtLevel level (ClosesEntry entry.number)) (rooms self.old) (rooms self.new)) }
         ensures same { IfOk result (λ _. config self.new ≡ config self.old) };
 
     /// An event that opens, fills and closes no entry leaves what is open at each level.
-    ghost still: { (a : Self) (n : Asker) (what : What) (b : Self) → moves a n what b → OpensNone what → (l : ℕ) → SameRoom (disk a l) (disk b l) };
+    ghost still: { (a : Self) (n : Asker) (what : What) (b : Self) → moves a n what b → OpensNone what → Changes (λ d e. (l : ℕ) → SameRoom (d l) (e l)) (rooms a) (rooms b) };
 
     /// Whether the levels tell what they hold does not change.
-    ghost tells: { (a : Self) (n : Asker) (what : What) (b : Self) → moves a n what b → (l : ℕ) → (disk b l).told ≡ (disk a l).told };
+    ghost tells: { (a : Self) (n : Asker) (what : What) (b : Self) → moves a n what b → Changes (λ d e. (l : ℕ) → (e l).told ≡ (d l).told) (rooms a) (rooms b) };
 
     /// The bytes that are reserved at each level are those of the events.
-    ghost reserves: { (a : Self) (n : Asker) (what : What) (b : Self) → moves a n what b → ReservesBy what (λ l. (disk a l).reserved) (λ l. (disk b l).reserved) };
+    ghost reserves: { (a : Self) (n : Asker) (what : What) (b : Self) → moves a n what b → Changes (λ d e. ReservesBy what (λ l. (d l).reserved) (λ l. (e l).reserved)) (rooms a) (rooms b) };
 
     /// A reply is spelled as it is on the wire.
     ghost spells: { (hold : Self) → (config hold).payload ≡ payload };

@@ -11,7 +11,7 @@ use Rattle.sc_store_disk.specs.declared.filling.Filling.TheVariants.{Filled as S
 use Rattle.sc_store_disk.specs.declared.reserving.Reservation.{Reservation}
 use Rattle.sc_store_disk.specs.declared.reserving.Reservation.TheVariants.{Open, Refused as NotReserved}
 use Rattle.sc_entry.specs.Keys.{IsStoreKey, is_store_key, make_key_path}
-use Rattle.sc_daemon_hold.specs.Holding.{Holds, IsGood, OpensNone, ReservesBy, filled_of}
+use Rattle.sc_daemon_hold.specs.Holding.{Holds, IsFor, IsGood, IsOpenFor, IsSame, OpensNone, ReservesBy, filled_of}
 use Rattle.sc_daemon_job.specs.Setups.{setup}
 use Rattle.sc_daemon_owned.specs.Facts.{config_of}
 use Rattle.sc_model.specs.Dues.{kind_at}
@@ -116,31 +116,40 @@ key_good true b x rest h = absurd (cc)
 key_good false true x rest h = refl
 key_good false false x rest h = absurd (cc)
 
-pub good_key : (p : Policy) (f : LevelFacts) (r : ℕ) (key : List ℕ) (size : ℕ) (how : Reservation) (v w : Level) → ReserveCause (causes p f r key size) how v w → IsGood how key
-good_key p f r key size (Open e) v w cause = key_good (refuses_writes p f) (is_store_key key) (ForReading (read_only_store f f.wrapped)) (room_cause f.kind f.capacity r size) cause
-good_key p f r key size (NotReserved c) v w cause = tt
+pub good_key : (p : Policy) (f : LevelFacts) (r : ℕ) (key : List ℕ) (size n : ℕ) (how : Reservation) (v w : Level) (s t : DiskStore) → ReserveCause (causes p f r key size) how v w → OpensBy (entry_path key) n how s t → IsGood how key
+good_key p f r key size n (Open e) v w s t cause opens = record {
+  good = key_good (refuses_writes p f) (is_store_key key) (ForReading (read_only_store f f.wrapped)) (room_cause f.kind f.capacity r size) cause;
+  key = opens.key;
+  divided = opens.divided;
+}
+good_key p f r key size n (NotReserved c) v w s t cause opens = tt
 
 -- An entry that is held is open.
-pub is_open_held : (s : DiskStore) (e : AddEntry) (b : Bytes) (filled : List ℕ) (fills : Option Bool) → Holds s e b filled fills → IsOpenAt e s
-is_open_held s e b filled fills h = (h.divided, (record { path = entry_path b.key; size = length b.bytes; bytes = h.bytes; fills = fills }, h.entry, sym h.key))
+pub is_open_held : (s : DiskStore) (e : AddEntry) (b : Bytes) (filled : List ℕ) (fills : Option Bool) → IsFor e b.key × IsOpenFor s e b filled fills → IsOpenAt e s
+is_open_held s e b filled fills h = (h.0.divided, (record { path = entry_path b.key; size = length b.bytes; bytes = h.1.bytes; fills = fills }, h.1.entry, sym h.0.key))
 
-declared_held : (s : DiskStore) (e : AddEntry) (b : Bytes) (filled : List ℕ) (fills : Option Bool) → Holds s e b filled fills → option_map_or (λ (o : OpenEntry). o.size) (entry_at s.entries e.number) 0 ≡ length b.bytes
-declared_held s e b filled fills h = ap (λ x. option_map_or (λ (o : OpenEntry). o.size) x 0) h.entry
+declared_held : (s : DiskStore) (e : AddEntry) (b : Bytes) (filled : List ℕ) (fills : Option Bool) → IsFor e b.key × IsOpenFor s e b filled fills → option_map_or (λ (o : OpenEntry). o.size) (entry_at s.entries e.number) 0 ≡ length b.bytes
+declared_held s e b filled fills h = ap (λ x. option_map_or (λ (o : OpenEntry). o.size) x 0) h.1.entry
 
-closed_reserves : (o : State) (after : Held) (l : ℕ) (e : AddEntry) (b : Bytes) (filled : List ℕ) (fills : Option Bool) → Holds (disk_at o l) e b filled fills → ClosesEntry e.number (disk_at o l) (disk_in after l) → (room_in after.rooms l).reserved + length b.bytes ≡ reserved_in o l
+closed_reserves : (o : State) (after : Held) (l : ℕ) (e : AddEntry) (b : Bytes) (filled : List ℕ) (fills : Option Bool) → Holds (Some (disk_at o)) l e b filled fills → ClosesEntry e.number (disk_at o l) (disk_in after l) → (room_in after.rooms l).reserved + length b.bytes ≡ reserved_in o l
 closed_reserves o after l e b filled fills h closes = ap (λ n. (room_in after.rooms l).reserved + n) (sym (declared_held (disk_at o l) e b filled fills h)) ∙ closes.reserved
+
+-- a fill gives the entry that it was given
+pub same_filled : (e : AddEntry) (more : List ℕ) (fills : Option Bool → Option Bool) (how : Filling) (s t : DiskStore) → FillsBy e more fills how s t → IsSame e how
+same_filled e more fills (StillOpen same) s t h = h.0
+same_filled e more fills (NotFilled c) s t h = tt
 
 -- An entry was filled, or not.
 fills_in : (s t : DiskStore) (e : AddEntry) (more : List ℕ) (fills : Option Bool → Option Bool) (how : Filling) → FillsBy e more fills how s t → Fills (filled_of how) s.level t.level
 fills_in s t e more fills (StillOpen same) h = h.1.level
 fills_in s t e more fills (NotFilled c) h = h.0
 
-filled_reserves : (o : State) (after : Held) (l : ℕ) (e : AddEntry) (b : Bytes) (how : Filling) → AtLevel o after l → Holds (disk_at o l) e b [] None → FillsBy e b.bytes (filled_by b.run) how (disk_at o l) (disk_in after l)
+filled_reserves : (o : State) (after : Held) (l : ℕ) (e : AddEntry) (b : Bytes) (how : Filling) → AtLevel o after l → Holds (Some (disk_at o)) l e b [] None → FillsBy e b.bytes (filled_by b.run) how (disk_at o l) (disk_in after l)
     → ReservesBy (Filled l b.key b.bytes b.run (filled_of how)) (reserved_in o) (λ m. (room_in after.rooms m).reserved)
 filled_reserves o after l e b (StillOpen same) at held h = every l (reserved_in o) (λ m. (room_in after.rooms m).reserved) h.1.reserved (λ m apart. ap (λ r. r.reserved) (rooms_apart o after l m at apart))
 filled_reserves o after l e b (NotFilled c) at held h = (closed_reserves o after l e b [] None held h.1, λ m apart. ap (λ r. r.reserved) (rooms_apart o after l m at apart))
 
-filled_of_state : (o : State) (after : Held) (l : ℕ) (e : AddEntry) (b : Bytes) (how : Filling) (n : Need) → AtLevel o after l → Holds (disk_at o l) e b [] None → FillsBy e b.bytes (filled_by b.run) how (disk_at o l) (disk_in after l)
+filled_of_state : (o : State) (after : Held) (l : ℕ) (e : AddEntry) (b : Bytes) (how : Filling) (n : Need) → AtLevel o after l → Holds (Some (disk_at o)) l e b [] None → FillsBy e b.bytes (filled_by b.run) how (disk_at o l) (disk_in after l)
     → MovesOpen o n (Filled l b.key b.bytes b.run (filled_of how)) after.told (record o.world { levels = after.levels }) after.rooms
 filled_of_state o after l e b how n at held h = (
   at.told,
@@ -149,11 +158,11 @@ filled_of_state o after l e b how n at held h = (
   filled_reserves o after l e b how at held h,
 )
 
-pub filled : (o now : State) (after : Held) (l : ℕ) (e : AddEntry) (b : Bytes) (how : Filling) (n : Need) → o ≡ now → AtLevel o after l → Holds (disk_at now l) e b [] None → FillsBy e b.bytes (filled_by b.run) how (disk_at o l) (disk_in after l)
+pub filled : (o now : State) (after : Held) (l : ℕ) (e : AddEntry) (b : Bytes) (how : Filling) (n : Need) → o ≡ now → AtLevel o after l → Holds (Some (disk_at now)) l e b [] None → FillsBy e b.bytes (filled_by b.run) how (disk_at o l) (disk_in after l)
     → MovesOpen now n (Filled l b.key b.bytes b.run (filled_of how)) after.told (record o.world { levels = after.levels }) after.rooms
 filled o now after l e b how n is at held h =
     subst (λ (s : State). MovesOpen s n (Filled l b.key b.bytes b.run (filled_of how)) after.told (record o.world { levels = after.levels }) after.rooms) is
-    (filled_of_state o after l e b how n at (subst (λ (s : State). Holds (disk_at s l) e b [] None) (sym is) held) h)
+    (filled_of_state o after l e b how n at (subst (λ (s : State). Holds (Some (disk_at s)) l e b [] None) (sym is) held) h)
 
 -- An entry was committed, or not.
 commits_in : (kind : LevelKind) (key bytes : List ℕ) (mark : Bool) (how : Written) (v w : Level) → kind ≡ Disk → IsStoreKey key → CommitsFile (make_key_path key) bytes mark how v w → Commits kind key bytes mark how v w
@@ -163,20 +172,20 @@ commits_in kind key bytes mark (Refused c) v w disk good h = subst (λ (k : Leve
 as_long : (a b : List ℕ) → a ≡ b → length a ≤ length b
 as_long a b e = let same : length a ≡ length b = ap length e in omega (arith, same)
 
-committed_of_state : (o : State) (after : Held) (l : ℕ) (e : AddEntry) (b : Bytes) (how : Written) (n : Need) → AtLevel o after l → kind_at o.config.levels l ≡ Disk → Holds (disk_at o l) e b b.bytes (Some b.run) → ClosesEntry e.number (disk_at o l) (disk_in after l)
+committed_of_state : (o : State) (after : Held) (l : ℕ) (e : AddEntry) (b : Bytes) (how : Written) (n : Need) → AtLevel o after l → kind_at o.config.levels l ≡ Disk → Holds (Some (disk_at o)) l e b b.bytes (Some b.run) → ClosesEntry e.number (disk_at o l) (disk_in after l)
     → CommitsEntry e.number how (disk_at o l) (disk_in after l) → n.mark ≡ b.run → MovesOpen o n (Committed l b.key b.bytes how) after.told (record o.world { levels = after.levels }) after.rooms
 committed_of_state o after l e b how n at disk held closes commits marks = (
   at.told,
   record {
     moment = refl;
     levels = λ told.
-        let same : held.bytes ≡ b.bytes = held.told told in
-        let file : CommitsFile (make_key_path b.key) held.bytes b.run how (level_in o.world.levels l) (level_in after.levels l) = commits told (record { path = entry_path b.key; size = length b.bytes; bytes = held.bytes; fills = Some b.run }) (make_key_path b.key) held.entry (as_long held.bytes b.bytes same) refl in (
+        let same : held.1.bytes ≡ b.bytes = held.1.told told in
+        let file : CommitsFile (make_key_path b.key) held.1.bytes b.run how (level_in o.world.levels l) (level_in after.levels l) = commits told (record { path = entry_path b.key; size = length b.bytes; bytes = held.1.bytes; fills = Some b.run }) (make_key_path b.key) held.1.entry (as_long held.1.bytes b.bytes same) refl in (
           level_in after.levels l,
           (
             at.later,
             subst (λ (m : Bool). Commits (kind_at o.config.levels l) b.key b.bytes m how (level_in o.world.levels l) (level_in after.levels l)) (sym marks)
-                (commits_in (kind_at o.config.levels l) b.key b.bytes b.run how (level_in o.world.levels l) (level_in after.levels l) disk held.good
+                (commits_in (kind_at o.config.levels l) b.key b.bytes b.run how (level_in o.world.levels l) (level_in after.levels l) disk held.0.good
                 (subst (λ (c : List ℕ). CommitsFile (make_key_path b.key) c b.run how (level_in o.world.levels l) (level_in after.levels l)) same file)),
           ),
           at.levels,
@@ -188,8 +197,8 @@ committed_of_state o after l e b how n at disk held closes commits marks = (
   (closed_reserves o after l e b b.bytes (Some b.run) held closes, λ m apart. ap (λ r. r.reserved) (rooms_apart o after l m at apart)),
 )
 
-pub committed : (o now : State) (after : Held) (l : ℕ) (e : AddEntry) (b : Bytes) (how : Written) (n : Need) → o ≡ now → AtLevel o after l → kind_at now.config.levels l ≡ Disk → Holds (disk_at now l) e b b.bytes (Some b.run) → ClosesEntry e.number (disk_at o l) (disk_in after l)
+pub committed : (o now : State) (after : Held) (l : ℕ) (e : AddEntry) (b : Bytes) (how : Written) (n : Need) → o ≡ now → AtLevel o after l → kind_at now.config.levels l ≡ Disk → Holds (Some (disk_at now)) l e b b.bytes (Some b.run) → ClosesEntry e.number (disk_at o l) (disk_in after l)
     → CommitsEntry e.number how (disk_at o l) (disk_in after l) → n.mark ≡ b.run → MovesOpen now n (Committed l b.key b.bytes how) after.told (record o.world { levels = after.levels }) after.rooms
 committed o now after l e b how n is at disk held closes commits marks =
     subst (λ (s : State). MovesOpen s n (Committed l b.key b.bytes how) after.told (record o.world { levels = after.levels }) after.rooms) is
-    (committed_of_state o after l e b how n at (subst (λ (s : State). kind_at s.config.levels l ≡ Disk) (sym is) disk) (subst (λ (s : State). Holds (disk_at s l) e b b.bytes (Some b.run)) (sym is) held) closes commits marks)
+    (committed_of_state o after l e b how n at (subst (λ (s : State). kind_at s.config.levels l ≡ Disk) (sym is) disk) (subst (λ (s : State). Holds (Some (disk_at s)) l e b b.bytes (Some b.run)) (sym is) held) closes commits marks)

@@ -5,7 +5,7 @@ ghost use Rattle.sc_store_disk.specs.Entries.{ClosesEntry, FillsBy};
 ghost use Rattle.sc_store_disk.specs.Marks.{filled_by};
 ghost use Rattle.sc_store_disk.specs.Moving.{OpensBy, written_of as reserved_of};
 ghost use Rattle.sc_daemon_hold.specs.Distributing.{GoodDist};
-ghost use Rattle.sc_daemon_hold.specs.Holding.{Elsewhere, Holds, IsGood, filled_of};
+ghost use Rattle.sc_daemon_hold.specs.Holding.{Elsewhere, Holds, IsGood, IsSame, filled_of};
 ghost use Rattle.sc_entry.specs.Causes.{IfTold};
 ghost use Rattle.sc_daemon_job.specs.Setups.{setup};
 ghost use Rattle.sc_model.specs.Collected.{GoodAnswer};
@@ -361,8 +361,9 @@ impl<P: Parts> Owned<P> {
     ) -> Result<Filling, NoMemory>
         requires level { level < length (config_of self.old.config).levels }
         requires disk { kind_at (config_of self.old.config).levels level ≡ Disk }
-        requires holds { Holds (disk_at self.old level) entry bytes.now [] None }
+        requires holds { Holds (Some (disk_at self.old)) level entry bytes.now [] None }
         ensures moves { IfOk result (λ how. (n : Need) → OwnedMoves self.old n (Filled level bytes.now.key bytes.now.bytes bytes.now.run (filled_of how)) self.new) }
+        ensures entry { IfOk result (λ how. IsSame entry how) }
         ensures fills { IfOk result (λ how. FillsBy entry bytes.now.bytes (filled_by bytes.now.run) how (disk_at self.old level) (disk_at self.new level)) }
         ensures elsewhere { IfOk result (λ _. Elsewhere level (disk_at self.old) (disk_at self.new)) }
         ensures same { IfOk result (λ _. config_of self.new.config ≡ config_of self.old.config) }
@@ -390,7 +391,7 @@ impl<P: Parts> Owned<P> {
     ) -> Result<Written, NoMemory>
         requires level { level < length (config_of self.old.config).levels }
         requires disk { kind_at (config_of self.old.config).levels level ≡ Disk }
-        requires holds { Holds (disk_at self.old level) entry bytes.now bytes.now.bytes (Some bytes.now.run) }
+        requires holds { Holds (Some (disk_at self.old)) level entry bytes.now bytes.now.bytes (Some bytes.now.run) }
         ensures moves { IfOk result (λ how. (n : Need) → n.mark ≡ bytes.now.run → OwnedMoves self.old n (Committed level bytes.now.key bytes.now.bytes how) self.new) }
         ensures closes { IfOk result (λ _. ClosesEntry entry.number (disk_at self.old level) (disk_at self.new level)) }
         ensures elsewhere { IfOk result (λ _. Elsewhere level (disk_at self.old) (disk_at self.new)) }

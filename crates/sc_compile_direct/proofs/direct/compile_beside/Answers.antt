@@ -10,12 +10,12 @@ use Rattle.sc_compile_direct.proofs.direct.compile_beside.Goals as goal
 pub loop-running-smaller : goal.loop-running-smaller
 loop-running-smaller g c =
     let goes : is_over c.loop-running.running.phase ≡ false = search rules in
-    steps_less g.H.Hold.config g.H.Hold.disk g.H.Hold.moment g.H.Hold.moves c.args.compile c.args.task c.args.hold.now c.loop-running.hold c.step.new.hold c.loop-running.running c.step.new.self c.loop-running.invariant goes c.in_ok-step.ensures
+    steps_less g.H.Hold.config g.H.Hold.rooms g.H.Hold.moment g.H.Hold.moves c.args.compile c.args.task c.args.hold.now c.loop-running.hold c.step.new.hold c.loop-running.running c.step.new.self c.loop-running.invariant goes c.in_ok-step.ensures
 
 pub loop-running-preserved : goal.loop-running-preserved
 loop-running-preserved g c =
     let goes : is_over c.loop-running.running.phase ≡ false = search rules in
-    steps_on g.H.Hold.config g.H.Hold.disk g.H.Hold.moment g.H.Hold.moves c.args.compile c.args.task c.args.hold.now c.loop-running.hold c.step.new.hold c.loop-running.running c.step.new.self c.loop-running.invariant goes c.in_ok-step.ensures
+    steps_on g.H.Hold.config g.H.Hold.rooms g.H.Hold.moment g.H.Hold.moves c.args.compile c.args.task c.args.hold.now c.loop-running.hold c.step.new.hold c.loop-running.running c.step.new.self c.loop-running.invariant goes c.in_ok-step.ensures
 
 pub returns-clause-compiles : goal.returns-clause-compiles
 returns-clause-compiles g c =

@@ -12,5 +12,5 @@ returns-in-Refused-clause-acts g c r writer =
     let l = c.args.level in
     let what = Filled l b.key b.bytes b.run (Refused c.in-Refused.cause) in
     let is : c.after_refusal.result.what ≡ what = c.after_refusal.ensures.what ∙ c.in_ok-what.ensures.what ∙ ap (λ how. Filled l b.key b.bytes b.run how) c.in-Refused.is in
-    goes_with (g.H.Hold.config c.args.hold.now) (g.H.Hold.disk c.fill_entry.new.hold) r (AtFill b l c.args.rest c.args.refusal c.args.ending) (g.H.Hold.moment c.fill_entry.new.hold) c.after_refusal.result what b (note c.args.refusal l c.in-Refused.cause) c.args.rest c.args.ending
+    goes_with (g.H.Hold.config c.args.hold.now) (g.H.Hold.rooms c.fill_entry.new.hold) r (AtFill b l c.args.rest c.args.refusal c.args.ending) (g.H.Hold.moment c.fill_entry.new.hold) c.after_refusal.result what b (note c.args.refusal l c.in-Refused.cause) c.args.rest c.args.ending
     is c.after_refusal.ensures.phase c.after_refusal.ensures.entry c.requires.rest writer (refl, refl, refl, refl) refl tt tt

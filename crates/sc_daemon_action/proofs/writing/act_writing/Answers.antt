@@ -1,7 +1,7 @@
 use Rattle.std.proofs.Common.{Option, sym, subst}
 use Rattle.sc_daemon_action.specs.Hands.{hand_of}
 use Rattle.sc_disk.specs.Store.{AddEntry}
-use Rattle.sc_daemon_hold.specs.Holding.{KeepsHands}
+use Rattle.sc_daemon_hold.specs.Holding.{KeepsIn}
 use Rattle.sc_daemon_job.specs.Askers.{asker}
 use Rattle.sc_daemon_job.specs.Setups.{setup}
 use Rattle.sc_model.specs.Conns.{need_at}
@@ -13,9 +13,9 @@ use Rattle.sc_daemon_action.proofs.writing.act_writing.Goals as goal
 pub returns-in_ok-action-in-AtWrite-clause-others : goal.returns-in_ok-action-in-AtWrite-clause-others
 returns-in_ok-action-in-AtWrite-clause-others g c =
     let w = c.in-AtWrite in
-    let old = g.H.Hold.disk c.args.hold.now in
-    let new = g.H.Hold.disk c.act_next.new.hold in
-    subst (λ (p : Phase). KeepsHands (hand_of c.args.entry p) old new) (sym w.is) (keeps_write c.args.entry w.bytes w.levels w.refusal w.ending old new c.in_ok-action-in-AtWrite.ensures.others)
+    let old = g.H.Hold.rooms c.args.hold.now in
+    let new = g.H.Hold.rooms c.act_next.new.hold in
+    subst (λ (p : Phase). KeepsIn (hand_of c.args.entry p) old new) (sym w.is) (keeps_write c.args.entry w.bytes w.levels w.refusal w.ending old new c.in_ok-action-in-AtWrite.ensures.others)
 
 pub returns-in_ok-action-in-AtWrite-clause-moves : goal.returns-in_ok-action-in-AtWrite-clause-moves
 returns-in_ok-action-in-AtWrite-clause-moves g c =
@@ -24,10 +24,10 @@ returns-in_ok-action-in-AtWrite-clause-moves g c =
 pub returns-in_ok-action-in-AtFill-clause-others : goal.returns-in_ok-action-in-AtFill-clause-others
 returns-in_ok-action-in-AtFill-clause-others g c =
     let w = c.in-AtFill in
-    let old = g.H.Hold.disk c.args.hold.now in
-    let new = g.H.Hold.disk c.act_fill.new.hold in
-    subst (λ (p : Phase). KeepsHands (hand_of c.args.entry p) old new) (sym w.is)
-    (subst (λ (e : Option AddEntry). KeepsHands (hand_of e (AtFill w.bytes w.level w.rest w.refusal w.ending)) old new) (sym c.in-Some.is) c.in_ok-action-in-AtFill.ensures.others)
+    let old = g.H.Hold.rooms c.args.hold.now in
+    let new = g.H.Hold.rooms c.act_fill.new.hold in
+    subst (λ (p : Phase). KeepsIn (hand_of c.args.entry p) old new) (sym w.is)
+    (subst (λ (e : Option AddEntry). KeepsIn (hand_of e (AtFill w.bytes w.level w.rest w.refusal w.ending)) old new) (sym c.in-Some.is) c.in_ok-action-in-AtFill.ensures.others)
 
 pub returns-in_ok-action-in-AtFill-clause-moves : goal.returns-in_ok-action-in-AtFill-clause-moves
 returns-in_ok-action-in-AtFill-clause-moves g c =
@@ -36,10 +36,10 @@ returns-in_ok-action-in-AtFill-clause-moves g c =
 pub returns-in_ok-action-in-AtCommit-clause-others : goal.returns-in_ok-action-in-AtCommit-clause-others
 returns-in_ok-action-in-AtCommit-clause-others g c =
     let w = c.in-AtCommit in
-    let old = g.H.Hold.disk c.args.hold.now in
-    let new = g.H.Hold.disk c.act_commit.new.hold in
-    subst (λ (p : Phase). KeepsHands (hand_of c.args.entry p) old new) (sym w.is)
-    (subst (λ (e : Option AddEntry). KeepsHands (hand_of e (AtCommit w.bytes w.level w.rest w.refusal w.ending)) old new) (sym c.in-Some-entry.is) c.in_ok-action-in-AtCommit.ensures.others)
+    let old = g.H.Hold.rooms c.args.hold.now in
+    let new = g.H.Hold.rooms c.act_commit.new.hold in
+    subst (λ (p : Phase). KeepsIn (hand_of c.args.entry p) old new) (sym w.is)
+    (subst (λ (e : Option AddEntry). KeepsIn (hand_of e (AtCommit w.bytes w.level w.rest w.refusal w.ending)) old new) (sym c.in-Some-entry.is) c.in_ok-action-in-AtCommit.ensures.others)
 
 pub returns-in_ok-action-in-AtCommit-clause-moves : goal.returns-in_ok-action-in-AtCommit-clause-moves
 returns-in_ok-action-in-AtCommit-clause-moves g c =

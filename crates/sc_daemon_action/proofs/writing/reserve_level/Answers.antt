@@ -16,5 +16,5 @@ returns-in-Refused-clause-acts g c r writer =
     let l = c.args.level in
     let what = Reserved l b.key (length b.bytes) (Refused c.in-Refused.cause) in
     let is : c.after_refusal.result.what ≡ what = c.after_refusal.ensures.what ∙ c.in_ok-what.ensures.what ∙ ap (λ how. Reserved l b.key (length b.bytes) how) c.in-Refused.is in
-    goes_with k (g.H.Hold.disk c.open_entry.new.hold) r (AtWrite b (l ∷ c.args.rest) c.args.refusal c.args.ending) (g.H.Hold.moment c.open_entry.new.hold) c.after_refusal.result what b (note c.args.refusal l c.in-Refused.cause) c.args.rest c.args.ending
+    goes_with k (g.H.Hold.rooms c.open_entry.new.hold) r (AtWrite b (l ∷ c.args.rest) c.args.refusal c.args.ending) (g.H.Hold.moment c.open_entry.new.hold) c.after_refusal.result what b (note c.args.refusal l c.in-Refused.cause) c.args.rest c.args.ending
     is c.after_refusal.ensures.phase c.after_refusal.ensures.entry c.requires.rest writer (subst (λ kind. Fits (setup k) r (start_write kind l b) what) (sym c.requires.disk) (refl, refl, refl)) refl tt tt

@@ -10,7 +10,7 @@ returns g c =
     let told = c.tell.ensures in
     let entry = c.in_ok-action.action.entry in
     let stands = c.hold.ensures ∙ ap (λ (r : Running). record r { entry = entry }) c.stand.ensures in
-    steps_by g.H.Hold.config g.H.Hold.disk g.H.Hold.moment g.H.Hold.moves c.args.request.now c.args.hold.now c.act.new.hold c.args.self.now c.note.new.self c.in_ok-action.action c.now-moment.result c.replace-phase.result
+    steps_by g.H.Hold.config g.H.Hold.rooms g.H.Hold.moment g.H.Hold.moves c.args.request.now c.args.hold.now c.act.new.hold c.args.self.now c.note.new.self c.in_ok-action.action c.now-moment.result c.replace-phase.result
     c.replace-phase.ensures.value c.now-moment.ensures c.in_ok-action.ensures.acts c.in_ok-action.ensures.moves c.in_ok-action.ensures.same
     (ap (λ (r : Running). r.phase) kept ∙ ap (λ (r : Running). r.phase) told ∙ ap (λ (r : Running). r.phase) stands) (ap (λ (r : Running). r.entry) kept ∙ ap (λ (r : Running). r.entry) told ∙ ap (λ (r : Running). r.entry) stands)
     (ap (λ (r : Running). r.events) kept ∙ ap (λ (r : Running). r.events ++ record { moment = c.now-moment.result; what = c.in_ok-action.action.what } ∷ []) told ∙ ap (λ (r : Running). r.events ++ record { moment = c.now-moment.result; what = c.in_ok-action.action.what } ∷ []) stands)

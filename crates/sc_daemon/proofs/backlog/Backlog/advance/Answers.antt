@@ -10,7 +10,7 @@ advance-requires g c =
     let i = c.args.place in
     let w = c.in-Some.write.now in
     let at = subst (λ (ws : List Write). write_at i ws ≡ Some w) c.self.view_is (at_slice c.self.inside.writes i w (sym c.get_mut.ensures.value ∙ ap (λ o. option_map (λ r. r.now) o) c.in-Some.is)) in
-    pending_at_place (g.H.Hold.config c.args.hold.now) (g.H.Hold.disk c.args.hold.now) i c.args.self.now w at c.requires.pending
+    pending_at_place (g.H.Hold.config c.args.hold.now) (g.H.Hold.rooms c.args.hold.now) i c.args.self.now w at c.requires.pending
 
 pub returns-clause-advances : goal.returns-clause-advances
 returns-clause-advances g c =

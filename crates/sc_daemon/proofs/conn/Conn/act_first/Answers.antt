@@ -5,7 +5,7 @@ use Rattle.sc_daemon.specs.Turns.{ActsFirst}
 use Rattle.sc_daemon.specs.contracts.conn.Conn.{the_view}
 use Rattle.sc_daemon.proofs.Firsts.{current_is, first_rest}
 use Rattle.sc_disk.specs.Store.{AddEntry}
-use Rattle.sc_daemon_hold.specs.Holding.{HandsBy, KeepsHands}
+use Rattle.sc_daemon_hold.specs.Holding.{HandsIn, KeepsIn}
 use Rattle.sc_daemon_job.specs.Askers.{Asker}
 use Rattle.sc_daemon_job.specs.Setups.{setup}
 use Rattle.sc_model.specs.Conns.{current, need_at}
@@ -17,7 +17,7 @@ use Rattle.sc_daemon.proofs.conn.Conn.act_first.Goals as goal
 pub act-requires : goal.act-requires
 act-requires g c =
     let k = g.H.Hold.config c.args.hold.now in
-    let d = g.H.Hold.disk c.args.hold.now in
+    let d = g.H.Hold.rooms c.args.hold.now in
     let i = c.self.inside in
     let r = c.in-Some.request.now in
     let here = current_is (the_view i) r (drop 1 i.waiting) (first_rest i.waiting r c.in-Some.ensures) in
@@ -29,8 +29,8 @@ act-requires g c =
 pub returns-clause-acts : goal.returns-clause-acts
 returns-clause-acts g c =
     let k = g.H.Hold.config c.args.hold.now in
-    let d = g.H.Hold.disk c.args.hold.now in
-    let d2 = g.H.Hold.disk c.act.new.hold in
+    let d = g.H.Hold.rooms c.args.hold.now in
+    let d2 = g.H.Hold.rooms c.act.new.hold in
     let m = g.H.Hold.moment c.act.new.hold in
     let acted = c.in_ok-acted.acted in
     let x = acted.what in
@@ -46,10 +46,10 @@ returns-clause-acts g c =
       rest = drop 1 i.waiting;
       first = first_rest i.waiting r c.in-Some.ensures;
       acts = subst (λ (p : Phase). ActsWith k d2 r p m acted) phase c.in_ok-acted.ensures.acts;
-      hands = subst (λ (e : Option AddEntry). HandsBy d x (hand_of e i.phase) (hand_of acted.entry acted.phase)) entry
-          (subst (λ (p : Phase). HandsBy d x (hand_of c.take-entry.result p) (hand_of acted.entry acted.phase)) phase c.in_ok-acted.ensures.hands);
-      others = subst (λ (e : Option AddEntry). KeepsHands (hand_of e i.phase) d d2) entry
-          (subst (λ (p : Phase). KeepsHands (hand_of c.take-entry.result p) d d2) phase c.in_ok-acted.ensures.others);
+      hands = subst (λ (e : Option AddEntry). HandsIn d x (hand_of e i.phase) (hand_of acted.entry acted.phase)) entry
+          (subst (λ (p : Phase). HandsIn d x (hand_of c.take-entry.result p) (hand_of acted.entry acted.phase)) phase c.in_ok-acted.ensures.hands);
+      others = subst (λ (e : Option AddEntry). KeepsIn (hand_of e i.phase) d d2) entry
+          (subst (λ (p : Phase). KeepsIn (hand_of c.take-entry.result p) d d2) phase c.in_ok-acted.ensures.others);
       same = λ j. after (c.replace-phase.ensures.after j) (c.take-entry.ensures.after j);
       out = c.in_ok-acted.ensures.sent;
     } in

@@ -26,8 +26,8 @@ advance-what-requires-clause-place g c = subst (λ (ws : List Write). c.args.pla
 pub advance-what-requires-clause-pending : goal.advance-what-requires-clause-pending
 advance-what-requires-clause-pending g c =
     let i = c.self.inside in
-    subst (λ (ws : List Write). ArePending (config_of i.owned.config) (disk_at i.owned) ws) (sym c.replace-backlog.ensures.value)
-    (subst (λ (d : Kept). ArePending (config_of d.state.config) (disk_at d.state) d.background) (sym c.self.view_is) c.requires.pending)
+    subst (λ (ws : List Write). ArePending (config_of i.owned.config) (Some (disk_at i.owned)) ws) (sym c.replace-backlog.ensures.value)
+    (subst (λ (d : Kept). ArePending (config_of d.state.config) (Some (disk_at d.state)) d.background) (sym c.self.view_is) c.requires.pending)
 
 pub returns : goal.returns
 returns g c =
@@ -47,7 +47,7 @@ returns g c =
     let moves : (n : Need) → MarksAs n w.pending → KeptMoves lent (asker since n ZeroStats) x h = λ n marks. e.moves n ZeroStats (λ v there. subst (λ (u : Write). MarksAs n u.pending)
     (same_write i.background c.args.place w v c.in-Some.ensures.some (subst (λ (vs : List Write). write_at c.args.place vs ≡ Some v) c.replace-backlog.ensures.value there)) marks) in
     let all = moves (need_back (setup k) w.pending) refl in
-    let goes : AdvancesAt k h.state.world.moment (disk_at d.state) (disk_at h.state) c.args.place x i.background ws = subst (λ (vs : List Write). AdvancesAt k h.state.world.moment (disk_at d.state) (disk_at h.state) c.args.place x vs ws) c.replace-backlog.ensures.value e.advances in
+    let goes : AdvancesAt k h.state.world.moment (Some (disk_at d.state)) (Some (disk_at h.state)) c.args.place x i.background ws = subst (λ (vs : List Write). AdvancesAt k h.state.world.moment (Some (disk_at d.state)) (Some (disk_at h.state)) c.args.place x vs ws) c.replace-backlog.ensures.value e.advances in
     let still : h.state.world.moment ≡ d.state.world.moment = all.moves.1.moment in
     let fits = subst (λ (v : Write). Fits (setup k) no_request (due_pending k.levels v.pending) x) (same_write i.background c.args.place goes.write w goes.at c.in-Some.ensures.some) goes.advances.fits in
     let whole = put_back k d lent h (asker since (need_back (setup k) w.pending) ZeroStats) x w.pending ws from c.since.result refl fits refl refl refl all in
@@ -55,6 +55,6 @@ returns g c =
       backs = subst (λ (m : ℕ). BacksEvent c.args.place (record { moment = m; owner = OfWrite c.number.result; what = x }) c.args.self.now new) (sym (c.now.ensures ∙ ap (λ (t : Kept). t.state.world.moment) c.self-2.view_is ∙ still))
           (backs_event c.args.place w c.number.result d.state.world.moment c.since.result x from d c.args.self.now new h.state ws c.self.view_is
           (ap (λ (t : Kept). t.state.world.moment) c.self.view_is) c.number.ensures c.in-Some.ensures.some
-          (subst (λ (m : ℕ). AdvancesAt k m (disk_at d.state) (disk_at h.state) c.args.place x i.background ws) still goes) (λ n marks. (moves n marks).moves) all.moves.4
+          (subst (λ (m : ℕ). AdvancesAt k m (Some (disk_at d.state)) (Some (disk_at h.state)) c.args.place x i.background ws) still goes) (λ n marks. (moves n marks).moves) all.moves.4
           (c.handed_origin.ensures ∙ λ j. by_backfill (c.is_backfill.ensures j) (c.at.ensures j)) c.since.ensures (ap (λ (t : Kept). record t { background = ws }) c.self-2.view_is ∙ whole));
     }

@@ -1,4 +1,4 @@
-use Rattle.std.proofs.Common.{◌≡◌, ℕ, Option, sym, subst}
+use Rattle.std.proofs.Common.{◌≡◌, ℕ, Option, Some, sym, subst}
 use Rattle.sc_daemon.proofs.Counted.{serves_event}
 use Rattle.sc_daemon.specs.Daemons.{Kept, ServesEvent}
 use Rattle.sc_daemon.specs.Lines.{asker_at}
@@ -19,8 +19,8 @@ returns-in-Some g c =
     let new = c.serve.new.hold in
     let e = c.in_ok-serve.ensures in
     let k = config_of d.state.config in
-    let free = subst (λ (b : Kept). ServesLine k (disk_at d.state) (disk_at new.state) new.state.world.moment b.free c.in_ok-serve.field-0 old line) c.self.view_is e.serves in
-    let one = subst (λ (o : Option What). ServesLine k (disk_at d.state) (disk_at new.state) new.state.world.moment d.free o old line) c.in-Some.is free in
+    let free = subst (λ (b : Kept). ServesLine k (Some (disk_at d.state)) (Some (disk_at new.state)) new.state.world.moment b.free c.in_ok-serve.field-0 old line) c.self.view_is e.serves in
+    let one = subst (λ (o : Option What). ServesLine k (Some (disk_at d.state)) (Some (disk_at new.state)) new.state.world.moment d.free o old line) c.in-Some.is free in
     let moves = subst (λ (o : Option What). MovesHold KeptMoves (asker_at k old) o d new) c.in-Some.is e.moves in
     let none = subst (λ (b : Kept). sum b.stats no_stats ≡ b.stats) c.self.view_is c.adds_nothing.ensures in
     record {

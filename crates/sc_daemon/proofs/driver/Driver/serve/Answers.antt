@@ -1,4 +1,4 @@
-use Rattle.std.proofs.Common.{ℕ, ◌<◌, ◌≤◌, length, sym, ◌∙◌, subst}
+use Rattle.std.proofs.Common.{ℕ, ◌<◌, ◌≤◌, length, sym, ◌∙◌, subst, Some}
 use Rattle.sc_daemon.specs.Daemons.{ServesEvent}
 use Rattle.sc_daemon.specs.Lines.{Line}
 use Rattle.sc_daemon.specs.Standings.{Rests}
@@ -12,7 +12,7 @@ serve-requires g c =
     let d = c.args.daemon.now in
     let lt : c.args.number < length c.args.self.now.conns.items = subst (λ (n : ℕ). c.args.number < n) (c.len.ensures ∙ c.args.self.now.conns.ok.0) c.if-number-len.false in
     record {
-      rests = subst (λ (l : Line). Rests (config_of d.state.config) (disk_at d.state) l.phase l.entry l.waiting) (sym c.index_mut.ensures.value) (at_line d c.args.self.now.conns.items c.args.number _ lt c.requires.at).1;
+      rests = subst (λ (l : Line). Rests (config_of d.state.config) (Some (disk_at d.state)) l.phase l.entry l.waiting) (sym c.index_mut.ensures.value) (at_line d c.args.self.now.conns.items c.args.number _ lt c.requires.at).1;
     }
 
 pub returns-clause-steps : goal.returns-clause-steps

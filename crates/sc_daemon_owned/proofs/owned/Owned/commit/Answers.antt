@@ -12,7 +12,7 @@ returns-clause-moves g c n marks =
     let a = c.commit.ensures.alone in
     let e = c.args.entry in
     let b = c.args.bytes.now in
-    let held = subst (λ (s : State). Holds (disk_at s c.args.level) e b b.bytes (Some b.run)) (sym c.self.view_is) c.requires.holds in
+    let held = subst (λ (s : State). Holds (Some (disk_at s)) c.args.level e b b.bytes (Some b.run)) (sym c.self.view_is) c.requires.holds in
     let m =
     committed _ c.args.self.now c.commit.new.self c.args.level e b c.in-Ok.how n c.self.view_is
     (record { told = a.told; facts = a.facts; levels = a.levels; rooms = a.rooms; later = c.commit.ensures.later }) c.requires.disk c.requires.holds
@@ -23,7 +23,7 @@ pub returns-clause-closes : goal.returns-clause-closes
 returns-clause-closes g c =
     let e = c.args.entry in
     let b = c.args.bytes.now in
-    let held = subst (λ (s : State). Holds (disk_at s c.args.level) e b b.bytes (Some b.run)) (sym c.self.view_is) c.requires.holds in
+    let held = subst (λ (s : State). Holds (Some (disk_at s)) c.args.level e b b.bytes (Some b.run)) (sym c.self.view_is) c.requires.holds in
     subst (λ (s : State). ClosesEntry e.number (disk_at s c.args.level) (disk_in c.commit.new.self c.args.level)) c.self.view_is
     (c.commit.ensures.closed (is_open_held (disk_in c.self.inside.levels c.args.level) e b b.bytes (Some b.run) held))
 
@@ -36,5 +36,5 @@ pub unreachable-requires : goal.unreachable-requires
 unreachable-requires g c =
     let e = c.args.entry in
     let b = c.args.bytes.now in
-    let held = subst (λ (s : State). Holds (disk_at s c.args.level) e b b.bytes (Some b.run)) (sym c.self.view_is) c.requires.holds in
+    let held = subst (λ (s : State). Holds (Some (disk_at s)) c.args.level e b b.bytes (Some b.run)) (sym c.self.view_is) c.requires.holds in
     (c.in-Err-NotOpen.ensures.not_open c.in-Err-NotOpen.field-0-is).0 (is_open_held (disk_in c.self.inside.levels c.args.level) e b b.bytes (Some b.run) held)

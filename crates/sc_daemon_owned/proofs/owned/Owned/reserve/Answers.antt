@@ -31,7 +31,8 @@ returns-clause-opens g c =
     (subst (λ (size : ℕ). OpensBy (entry_path c.args.bytes.now.key) size c.in_ok-how.how (disk_in c.self.inside.levels l) (disk_in new l)) c.len-size.ensures c.in_ok-how.ensures.entry)
 
 pub returns-clause-good : goal.returns-clause-good
-returns-clause-good g c = good_key c.self.inside.levels.policy (level_facts c.self.inside.levels.facts c.args.level) _ c.args.bytes.now.key _ c.in_ok-how.how (level_in c.self.inside.levels.levels c.args.level) (level_in c.reserve.new.self.levels c.args.level) c.in_ok-how.ensures.cause
+returns-clause-good g c = good_key c.self.inside.levels.policy (level_facts c.self.inside.levels.facts c.args.level) _ c.args.bytes.now.key _ _ c.in_ok-how.how (level_in c.self.inside.levels.levels c.args.level) (level_in c.reserve.new.self.levels c.args.level)
+    (disk_in c.self.inside.levels c.args.level) (disk_in c.reserve.new.self c.args.level) c.in_ok-how.ensures.cause c.in_ok-how.ensures.entry
 
 pub returns-clause-elsewhere : goal.returns-clause-elsewhere
 returns-clause-elsewhere g c m apart =
